@@ -271,9 +271,10 @@ pub record Contents : Type 0 where
 -- the body b of version v
 unfoldable pub readBody : ℕ → ℕ → List ℕ → Read Contents
 readBody w v b =
-    bind (readEntries w v (be32 b 8) start 12 (drop 12 b)) λ es m.
+    shift 12
+    (bind (readEntries w v (be32 b 8) start 12 (drop 12 b)) λ es m.
     bind (readExtensions w (names es) (length (drop m (drop 12 b))) noneSeen (12 + m) (drop m (drop 12 b))) λ xs n.
-    good (record { version = v; end = 12 + m; records = record { entries = es; cacheTree = first (trees xs); resolveUndo = first (undos xs) } }) 0
+    good (record { version = v; end = 12 + m; records = record { entries = es; cacheTree = first (trees xs); resolveUndo = first (undos xs) } }) 0)
 
 -- the whole file f
 unfoldable pub readFile : ℕ → (List ℕ → List ℕ) → List ℕ → Read Contents

@@ -1,0 +1,3 @@
+-- The cases of the requirements that are proved, and further closed cases.
+pub mod Cases
+pub mod Examples
