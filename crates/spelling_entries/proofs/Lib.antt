@@ -1,0 +1,2 @@
+-- Entries that are spelled are read, and what is read was spelled. Read in this order.
+pub mod Reading
