@@ -81,9 +81,9 @@ module _ {ℓ} {X : Type ℓ} {A : Type 0} where
   bind-inv (good b i) k a m e f = shift-inv i (k b i) a m e (λ j q l. f b i j refl q l)
 
 -- the same steps forward
-pub need-good : {A : Type 0} (t : Bool) (n p : ℕ) (r : Read A) → t ≡ true → need t n p r ≡ r
+pub need-good : {A : Type 0} (t : Bool) (n p : ℕ) (r : Read A) (a : A) (m : ℕ) → t ≡ true → r ≡ good a m → need t n p r ≡ good a m
 unfolding need
-need-good t n p r e = rw e
+need-good t n p r a m h e = rw h e
 
 pub shift-good : {A : Type 0} (k : ℕ) (r : Read A) (a : A) (m : ℕ) → r ≡ good a m → shift k r ≡ good a (k + m)
 unfolding shift
