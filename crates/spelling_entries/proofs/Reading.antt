@@ -22,6 +22,10 @@ pub and-both : (a b : Bool) → a ≡ true → b ≡ true → (a && b) ≡ true
 and-both true b p q = q
 and-both false b p q = p
 
+pub by-test {ℓ} : {X : Type ℓ} (t : Bool) → (t ≡ true → X) → (t ≡ false → X) → X
+by-test true f g = f refl
+by-test false f g = g refl
+
 -- which branch was taken
 pub cond-inv {ℓ κ} : {A : Type κ} {X : Type ℓ} (t : Bool) (x y z : A) → cond t x y ≡ z → (t ≡ true → x ≡ z → X) → (t ≡ false → y ≡ z → X) → X
 cond-inv true x y z e f g = f refl e
