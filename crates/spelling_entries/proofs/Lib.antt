@@ -2,3 +2,4 @@
 pub mod Reading
 pub mod Bytes
 pub mod Names
+pub mod Entries
