@@ -81,3 +81,74 @@ read-word y h =
     let fits : y < 32768 = ltb-true _ _ top in
     let clear : y % 8192 ≡ 0 = eqb-true _ _ low in
     rw (bit-isSet 16384 y, bit-isSet 8192 y) (omega arith)
+
+-- ---- the bytes before the name: numbers ns, object name o, flags x, then r
+
+module _ (w : ℕ) (ns o : List ℕ) (x : ℕ) (r : List ℕ) (ten : length ns ≡ 10) (wide : length o ≡ w) where
+  fixed-long : length (put32s ns ++ (o ++ (put16 x ++ r))) ≡ 42 + w + length r
+  fixed-long =
+      rw (length-append (put32s ns) (o ++ (put16 x ++ r)), length-append o (put16 x ++ r), length-append (put16 x) r)
+      (omega (arith, length-put32s ns, length-put16 x))
+
+  fixed-numbers : fit32 ns ≡ true → be32s (put32s ns ++ (o ++ (put16 x ++ r))) 0 10 ≡ ns
+  fixed-numbers fit = rw ten at (be32s-put32s ns (o ++ (put16 x ++ r)) fit)
+
+  fixed-mode : fit32 ns ≡ true → be32 (put32s ns ++ (o ++ (put16 x ++ r))) 24 ≡ getD ns 6 0
+  fixed-mode fit =
+      sym (getD-be32s (put32s ns ++ (o ++ (put16 x ++ r))) 0 10 6 (omega arith)) ∙ ap (λ (l : List ℕ). getD l 6 0) (fixed-numbers fit)
+
+  numbers-end : drop 40 (put32s ns ++ (o ++ (put16 x ++ r))) ≡ o ++ (put16 x ++ r)
+  numbers-end = drop-at (put32s ns) (o ++ (put16 x ++ r)) 40 (omega (arith, length-put32s ns))
+
+  fixed-object : take w (drop 40 (put32s ns ++ (o ++ (put16 x ++ r)))) ≡ o
+  fixed-object = rw numbers-end (take-at o (put16 x ++ r) w wide)
+
+  fixed-flags : x < 65536 → be16 (put32s ns ++ (o ++ (put16 x ++ r))) (40 + w) ≡ x
+  fixed-flags h =
+      rw (← (append-assoc (put32s ns) o (put16 x ++ r)))
+      (be16-at (put32s ns ++ o) x r (40 + w) (rw (length-append (put32s ns) o) (omega (arith, length-put32s ns))) h)
+
+  fixed-end : drop (42 + w) (put32s ns ++ (o ++ (put16 x ++ r))) ≡ r
+  fixed-end =
+      let parts : 42 + w ≡ 40 + (w + 2) = omega arith in
+      rw (parts, ← (drop-drop (w + 2) 40 (put32s ns ++ (o ++ (put16 x ++ r)))), numbers-end, ← (drop-drop 2 w (o ++ (put16 x ++ r))), drop-at o (put16 x ++ r) w wide)
+      (drop-at (put16 x) r 2 (length-put16 x))
+
+-- ---- the rest of an entry
+
+read-tail :
+    (w v : ℕ) (k : Key) (p f x y : ℕ) (s : List ℕ) (e : Entry) (a rest : List ℕ) →
+    drop f s ≡ a ++ rest →
+    okName (e .name) ≡ true →
+    NameBytes v f (k .name) (e .name) a →
+    rises (compare (k .name) (e .name)) (k .stage) (e .stage) ≡ true →
+    x % 4096 ≡ lengthField (length (e .name)) →
+    x / 4096 % 4 ≡ e .stage →
+    entryOf w s x y (e .name) ≡ e →
+    readTail w v k p f x y s ≡ good e (length a)
+unfolding readTail
+read-tail w v k p f x y s e a rest at ok named order field stage is =
+    let size : length a + 0 ≡ length a = omega arith in
+    rw (at, field, ← size)
+    (bind-good _ _ _ _ _ _ (read-name v f p (k .name) (e .name) a rest ok named)
+    (need-good _ _ _ _ _ _ (rw stage order) (ap (λ (d : Entry). good d 0) is)))
+
+tail-read :
+    {X : Type 0} (w v : ℕ) (k : Key) (p f x y : ℕ) (s : List ℕ) (e : Entry) (m : ℕ) → readTail w v k p f x y s ≡ good e m →
+    ((name : List ℕ) →
+      m ≤ length (drop f s) →
+      NameBytes v f (k .name) name (take m (drop f s)) →
+      okName name ≡ true →
+      x % 4096 ≡ lengthField (length name) →
+      rises (compare (k .name) name) (k .stage) (x / 4096 % 4) ≡ true →
+      entryOf w s x y name ≡ e →
+      X) →
+    X
+unfolding readTail
+tail-read w v k p f x y s e m q then =
+    bind-inv _ _ _ _ q λ name i j q₁ q₂ m-is.
+    need-inv _ _ _ _ _ _ q₂ λ order q₃.
+    good-inv _ _ _ _ q₃ λ e-is j-is.
+    let same : i ≡ m = omega arith in
+    let (short, named, ok, field) = name-read v f p (k .name) (x % 4096) (drop f s) name m (rw same at q₁) in
+    then name short named ok field order e-is
