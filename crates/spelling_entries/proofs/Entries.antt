@@ -152,3 +152,158 @@ tail-read w v k p f x y s e m q then =
     let same : i ≡ m = omega arith in
     let (short, named, ok, field) = name-read v f p (k .name) (x % 4096) (drop f s) name m (rw same at q₁) in
     then name short named ok field order e-is
+
+-- ---- the extended word, or 0 without one
+
+abbrev wordIn : Bool → ℕ → List ℕ → ℕ
+wordIn extended w s = cond extended (be16 s (42 + w)) 0
+
+read-fixed :
+    (w v : ℕ) (k : Key) (p x : ℕ) (s : List ℕ) (e : Entry) (m : ℕ) (extended : Bool) →
+    isSet 16384 x ≡ extended →
+    not (extended && eqb v 2) ≡ true →
+    fixedLength w extended ≤ length s →
+    okWord (wordIn extended w s) ≡ true →
+    readTail w v k p (fixedLength w extended) x (wordIn extended w s) s ≡ good e m →
+    readFixed w v k p x s ≡ good e (fixedLength w extended + m)
+unfolding readFixed
+read-fixed w v k p x s e m true set ok long word tail =
+    rw set
+    (need-good _ _ _ _ _ _ ok
+    (need-good _ _ _ _ _ _ (le-leb _ _ long) (need-good _ _ _ _ _ _ word (shift-good (fixedLength w true) _ e m tail))))
+read-fixed w v k p x s e m false set ok long word tail = rw set (need-good _ _ _ _ _ _ ok (shift-good (fixedLength w false) _ e m tail))
+
+fixed-read :
+    {X : Type 0} (w v : ℕ) (k : Key) (p x : ℕ) (s : List ℕ) (e : Entry) (m : ℕ) →
+    fixedLength w false ≤ length s →
+    readFixed w v k p x s ≡ good e m →
+    ((extended : Bool) (j : ℕ) →
+      isSet 16384 x ≡ extended →
+      not (extended && eqb v 2) ≡ true →
+      fixedLength w extended ≤ length s →
+      okWord (wordIn extended w s) ≡ true →
+      readTail w v k p (fixedLength w extended) x (wordIn extended w s) s ≡ good e j →
+      fixedLength w extended + j ≡ m →
+      X) →
+    X
+unfolding readFixed
+fixed-read w v k p x s e m long q then =
+    need-inv _ _ _ _ _ _ q λ ok q₁.
+    cond-inv (isSet 16384 x) _ _ _ q₁
+    (λ set q₂.
+    need-inv _ _ _ _ _ _ q₂ λ longer q₃.
+    need-inv _ _ _ _ _ _ q₃ λ word q₄.
+    shift-inv _ _ _ _ q₄ λ j tail m-is.
+    then true j set (rw set at ok) (leb-true _ _ longer) word tail m-is)
+    (λ clear q₂.
+    shift-inv _ _ _ _ q₂ λ j tail m-is.
+    then false j clear (rw clear at ok) long (unfold okWord in refl) tail m-is)
+
+-- where the bytes u of the word, or none, stand
+module _ (w u : ℕ) (s t : List ℕ) where
+  word-at : (extended : Bool) → drop (42 + w) s ≡ cond extended (put16 u) [] ++ t → u < 65536 → wordIn extended w s ≡ cond extended u 0
+  word-at true at h =
+      let here : 42 + w + 0 ≡ 42 + w = omega arith in
+      let read : be16 (drop (42 + w) s) 0 ≡ u = rw at (be16-at [] u t 0 refl h) in
+      rw here at (sym (be16-drop (42 + w) s 0) ∙ read)
+  word-at false at h = refl
+
+  tail-at : (extended : Bool) → drop (42 + w) s ≡ cond extended (put16 u) [] ++ t → drop (fixedLength w extended) s ≡ t
+  unfolding fixedLength
+  tail-at true at =
+      let parts : 40 + w + 4 ≡ 42 + w + 2 = omega arith in
+      rw (parts, ← (drop-drop 2 (42 + w) s), at) (drop-at (put16 u) t 2 (length-put16 u))
+  tail-at false at = let parts : 40 + w + 2 ≡ 42 + w = omega arith in rw parts at
+
+word-long : (extended : Bool) (w u : ℕ) → 42 + w + length (cond extended (put16 u) []) ≡ fixedLength w extended
+unfolding fixedLength put16
+word-long true w u = omega arith
+word-long false w u = omega arith
+
+fixed-least : (w : ℕ) (extended : Bool) → fixedLength w false ≤ fixedLength w extended
+unfolding fixedLength
+fixed-least w true = omega arith
+fixed-least w false = omega arith
+
+-- its bits are read
+word-is :
+    (v : ℕ) (extended : Bool) (e : Entry) → okExtended v extended e ≡ true → let y : ℕ = cond extended (wordOf e) 0 in
+    (not (extended && eqb v 2) ≡ true) × (okWord y ≡ true) × (isSet 16384 y ≡ e .skipWorktree) × (isSet 8192 y ≡ e .intentToAdd)
+unfolding okExtended
+word-is v true e h = let (_, word, skip, intent) = word-read e in (h, word, skip, intent)
+word-is v false e h =
+    let (skip, intent) = and-inv (not (e .skipWorktree)) (not (e .intentToAdd)) h in
+    (refl, unfold okWord in refl, unfold isSet in sym (not-true _ skip), unfold isSet in sym (not-true _ intent))
+
+entry-is :
+    (w : ℕ) (s : List ℕ) (x y : ℕ) (e : Entry) →
+    be32s s 0 10 ≡ e .numbers →
+    take w (drop 40 s) ≡ e .object →
+    isSet 32768 x ≡ e .assumeValid →
+    x / 4096 % 4 ≡ e .stage →
+    isSet 16384 y ≡ e .skipWorktree →
+    isSet 8192 y ≡ e .intentToAdd →
+    entryOf w s x y (e .name) ≡ e
+unfolding entryOf
+entry-is w s x y e a b c d f g =
+    λ i. record { numbers = a i; object = b i; assumeValid = c i; stage = d i; skipWorktree = f i; intentToAdd = g i; name = e .name }
+
+-- ---- one entry
+
+spelled-long :
+    (extended : Bool) (w : ℕ) (ns o : List ℕ) (x u : ℕ) (t : List ℕ) → length ns ≡ 10 → length o ≡ w →
+    length (put32s ns ++ (o ++ (put16 x ++ (cond extended (put16 u) [] ++ t)))) ≡ fixedLength w extended + length t
+spelled-long extended w ns o x u t ten wide =
+    omega (
+      arith,
+      fixed-long w ns o x (cond extended (put16 u) [] ++ t) ten wide,
+      length-append (cond extended (put16 u) []) t,
+      word-long extended w u,
+    )
+
+entry-size : (w v : ℕ) (k : Key) (e : Entry) (a : List ℕ) (h : IsEntry w v k e a) → length a ≡ fixedLength w (h .extended) + length (h .tail)
+entry-size w v k e a h =
+    ap length (h .bytes) ∙ spelled-long (h .extended) w (e .numbers) (e .object) (flagsOf (h .extended) e) (wordOf e) (h .tail) (h .ten) (h .object)
+
+-- an entry takes 42 + w bytes or more
+pub entry-long : (w v : ℕ) (k : Key) (e : Entry) (a : List ℕ) → IsEntry w v k e a → 42 + w ≤ length a
+unfolding fixedLength
+entry-long w v k e a h = omega (arith, entry-size w v k e a h, fixed-least w (h .extended))
+
+pub read-entry :
+    (w v : ℕ) (k : Key) (p : ℕ) (e : Entry) (a rest : List ℕ) → IsEntry w v k e a → readEntry w v k p (a ++ rest) ≡ good e (length a)
+unfolding readEntry modeOf
+read-entry w v k p e a rest h =
+    let extended : Bool = h .extended in
+    let x : ℕ = flagsOf extended e in
+    let u : ℕ = wordOf e in
+    let r : List ℕ = cond extended (put16 u) [] ++ (h .tail ++ rest) in
+    let s : List ℕ = put32s (e .numbers) ++ (e .object ++ (put16 x ++ r)) in
+    let whole : a ++ rest ≡ s = rw (h .bytes) (simp append-assoc) in
+    let size : length a ≡ fixedLength w extended + length (h .tail) = entry-size w v k e a h in
+    let (fits, assume, is-extended, stage, field) = flags-read extended e (h .stage) in
+    let (allowed, word, skip, intent) = word-is v extended e (h .extended-ok) in
+    let flags : be16 s (40 + w) ≡ x = fixed-flags w (e .numbers) (e .object) x r (h .ten) (h .object) fits in
+    let end : drop (42 + w) s ≡ r = fixed-end w (e .numbers) (e .object) x r (h .ten) (h .object) in
+    let same : wordIn extended w s ≡ cond extended u 0 = word-at w u s (h .tail ++ rest) extended end (word-read e .0) in
+    let mode : okMode (be32 s 24) ≡ true = rw (fixed-mode w (e .numbers) (e .object) x r (h .ten) (h .object) (h .fit)) (h .mode) in
+    let long : fixedLength w extended ≤ length s = omega (arith, spelled-long extended w (e .numbers) (e .object) x u (h .tail ++ rest) (h .ten) (h .object)) in
+    let enough : leb (fixedLength w false) (length s) ≡ true = omega (arith, le-leb, fixed-least w extended) in
+    rw (whole, size, flags)
+    (need-good _ _ _ _ _ _ enough
+    (need-good _ _ _ _ _ _ mode
+    (read-fixed w v k p x s e (length (h .tail)) extended is-extended allowed long (rw same word)
+    (read-tail w v k p (fixedLength w extended) x (wordIn extended w s) s e (h .tail) rest
+    (tail-at w u s (h .tail ++ rest) extended end)
+    (h .name)
+    (h .named)
+    (h .order)
+    field
+    stage
+    (entry-is w s x (wordIn extended w s) e
+    (fixed-numbers w (e .numbers) (e .object) x r (h .ten) (h .object) (h .fit))
+    (fixed-object w (e .numbers) (e .object) x r (h .ten) (h .object))
+    assume
+    stage
+    (rw same skip)
+    (rw same intent))))))
