@@ -15,7 +15,7 @@ use Rattle.format.specs.Layout.{okMode, fixedLength, bit, flagsOf, wordOf, okEx
 use Rattle.format.specs.Reading.{Read, good, need, bind, shift}
 use Rattle.format.specs.Reader.{isSet, okWord, readName, entryOf, readTail, readFixed, readEntry, readEntries}
 use Rattle.spelling_entries.proofs.Reading.{false-true, and-inv, and-both, by-test, cond-inv, good-inv, need-inv, shift-inv, bind-inv, need-good, shift-good, bind-good}
-use Rattle.spelling_entries.proofs.Bytes.{length-put16, length-put32s, length-be32s, be16-drop, be16-at, be16-below, put16-be16, getD-be32s, be32s-put32s, fit32-be32s, put32s-be32s}
+use Rattle.spelling_entries.proofs.Bytes.{bytes-drop, length-put16, length-put32s, length-be32s, be16-drop, be16-at, be16-below, put16-be16, getD-be32s, be32s-put32s, fit32-be32s, put32s-be32s}
 use Rattle.spelling_entries.proofs.Names.{read-name, name-read}
 
 -- ---- the flags and the extended word
@@ -215,15 +215,15 @@ module _ (w u : ℕ) (s t : List ℕ) where
       rw (parts, ← (drop-drop 2 (42 + w) s), at) (drop-at (put16 u) t 2 (length-put16 u))
   tail-at false at = let parts : 40 + w + 2 ≡ 42 + w = omega arith in rw parts at
 
-word-long : (extended : Bool) (w u : ℕ) → 42 + w + length (cond extended (put16 u) []) ≡ fixedLength w extended
-unfolding fixedLength put16
-word-long true w u = omega arith
-word-long false w u = omega arith
+word-long : (extended : Bool) (u : ℕ) → length (cond extended (put16 u) []) ≡ cond extended 2 0
+unfolding put16
+word-long true u = refl
+word-long false u = refl
 
-fixed-least : (w : ℕ) (extended : Bool) → fixedLength w false ≤ fixedLength w extended
+fixed-size : (w : ℕ) (extended : Bool) → fixedLength w extended ≡ 42 + w + cond extended 2 0
 unfolding fixedLength
-fixed-least w true = omega arith
-fixed-least w false = omega arith
+fixed-size w true = omega arith
+fixed-size w false = omega arith
 
 -- its bits are read
 word-is :
@@ -258,7 +258,8 @@ spelled-long extended w ns o x u t ten wide =
       arith,
       fixed-long w ns o x (cond extended (put16 u) [] ++ t) ten wide,
       length-append (cond extended (put16 u) []) t,
-      word-long extended w u,
+      word-long extended u,
+      fixed-size w extended,
     )
 
 entry-size : (w v : ℕ) (k : Key) (e : Entry) (a : List ℕ) (h : IsEntry w v k e a) → length a ≡ fixedLength w (h .extended) + length (h .tail)
@@ -267,8 +268,7 @@ entry-size w v k e a h =
 
 -- an entry takes 42 + w bytes or more
 pub entry-long : (w v : ℕ) (k : Key) (e : Entry) (a : List ℕ) → IsEntry w v k e a → 42 + w ≤ length a
-unfolding fixedLength
-entry-long w v k e a h = omega (arith, entry-size w v k e a h, fixed-least w (h .extended))
+entry-long w v k e a h = omega (arith, entry-size w v k e a h, fixed-size w (h .extended))
 
 pub read-entry :
     (w v : ℕ) (k : Key) (p : ℕ) (e : Entry) (a rest : List ℕ) → IsEntry w v k e a → readEntry w v k p (a ++ rest) ≡ good e (length a)
@@ -288,7 +288,7 @@ read-entry w v k p e a rest h =
     let same : wordIn extended w s ≡ cond extended u 0 = word-at w u s (h .tail ++ rest) extended end (word-read e .0) in
     let mode : okMode (be32 s 24) ≡ true = rw (fixed-mode w (e .numbers) (e .object) x r (h .ten) (h .object) (h .fit)) (h .mode) in
     let long : fixedLength w extended ≤ length s = omega (arith, spelled-long extended w (e .numbers) (e .object) x u (h .tail ++ rest) (h .ten) (h .object)) in
-    let enough : leb (fixedLength w false) (length s) ≡ true = omega (arith, le-leb, fixed-least w extended) in
+    let enough : leb (fixedLength w false) (length s) ≡ true = omega (arith, le-leb, fixed-size w extended, fixed-size w false) in
     rw (whole, size, flags)
     (need-good _ _ _ _ _ _ enough
     (need-good _ _ _ _ _ _ mode
@@ -307,3 +307,124 @@ read-entry w v k p e a rest h =
     stage
     (rw same skip)
     (rw same intent))))))
+
+-- the parts of an entry's first f + m bytes, c being the bytes of the extended word
+entry-cut :
+    (w c f m : ℕ) (s : List ℕ) → f ≡ 42 + w + c →
+    take (f + m) s ≡ take 40 s ++ (take w (drop 40 s) ++ (take 2 (drop (40 + w) s) ++ (take c (drop (42 + w) s) ++ take m (drop f s))))
+entry-cut w c f m s is =
+    let sum : f + m ≡ 40 + (w + (2 + (c + m))) = omega arith in
+    let next : 40 + w + 2 ≡ 42 + w = omega arith in
+    rw (
+      sum,
+      take-add 40 (w + (2 + (c + m))) s,
+      take-add w (2 + (c + m)) (drop 40 s),
+      drop-drop w 40 s,
+      take-add 2 (c + m) (drop (40 + w) s),
+      drop-drop 2 (40 + w) s,
+      next,
+      take-add c m (drop (42 + w) s),
+      drop-drop c (42 + w) s,
+      ← is,
+    )
+    refl
+
+-- what the bits of the word are, is the word that stands there
+word-back :
+    (w v : ℕ) (s : List ℕ) (x : ℕ) (name : List ℕ) (extended : Bool) → Bytes s → fixedLength w extended ≤ length s →
+    not (extended && eqb v 2) ≡ true → okWord (wordIn extended w s) ≡ true → let e : Entry = entryOf w s x (wordIn extended w s) name in
+    (okExtended v extended e ≡ true) × (cond extended (put16 (wordOf e)) [] ≡ take (cond extended 2 0) (drop (42 + w) s))
+unfolding okExtended wordOf entryOf fixedLength
+word-back w v s x name true b long ok word =
+    (ok, rw (read-word (be16 s (42 + w)) word) (put16-be16 s (42 + w) b (omega arith)))
+word-back w v s x name false b long ok word = (unfold isSet in refl, refl)
+
+-- and the parts of the flags make the flags
+flags-back :
+    (w : ℕ) (s : List ℕ) (x y : ℕ) (name : List ℕ) (extended : Bool) → x < 65536 → isSet 16384 x ≡ extended → x % 4096 ≡ lengthField (length name) →
+    flagsOf extended (entryOf w s x y name) ≡ x
+unfolding flagsOf entryOf
+flags-back w s x y name extended below set field = rw set at (read-flags x (length name) below field)
+
+entry-spelled :
+    (w v : ℕ) (k : Key) (s : List ℕ) (x : ℕ) (name : List ℕ) (m : ℕ) (extended : Bool) →
+    Bytes s →
+    fixedLength w extended ≤ length s →
+    okMode (be32 s 24) ≡ true →
+    be16 s (40 + w) ≡ x →
+    isSet 16384 x ≡ extended →
+    not (extended && eqb v 2) ≡ true →
+    okWord (wordIn extended w s) ≡ true →
+    NameBytes v (fixedLength w extended) (k .name) name (take m (drop (fixedLength w extended) s)) →
+    okName name ≡ true →
+    x % 4096 ≡ lengthField (length name) →
+    rises (compare (k .name) name) (k .stage) (x / 4096 % 4) ≡ true →
+    IsEntry w v k (entryOf w s x (wordIn extended w s) name) (take (fixedLength w extended + m) s)
+unfolding entryOf modeOf
+entry-spelled w v k s x name m extended b long mode flags set allowed word named ok field order =
+    let e : Entry = entryOf w s x (wordIn extended w s) name in
+    let f : ℕ = fixedLength w extended in
+    let (extended-ok, word-bytes) = word-back w v s x name extended b long allowed word in
+    let size : f ≡ 42 + w + cond extended 2 0 = fixed-size w extended in
+    let least : 42 + w ≤ length s = omega arith in
+    let below : x < 65536 = rw flags at (be16-below s (40 + w) b) in
+    let same : flagsOf extended e ≡ x = flags-back w s x (wordIn extended w s) name extended below set field in
+    let numbers : put32s (be32s s 0 10) ≡ take 40 s = put32s-be32s s 0 10 b (omega arith) in
+    let flag-bytes : put16 x ≡ take 2 (drop (40 + w) s) = rw flags at (put16-be16 s (40 + w) b (omega arith)) in
+    record {
+      ten = length-be32s s 0 10;
+      fit = fit32-be32s s 0 10 b;
+      mode = rw (getD-be32s s 0 10 6 (omega arith)) mode;
+      object = length-take-le w (drop 40 s) (rw (length-drop 40 s) (omega arith));
+      stage = omega arith;
+      name = ok;
+      order = order;
+      extended = extended;
+      extended-ok = extended-ok;
+      tail = take m (drop f s);
+      named = named;
+      bytes = entry-cut w (cond extended 2 0) f m s size ∙ rw (same, word-bytes, numbers, flag-bytes) refl;
+    }
+
+pub entry-read :
+    (w v : ℕ) (k : Key) (p : ℕ) (s : List ℕ) (e : Entry) (m : ℕ) → Bytes s → readEntry w v k p s ≡ good e m →
+    (m ≤ length s) × IsEntry w v k e (take m s)
+unfolding readEntry
+entry-read w v k p s e m b q =
+    need-inv _ _ _ _ _ _ q λ least q₁.
+    need-inv _ _ _ _ _ _ q₁ λ mode q₂.
+    fixed-read w v k p (be16 s (40 + w)) s e m (leb-true _ _ least) q₂ λ extended j set allowed long word q₃ m-is.
+    tail-read w v k p (fixedLength w extended) (be16 s (40 + w)) (wordIn extended w s) s e j q₃ λ name short named ok field order e-is.
+    rw (← e-is, ← m-is)
+    (
+      omega (arith, length-drop (fixedLength w extended) s),
+      entry-spelled w v k s (be16 s (40 + w)) name j extended b long mode refl set allowed word named ok field order,
+    )
+
+-- ---- a run of entries
+
+pub read-entries :
+    (w v p : ℕ) {k : Key} {es : List Entry} {a : List ℕ} (rest : List ℕ) → Entries w v k es a →
+    readEntries w v (length es) k p (a ++ rest) ≡ good es (length a)
+unfolding readEntries
+read-entries w v p rest entries-end = refl
+read-entries w v p rest (entries-more {k = k} {e = e} {es = es} {a = a} {b = b} h t) =
+    let sum : length (a ++ b) ≡ length a + (length b + 0) = rw (length-append a b) (omega arith) in
+    let after : drop (length a) (a ++ (b ++ rest)) ≡ b ++ rest = drop-append-seam a (b ++ rest) in
+    rw (append-assoc a b rest, sum)
+    (bind-good _ _ _ _ _ _ (read-entry w v k p e a (b ++ rest) h)
+    (rw after (bind-good _ _ _ _ _ _ (read-entries w v (p + length a) rest t) refl)))
+
+pub entries-read :
+    (w v n : ℕ) (k : Key) (p : ℕ) (s : List ℕ) (es : List Entry) (m : ℕ) → Bytes s → readEntries w v n k p s ≡ good es m →
+    (m ≤ length s) × Entries w v k es (take m s) × (length es ≡ n)
+unfolding readEntries
+entries-read w v zero k p s es m b q = good-inv _ _ _ _ q λ es-is m-is. rw (← es-is, ← m-is) (omega arith, entries-end, refl)
+entries-read w v (suc n) k p s es m b q =
+    bind-inv _ _ _ _ q λ e i j q₁ q₂ m-is.
+    bind-inv _ _ _ _ q₂ λ fs c d q₃ q₄ j-is.
+    good-inv _ _ _ _ q₄ λ es-is d-is.
+    let (i-short, first) = entry-read w v k p s e i b q₁ in
+    let (c-short, others, count) = entries-read w v n (keyOf e) (p + i) (drop i s) fs c (bytes-drop i s b) q₃ in
+    let sum : m ≡ i + c = omega arith in
+    rw (← es-is, sum) (omega (arith, length-drop i s), rw (take-add i c s) (entries-more first others), ap suc count)
