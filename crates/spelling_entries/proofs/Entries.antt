@@ -1,8 +1,8 @@
 -- One entry, and a run of entries: what is spelled is read, and what is read was spelled.
 use mathlib.Core.Path.{_≡_, refl, sym, ap, _∙_}
-use mathlib.Core.List.{List, [], _∷_, _++_, append-assoc}
+use mathlib.Core.List.{List, [], _++_, append-assoc}
 use mathlib.Core.Bool.{Bool, true, false, cond, not, _&&_}
-use Prim.Native.Nat.{ℕ, zero, suc, _+_, _-_, _*_, _/_, _%_, _≤_, _<_, min}
+use Prim.Native.Nat.{ℕ, zero, suc, _+_, _*_, _/_, _%_, _≤_, _<_, min}
 use native.Mathlib.Omega.{arith}
 use lib.ListN.{length, take, drop, getD, length-append, length-drop}
 use lib.Seq.{drop-drop, drop-append-seam, take-at, drop-at, take-add, length-take-le}
@@ -12,9 +12,9 @@ use Rattle.format.specs.Bytes.{Bytes, be16, be32, be32s, put16, put32s, fit32}
 use Rattle.format.specs.Names.{okName, lengthField, compare, rises}
 use Rattle.format.specs.Records.{Entry, modeOf, Key, keyOf}
 use Rattle.format.specs.Layout.{okMode, fixedLength, bit, flagsOf, wordOf, okExtended, NameBytes, IsEntry, Entries, entries-end, entries-more}
-use Rattle.format.specs.Reading.{Read, good, need, bind, shift}
-use Rattle.format.specs.Reader.{isSet, okWord, readName, entryOf, readTail, readFixed, readEntry, readEntries}
-use Rattle.spelling_entries.proofs.Reading.{false-true, and-inv, and-both, by-test, cond-inv, good-inv, need-inv, shift-inv, bind-inv, need-good, shift-good, bind-good}
+use Rattle.format.specs.Reading.{good}
+use Rattle.format.specs.Reader.{isSet, okWord, entryOf, readTail, readFixed, readEntry, readEntries}
+use Rattle.spelling_entries.proofs.Reading.{and-inv, and-both, by-test, cond-inv, good-inv, need-inv, shift-inv, bind-inv, need-good, shift-good, bind-good}
 use Rattle.spelling_entries.proofs.Bytes.{bytes-drop, length-put16, length-put32s, length-be32s, be16-drop, be16-at, be16-below, put16-be16, getD-be32s, be32s-put32s, fit32-be32s, put32s-be32s}
 use Rattle.spelling_entries.proofs.Names.{read-name, name-read}
 
@@ -136,13 +136,13 @@ read-tail w v k p f x y s e a rest at ok named order field stage is =
 tail-read :
     {X : Type 0} (w v : ℕ) (k : Key) (p f x y : ℕ) (s : List ℕ) (e : Entry) (m : ℕ) → readTail w v k p f x y s ≡ good e m →
     ((name : List ℕ) →
-      m ≤ length (drop f s) →
-      NameBytes v f (k .name) name (take m (drop f s)) →
-      okName name ≡ true →
-      x % 4096 ≡ lengthField (length name) →
-      rises (compare (k .name) name) (k .stage) (x / 4096 % 4) ≡ true →
-      entryOf w s x y name ≡ e →
-      X) →
+    m ≤ length (drop f s) →
+    NameBytes v f (k .name) name (take m (drop f s)) →
+    okName name ≡ true →
+    x % 4096 ≡ lengthField (length name) →
+    rises (compare (k .name) name) (k .stage) (x / 4096 % 4) ≡ true →
+    entryOf w s x y name ≡ e →
+    X) →
     X
 unfolding readTail
 tail-read w v k p f x y s e m q then =
@@ -178,13 +178,13 @@ fixed-read :
     fixedLength w false ≤ length s →
     readFixed w v k p x s ≡ good e m →
     ((extended : Bool) (j : ℕ) →
-      isSet 16384 x ≡ extended →
-      not (extended && eqb v 2) ≡ true →
-      fixedLength w extended ≤ length s →
-      okWord (wordIn extended w s) ≡ true →
-      readTail w v k p (fixedLength w extended) x (wordIn extended w s) s ≡ good e j →
-      fixedLength w extended + j ≡ m →
-      X) →
+    isSet 16384 x ≡ extended →
+    not (extended && eqb v 2) ≡ true →
+    fixedLength w extended ≤ length s →
+    okWord (wordIn extended w s) ≡ true →
+    readTail w v k p (fixedLength w extended) x (wordIn extended w s) s ≡ good e j →
+    fixedLength w extended + j ≡ m →
+    X) →
     X
 unfolding readFixed
 fixed-read w v k p x s e m long q then =
@@ -395,11 +395,20 @@ entry-read w v k p s e m b q =
     need-inv _ _ _ _ _ _ q₁ λ mode q₂.
     fixed-read w v k p (be16 s (40 + w)) s e m (leb-true _ _ least) q₂ λ extended j set allowed long word q₃ m-is.
     tail-read w v k p (fixedLength w extended) (be16 s (40 + w)) (wordIn extended w s) s e j q₃ λ name short named ok field order e-is.
-    rw (← e-is, ← m-is)
-    (
+    rw (← e-is, ← m-is) (
       omega (arith, length-drop (fixedLength w extended) s),
       entry-spelled w v k s (be16 s (40 + w)) name j extended b long mode refl set allowed word named ok field order,
     )
+
+-- what was read took that many bytes, and they are there
+pub entry-takes : (w v : ℕ) (k : Key) (p : ℕ) (s : List ℕ) (e : Entry) (m : ℕ) → readEntry w v k p s ≡ good e m → (42 + w ≤ m) × (m ≤ length s)
+unfolding readEntry
+entry-takes w v k p s e m q =
+    need-inv _ _ _ _ _ _ q λ least q₁.
+    need-inv _ _ _ _ _ _ q₁ λ mode q₂.
+    fixed-read w v k p (be16 s (40 + w)) s e m (leb-true _ _ least) q₂ λ extended j set allowed long word q₃ m-is.
+    tail-read w v k p (fixedLength w extended) (be16 s (40 + w)) (wordIn extended w s) s e j q₃ λ name short named ok field order e-is.
+    omega (arith, fixed-size w extended, length-drop (fixedLength w extended) s)
 
 -- ---- a run of entries
 
