@@ -57,17 +57,23 @@ be32-put32 : (n : ℕ) (r : List ℕ) → n < 4294967296 → be32 (put32 n ++ r)
 unfolding be32 be16 put32 put16
 be32-put32 n r h = omega arith
 
-pub be16-at : (p : List ℕ) (n : ℕ) (r : List ℕ) (a : ℕ) → length p ≡ a → n < 65536 → be16 (p ++ (put16 n ++ r)) a ≡ n
-be16-at p n r a e h =
+pub be16-here : (s : List ℕ) (a n : ℕ) (r : List ℕ) → drop a s ≡ put16 n ++ r → n < 65536 → be16 s a ≡ n
+be16-here s a n r e h =
     let here : a + 0 ≡ a = omega arith in
-    let read : be16 (drop a (p ++ (put16 n ++ r))) 0 ≡ n = rw (drop-at p (put16 n ++ r) a e) (be16-put16 n r h) in
-    rw here at (sym (be16-drop a (p ++ (put16 n ++ r)) 0) ∙ read)
+    let read : be16 (drop a s) 0 ≡ n = rw e (be16-put16 n r h) in
+    rw here at (sym (be16-drop a s 0) ∙ read)
+
+pub be32-here : (s : List ℕ) (a n : ℕ) (r : List ℕ) → drop a s ≡ put32 n ++ r → n < 4294967296 → be32 s a ≡ n
+be32-here s a n r e h =
+    let here : a + 0 ≡ a = omega arith in
+    let read : be32 (drop a s) 0 ≡ n = rw e (be32-put32 n r h) in
+    rw here at (sym (be32-drop a s 0) ∙ read)
+
+pub be16-at : (p : List ℕ) (n : ℕ) (r : List ℕ) (a : ℕ) → length p ≡ a → n < 65536 → be16 (p ++ (put16 n ++ r)) a ≡ n
+be16-at p n r a e h = be16-here (p ++ (put16 n ++ r)) a n r (drop-at p (put16 n ++ r) a e) h
 
 pub be32-at : (p : List ℕ) (n : ℕ) (r : List ℕ) (a : ℕ) → length p ≡ a → n < 4294967296 → be32 (p ++ (put32 n ++ r)) a ≡ n
-be32-at p n r a e h =
-    let here : a + 0 ≡ a = omega arith in
-    let read : be32 (drop a (p ++ (put32 n ++ r))) 0 ≡ n = rw (drop-at p (put32 n ++ r) a e) (be32-put32 n r h) in
-    rw here at (sym (be32-drop a (p ++ (put32 n ++ r)) 0) ∙ read)
+be32-at p n r a e h = be32-here (p ++ (put32 n ++ r)) a n r (drop-at p (put32 n ++ r) a e) h
 
 -- what is read fits, and puts the bytes back
 pub be16-below : (s : List ℕ) (a : ℕ) → Bytes s → be16 s a < 65536

@@ -2,230 +2,200 @@
 use mathlib.Core.Path.{_≡_, refl, sym, ap, _∙_}
 use mathlib.Core.List.{List, [], _++_, append-assoc}
 use mathlib.Core.Bool.{Bool, true, false, cond, not, _&&_}
-use Prim.Native.Nat.{ℕ, zero, suc, _+_, _*_, _/_, _%_, _≤_, _<_, min}
+use Prim.Native.Nat.{ℕ, zero, suc, _+_, _/_, _%_, _≤_, _<_}
 use native.Mathlib.Omega.{arith}
 use lib.ListN.{length, take, drop, getD, length-append, length-drop}
 use lib.Seq.{drop-drop, drop-append-seam, take-at, drop-at, take-add, length-take-le}
-use lib.Dec.{eqb, leb, ltb}
-use borrow.Author.Tests.{ltb-true, leb-true, eqb-true, eqb-false, lt-ltb, le-leb, eq-eqb, ne-eqb, not-true}
+use lib.Dec.{eqb, leb}
+use borrow.Author.Tests.{leb-true, le-leb, not-true}
 use Rattle.format.specs.Bytes.{Bytes, be16, be32, be32s, put16, put32s, fit32}
-use Rattle.format.specs.Names.{okName, lengthField, compare, rises}
+use Rattle.format.specs.Names.{lengthField, compare, rises}
 use Rattle.format.specs.Records.{Entry, modeOf, Key, keyOf}
-use Rattle.format.specs.Layout.{okMode, fixedLength, bit, flagsOf, wordOf, okExtended, NameBytes, IsEntry, Entries, entries-end, entries-more}
+use Rattle.format.specs.Layout.{okMode, fixedLength, flagsOf, wordOf, okExtended, IsEntry, Entries, entries-end, entries-more}
 use Rattle.format.specs.Reading.{good}
-use Rattle.format.specs.Reader.{isSet, okWord, entryOf, readTail, readFixed, readEntry, readEntries}
-use Rattle.spelling_entries.proofs.Reading.{and-inv, and-both, by-test, cond-inv, good-inv, need-inv, shift-inv, bind-inv, need-good, shift-good, bind-good}
-use Rattle.spelling_entries.proofs.Bytes.{bytes-drop, length-put16, length-put32s, length-be32s, be16-drop, be16-at, be16-below, put16-be16, getD-be32s, be32s-put32s, fit32-be32s, put32s-be32s}
+use Rattle.format.specs.Reader.{isSet, okWord, entryOf, readName, readTail, readFixed, readEntry, readEntries}
+use Rattle.spelling_entries.proofs.Reading.{and-inv, cond-inv, good-inv, need-inv, shift-inv, bind-inv, need-good, shift-good, bind-good}
+use Rattle.spelling_entries.proofs.Bytes.{bytes-drop, length-put16, length-put32s, length-be32s, be16-here, be16-below, put16-be16, getD-be32s, be32s-put32s, fit32-be32s, put32s-be32s}
 use Rattle.spelling_entries.proofs.Names.{read-name, name-read}
+use Rattle.spelling_entries.proofs.Flags.{flags-read, read-flags, word-read, read-word}
 
--- ---- the flags and the extended word
+-- ---- the tests of the reader
 
-bit-below : (t : Bool) → bit t < 2
-bit-below true = omega arith
-bit-below false = omega arith
-
-bit-isSet : (b x : ℕ) → bit (isSet b x) ≡ x / b % 2
-unfolding isSet
-bit-isSet b x =
-    by-test (eqb (x / b % 2) 1)
-    (λ set. rw set (omega (arith, eqb-true)))
-    (λ clear. let other : x / b % 2 ≡ 1 → ⊥ = eqb-false _ _ clear in rw clear (omega arith))
-
-isSet-bit : (b x : ℕ) (t : Bool) → x / b % 2 ≡ bit t → isSet b x ≡ t
-unfolding isSet
-isSet-bit b x true h = eq-eqb _ _ h
-isSet-bit b x false h = ne-eqb (x / b % 2) 1 (λ one. omega arith)
-
-flags-parts :
-    (v x s n : ℕ) → v < 2 → x < 2 → s < 4 → let f : ℕ = v * 32768 + x * 16384 + s * 4096 + min n 4095 in
-    (f < 65536) × (f / 32768 % 2 ≡ v) × (f / 16384 % 2 ≡ x) × (f / 4096 % 4 ≡ s) × (f % 4096 ≡ min n 4095)
-flags-parts v x s n hv hx hs = omega arith
-
--- the flags' parts are read
-flags-read :
-    (extended : Bool) (e : Entry) → e .stage < 4 →
-    (flagsOf extended e < 65536)
-    × (isSet 32768 (flagsOf extended e) ≡ e .assumeValid)
-    × (isSet 16384 (flagsOf extended e) ≡ extended)
-    × (flagsOf extended e / 4096 % 4 ≡ e .stage)
-    × (flagsOf extended e % 4096 ≡ lengthField (length (e .name)))
-unfolding flagsOf lengthField
-flags-read extended e h =
-    let (fits, valid, long, stage, field) = flags-parts (bit (e .assumeValid)) (bit extended) (e .stage) (length (e .name)) (bit-below (e .assumeValid)) (bit-below extended) h in
-    (fits, isSet-bit _ _ _ valid, isSet-bit _ _ _ long, stage, field)
-
--- the parts that are read make the flags
-read-flags :
-    (x n : ℕ) → x < 65536 → x % 4096 ≡ lengthField n →
-    bit (isSet 32768 x) * 32768 + bit (isSet 16384 x) * 16384 + x / 4096 % 4 * 4096 + lengthField n ≡ x
-read-flags x n h field =
-    let top : x / 32768 % 2 ≡ x / 32768 = omega arith in
-    rw (bit-isSet 32768 x, bit-isSet 16384 x, top) (omega arith)
-
-word-parts :
-    (x y : ℕ) → x < 2 → y < 2 → let f : ℕ = x * 16384 + y * 8192 in (f < 32768) × (f % 8192 ≡ 0) × (f / 16384 % 2 ≡ x) × (f / 8192 % 2 ≡ y)
-word-parts x y hx hy = omega arith
-
-word-read :
-    (e : Entry) →
-    (wordOf e < 65536) × (okWord (wordOf e) ≡ true) × (isSet 16384 (wordOf e) ≡ e .skipWorktree) × (isSet 8192 (wordOf e) ≡ e .intentToAdd)
-unfolding wordOf okWord
-word-read e =
-    let (fits, low, skip, intent) = word-parts (bit (e .skipWorktree)) (bit (e .intentToAdd)) (bit-below (e .skipWorktree)) (bit-below (e .intentToAdd)) in
-    (omega arith, and-both _ _ (lt-ltb _ _ fits) (eq-eqb _ _ low), isSet-bit _ _ _ skip, isSet-bit _ _ _ intent)
-
-read-word : (y : ℕ) → okWord y ≡ true → bit (isSet 16384 y) * 16384 + bit (isSet 8192 y) * 8192 ≡ y
-unfolding okWord
-read-word y h =
-    let (top, low) = and-inv (ltb y 32768) (eqb (y % 8192) 0) h in
-    let fits : y < 32768 = ltb-true _ _ top in
-    let clear : y % 8192 ≡ 0 = eqb-true _ _ low in
-    rw (bit-isSet 16384 y, bit-isSet 8192 y) (omega arith)
-
--- ---- the bytes before the name: numbers ns, object name o, flags x, then r
-
-module _ (w : ℕ) (ns o : List ℕ) (x : ℕ) (r : List ℕ) (ten : length ns ≡ 10) (wide : length o ≡ w) where
-  fixed-long : length (put32s ns ++ (o ++ (put16 x ++ r))) ≡ 42 + w + length r
-  fixed-long =
-      rw (length-append (put32s ns) (o ++ (put16 x ++ r)), length-append o (put16 x ++ r), length-append (put16 x) r)
-      (omega (arith, length-put32s ns, length-put16 x))
-
-  fixed-numbers : fit32 ns ≡ true → be32s (put32s ns ++ (o ++ (put16 x ++ r))) 0 10 ≡ ns
-  fixed-numbers fit = rw ten at (be32s-put32s ns (o ++ (put16 x ++ r)) fit)
-
-  fixed-mode : fit32 ns ≡ true → be32 (put32s ns ++ (o ++ (put16 x ++ r))) 24 ≡ getD ns 6 0
-  fixed-mode fit =
-      sym (getD-be32s (put32s ns ++ (o ++ (put16 x ++ r))) 0 10 6 (omega arith)) ∙ ap (λ (l : List ℕ). getD l 6 0) (fixed-numbers fit)
-
-  numbers-end : drop 40 (put32s ns ++ (o ++ (put16 x ++ r))) ≡ o ++ (put16 x ++ r)
-  numbers-end = drop-at (put32s ns) (o ++ (put16 x ++ r)) 40 (omega (arith, length-put32s ns))
-
-  fixed-object : take w (drop 40 (put32s ns ++ (o ++ (put16 x ++ r)))) ≡ o
-  fixed-object = rw numbers-end (take-at o (put16 x ++ r) w wide)
-
-  fixed-flags : x < 65536 → be16 (put32s ns ++ (o ++ (put16 x ++ r))) (40 + w) ≡ x
-  fixed-flags h =
-      rw (← (append-assoc (put32s ns) o (put16 x ++ r)))
-      (be16-at (put32s ns ++ o) x r (40 + w) (rw (length-append (put32s ns) o) (omega (arith, length-put32s ns))) h)
-
-  fixed-end : drop (42 + w) (put32s ns ++ (o ++ (put16 x ++ r))) ≡ r
-  fixed-end =
-      let parts : 42 + w ≡ 40 + (w + 2) = omega arith in
-      rw (parts, ← (drop-drop (w + 2) 40 (put32s ns ++ (o ++ (put16 x ++ r)))), numbers-end, ← (drop-drop 2 w (o ++ (put16 x ++ r))), drop-at o (put16 x ++ r) w wide)
-      (drop-at (put16 x) r 2 (length-put16 x))
-
--- ---- the rest of an entry
-
-read-tail :
-    (w v : ℕ) (k : Key) (p f x y : ℕ) (s : List ℕ) (e : Entry) (a rest : List ℕ) →
-    drop f s ≡ a ++ rest →
-    okName (e .name) ≡ true →
-    NameBytes v f (k .name) (e .name) a →
-    rises (compare (k .name) (e .name)) (k .stage) (e .stage) ≡ true →
-    x % 4096 ≡ lengthField (length (e .name)) →
-    x / 4096 % 4 ≡ e .stage →
-    entryOf w s x y (e .name) ≡ e →
-    readTail w v k p f x y s ≡ good e (length a)
-unfolding readTail
-read-tail w v k p f x y s e a rest at ok named order field stage is =
-    let size : length a + 0 ≡ length a = omega arith in
-    rw (at, field, ← size)
-    (bind-good _ _ _ _ _ _ (read-name v f p (k .name) (e .name) a rest ok named)
-    (need-good _ _ _ _ _ _ (rw stage order) (ap (λ (d : Entry). good d 0) is)))
-
-tail-read :
-    {X : Type 0} (w v : ℕ) (k : Key) (p f x y : ℕ) (s : List ℕ) (e : Entry) (m : ℕ) → readTail w v k p f x y s ≡ good e m →
-    ((name : List ℕ) →
-    m ≤ length (drop f s) →
-    NameBytes v f (k .name) name (take m (drop f s)) →
-    okName name ≡ true →
-    x % 4096 ≡ lengthField (length name) →
-    rises (compare (k .name) name) (k .stage) (x / 4096 % 4) ≡ true →
-    entryOf w s x y name ≡ e →
-    X) →
-    X
-unfolding readTail
-tail-read w v k p f x y s e m q then =
-    bind-inv _ _ _ _ q λ name i j q₁ q₂ m-is.
-    need-inv _ _ _ _ _ _ q₂ λ order q₃.
-    good-inv _ _ _ _ q₃ λ e-is j-is.
-    let same : i ≡ m = omega arith in
-    let (short, named, ok, field) = name-read v f p (k .name) (x % 4096) (drop f s) name m (rw same at q₁) in
-    then name short named ok field order e-is
-
--- ---- the extended word, or 0 without one
-
+-- the extended word, or 0 without one
 abbrev wordIn : Bool → ℕ → List ℕ → ℕ
 wordIn extended w s = cond extended (be16 s (42 + w)) 0
 
-read-fixed :
-    (w v : ℕ) (k : Key) (p x : ℕ) (s : List ℕ) (e : Entry) (m : ℕ) (extended : Bool) →
-    isSet 16384 x ≡ extended →
-    not (extended && eqb v 2) ≡ true →
-    fixedLength w extended ≤ length s →
-    okWord (wordIn extended w s) ≡ true →
-    readTail w v k p (fixedLength w extended) x (wordIn extended w s) s ≡ good e m →
-    readFixed w v k p x s ≡ good e (fixedLength w extended + m)
-unfolding readFixed
-read-fixed w v k p x s e m true set ok long word tail =
-    rw set
-    (need-good _ _ _ _ _ _ ok
-    (need-good _ _ _ _ _ _ (le-leb _ _ long) (need-good _ _ _ _ _ _ word (shift-good (fixedLength w true) _ e m tail))))
-read-fixed w v k p x s e m false set ok long word tail = rw set (need-good _ _ _ _ _ _ ok (shift-good (fixedLength w false) _ e m tail))
-
-fixed-read :
-    {X : Type 0} (w v : ℕ) (k : Key) (p x : ℕ) (s : List ℕ) (e : Entry) (m : ℕ) →
-    fixedLength w false ≤ length s →
-    readFixed w v k p x s ≡ good e m →
-    ((extended : Bool) (j : ℕ) →
-    isSet 16384 x ≡ extended →
-    not (extended && eqb v 2) ≡ true →
-    fixedLength w extended ≤ length s →
-    okWord (wordIn extended w s) ≡ true →
-    readTail w v k p (fixedLength w extended) x (wordIn extended w s) s ≡ good e j →
-    fixedLength w extended + j ≡ m →
-    X) →
-    X
-unfolding readFixed
-fixed-read w v k p x s e m long q then =
-    need-inv _ _ _ _ _ _ q λ ok q₁.
-    cond-inv (isSet 16384 x) _ _ _ q₁
-    (λ set q₂.
-    need-inv _ _ _ _ _ _ q₂ λ longer q₃.
-    need-inv _ _ _ _ _ _ q₃ λ word q₄.
-    shift-inv _ _ _ _ q₄ λ j tail m-is.
-    then true j set (rw set at ok) (leb-true _ _ longer) word tail m-is)
-    (λ clear q₂.
-    shift-inv _ _ _ _ q₂ λ j tail m-is.
-    then false j clear (rw clear at ok) long (unfold okWord in refl) tail m-is)
-
--- where the bytes u of the word, or none, stand
-module _ (w u : ℕ) (s t : List ℕ) where
-  word-at : (extended : Bool) → drop (42 + w) s ≡ cond extended (put16 u) [] ++ t → u < 65536 → wordIn extended w s ≡ cond extended u 0
-  word-at true at h =
-      let here : 42 + w + 0 ≡ 42 + w = omega arith in
-      let read : be16 (drop (42 + w) s) 0 ≡ u = rw at (be16-at [] u t 0 refl h) in
-      rw here at (sym (be16-drop (42 + w) s 0) ∙ read)
-  word-at false at h = refl
-
-  tail-at : (extended : Bool) → drop (42 + w) s ≡ cond extended (put16 u) [] ++ t → drop (fixedLength w extended) s ≡ t
-  unfolding fixedLength
-  tail-at true at =
-      let parts : 40 + w + 4 ≡ 42 + w + 2 = omega arith in
-      rw (parts, ← (drop-drop 2 (42 + w) s), at) (drop-at (put16 u) t 2 (length-put16 u))
-  tail-at false at = let parts : 40 + w + 2 ≡ 42 + w = omega arith in rw parts at
-
-word-long : (extended : Bool) (u : ℕ) → length (cond extended (put16 u) []) ≡ cond extended 2 0
-unfolding put16
-word-long true u = refl
-word-long false u = refl
+-- what a reading of the entry e, which takes m bytes of s, goes by
+record Passes (w v : ℕ) (k : Key) (p : ℕ) (s : List ℕ) (e : Entry) (m : ℕ) : Type 0 where
+  extended : Bool
+  name : List ℕ
+  taken : ℕ
+  mode : okMode (be32 s 24) ≡ true
+  set : isSet 16384 (be16 s (40 + w)) ≡ extended
+  allowed : not (extended && eqb v 2) ≡ true
+  long : fixedLength w extended ≤ length s
+  word : okWord (wordIn extended w s) ≡ true
+  named : readName v (fixedLength w extended) p (k .name) (be16 s (40 + w) % 4096) (drop (fixedLength w extended) s) ≡ good name taken
+  order : rises (compare (k .name) name) (k .stage) (be16 s (40 + w) / 4096 % 4) ≡ true
+  entry-is : entryOf w s (be16 s (40 + w)) (wordIn extended w s) name ≡ e
+  size : fixedLength w extended + taken ≡ m
 
 fixed-size : (w : ℕ) (extended : Bool) → fixedLength w extended ≡ 42 + w + cond extended 2 0
 unfolding fixedLength
 fixed-size w true = omega arith
 fixed-size w false = omega arith
 
--- its bits are read
+module _ (w v : ℕ) (k : Key) (p : ℕ) (s : List ℕ) where
+  read-tail :
+      (f x y : ℕ) (name : List ℕ) (e : Entry) (m : ℕ) →
+      readName v f p (k .name) (x % 4096) (drop f s) ≡ good name m →
+      rises (compare (k .name) name) (k .stage) (x / 4096 % 4) ≡ true →
+      entryOf w s x y name ≡ e →
+      readTail w v k p f x y s ≡ good e m
+  unfolding readTail
+  read-tail f x y name e m named order is =
+      let size : m + 0 ≡ m = omega arith in
+      rw (← size) (bind-good _ _ _ _ _ _ named (need-good _ _ _ _ _ _ order (ap (λ (d : Entry). good d 0) is)))
+
+  tail-inv :
+      {X : Type 0} (f x y : ℕ) (e : Entry) (m : ℕ) →
+      readTail w v k p f x y s ≡ good e m →
+      ((name : List ℕ) →
+      readName v f p (k .name) (x % 4096) (drop f s) ≡ good name m →
+      rises (compare (k .name) name) (k .stage) (x / 4096 % 4) ≡ true →
+      entryOf w s x y name ≡ e →
+      X) →
+      X
+  unfolding readTail
+  tail-inv f x y e m q then =
+      bind-inv _ _ _ _ q λ name i j named q₁ m-is.
+      need-inv _ _ _ _ _ _ q₁ λ order q₂.
+      good-inv _ _ _ _ q₂ λ e-is j-is.
+      let same : i ≡ m = omega arith in then name (rw same at named) order e-is
+
+  read-fixed :
+      (x : ℕ) (e : Entry) (m : ℕ) (extended : Bool) →
+      isSet 16384 x ≡ extended →
+      not (extended && eqb v 2) ≡ true →
+      fixedLength w extended ≤ length s →
+      okWord (wordIn extended w s) ≡ true →
+      readTail w v k p (fixedLength w extended) x (wordIn extended w s) s ≡ good e m →
+      readFixed w v k p x s ≡ good e (fixedLength w extended + m)
+  unfolding readFixed
+  read-fixed x e m true set allowed long word tail =
+      rw set
+      (need-good _ _ _ _ _ _ allowed
+      (need-good _ _ _ _ _ _ (le-leb _ _ long) (need-good _ _ _ _ _ _ word (shift-good (fixedLength w true) _ e m tail))))
+  read-fixed x e m false set allowed long word tail = rw set (need-good _ _ _ _ _ _ allowed (shift-good (fixedLength w false) _ e m tail))
+
+  fixed-inv :
+      {X : Type 0} (x : ℕ) (e : Entry) (m : ℕ) →
+      fixedLength w false ≤ length s →
+      readFixed w v k p x s ≡ good e m →
+      ((extended : Bool) (j : ℕ) →
+      isSet 16384 x ≡ extended →
+      not (extended && eqb v 2) ≡ true →
+      fixedLength w extended ≤ length s →
+      okWord (wordIn extended w s) ≡ true →
+      readTail w v k p (fixedLength w extended) x (wordIn extended w s) s ≡ good e j →
+      fixedLength w extended + j ≡ m →
+      X) →
+      X
+  unfolding readFixed
+  fixed-inv x e m long q then =
+      need-inv _ _ _ _ _ _ q λ allowed q₁.
+      cond-inv (isSet 16384 x) _ _ _ q₁
+      (λ set q₂.
+      need-inv _ _ _ _ _ _ q₂ λ longer q₃.
+      need-inv _ _ _ _ _ _ q₃ λ word q₄.
+      shift-inv _ _ _ _ q₄ λ j tail size.
+      then true j set (rw set at allowed) (leb-true _ _ longer) word tail size)
+      (λ clear q₂.
+      shift-inv _ _ _ _ q₂ λ j tail size.
+      then false j clear (rw clear at allowed) long (unfold okWord in refl) tail size)
+
+  passes-read : (e : Entry) (m : ℕ) → Passes w v k p s e m → readEntry w v k p s ≡ good e m
+  unfolding readEntry
+  passes-read e m h =
+      let x : ℕ = be16 s (40 + w) in
+      let f : ℕ = fixedLength w (h .extended) in
+      let enough : leb (fixedLength w false) (length s) ≡ true = omega (arith, le-leb, fixed-size w (h .extended), fixed-size w false) in
+      let tail : readTail w v k p f x (wordIn (h .extended) w s) s ≡ good e (h .taken) =
+      read-tail f x (wordIn (h .extended) w s) (h .name) e (h .taken) (h .named) (h .order) (h .entry-is)
+      in
+      rw (← (h .size))
+      (need-good _ _ _ _ _ _ enough
+      (need-good _ _ _ _ _ _ (h .mode) (read-fixed x e (h .taken) (h .extended) (h .set) (h .allowed) (h .long) (h .word) tail)))
+
+  read-passes : (e : Entry) (m : ℕ) → readEntry w v k p s ≡ good e m → Passes w v k p s e m
+  unfolding readEntry
+  read-passes e m q =
+      need-inv _ _ _ _ _ _ q λ enough q₁.
+      need-inv _ _ _ _ _ _ q₁ λ mode q₂.
+      fixed-inv (be16 s (40 + w)) e m (leb-true _ _ enough) q₂ λ extended taken set allowed long word q₃ size.
+      tail-inv (fixedLength w extended) (be16 s (40 + w)) (wordIn extended w s) e taken q₃ λ name named order entry-is.
+      record {
+        extended = extended;
+        name = name;
+        taken = taken;
+        mode = mode;
+        set = set;
+        allowed = allowed;
+        long = long;
+        word = word;
+        named = named;
+        order = order;
+        entry-is = entry-is;
+        size = size;
+      }
+
+-- ---- an entry that is spelled
+
+-- what stands where, in bytes that begin with the numbers ns, the object name o and the flags x
+record Front (w : ℕ) (ns o : List ℕ) (x : ℕ) (r s : List ℕ) : Type 0 where
+  long : length s ≡ 42 + w + length r
+  numbers : be32s s 0 10 ≡ ns
+  mode : be32 s 24 ≡ getD ns 6 0
+  object : take w (drop 40 s) ≡ o
+  flags : be16 s (40 + w) ≡ x
+  end : drop (42 + w) s ≡ r
+
+front :
+    (w : ℕ) (ns o : List ℕ) (x : ℕ) (r : List ℕ) → length ns ≡ 10 → fit32 ns ≡ true → length o ≡ w → x < 65536 →
+    Front w ns o x r (put32s ns ++ (o ++ (put16 x ++ r)))
+front w ns o x r ten fit wide small =
+    let s : List ℕ = put32s ns ++ (o ++ (put16 x ++ r)) in
+    let forty : length (put32s ns) ≡ 40 = omega (arith, length-put32s ns) in
+    let numbers : be32s s 0 10 ≡ ns = rw ten at (be32s-put32s ns (o ++ (put16 x ++ r)) fit) in
+    let after : drop 40 s ≡ o ++ (put16 x ++ r) = drop-at (put32s ns) (o ++ (put16 x ++ r)) 40 forty in
+    let next : drop (40 + w) s ≡ put16 x ++ r = sym (drop-drop w 40 s) ∙ ap (drop w) after ∙ drop-at o (put16 x ++ r) w wide in
+    let parts : 42 + w ≡ 40 + w + 2 = omega arith in
+    record {
+      long =
+          rw (length-append (put32s ns) (o ++ (put16 x ++ r)), length-append o (put16 x ++ r), length-append (put16 x) r) (omega (arith, length-put16 x));
+      numbers = numbers;
+      mode = sym (getD-be32s s 0 10 6 (omega arith)) ∙ ap (λ (l : List ℕ). getD l 6 0) numbers;
+      object = rw after (take-at o (put16 x ++ r) w wide);
+      flags = be16-here s (40 + w) x r next small;
+      end = rw (parts, ← (drop-drop 2 (40 + w) s), next) (drop-at (put16 x) r 2 (length-put16 x));
+    }
+
+word-long : (extended : Bool) (u : ℕ) → length (cond extended (put16 u) []) ≡ cond extended 2 0
+word-long true u = length-put16 u
+word-long false u = refl
+
+-- where the bytes of the extended word u, or none, stand
+module _ (w u : ℕ) (s t : List ℕ) where
+  word-at : (extended : Bool) → drop (42 + w) s ≡ cond extended (put16 u) [] ++ t → u < 65536 → wordIn extended w s ≡ cond extended u 0
+  word-at true at h = be16-here s (42 + w) u t at h
+  word-at false at h = refl
+
+  tail-at : (extended : Bool) → drop (42 + w) s ≡ cond extended (put16 u) [] ++ t → drop (fixedLength w extended) s ≡ t
+  tail-at extended at =
+      rw (fixed-size w extended, ← (drop-drop (cond extended 2 0) (42 + w) s), at)
+      (drop-at (cond extended (put16 u) []) t (cond extended 2 0) (word-long extended u))
+
+-- its bits are those of the entry
 word-is :
     (v : ℕ) (extended : Bool) (e : Entry) → okExtended v extended e ≡ true → let y : ℕ = cond extended (wordOf e) 0 in
     (not (extended && eqb v 2) ≡ true) × (okWord y ≡ true) × (isSet 16384 y ≡ e .skipWorktree) × (isSet 8192 y ≡ e .intentToAdd)
@@ -235,7 +205,7 @@ word-is v false e h =
     let (skip, intent) = and-inv (not (e .skipWorktree)) (not (e .intentToAdd)) h in
     (refl, unfold okWord in refl, unfold isSet in sym (not-true _ skip), unfold isSet in sym (not-true _ intent))
 
-entry-is :
+entry-of :
     (w : ℕ) (s : List ℕ) (x y : ℕ) (e : Entry) →
     be32s s 0 10 ≡ e .numbers →
     take w (drop 40 s) ≡ e .object →
@@ -245,68 +215,64 @@ entry-is :
     isSet 8192 y ≡ e .intentToAdd →
     entryOf w s x y (e .name) ≡ e
 unfolding entryOf
-entry-is w s x y e a b c d f g =
+entry-of w s x y e a b c d f g =
     λ i. record { numbers = a i; object = b i; assumeValid = c i; stage = d i; skipWorktree = f i; intentToAdd = g i; name = e .name }
 
--- ---- one entry
-
-spelled-long :
-    (extended : Bool) (w : ℕ) (ns o : List ℕ) (x u : ℕ) (t : List ℕ) → length ns ≡ 10 → length o ≡ w →
-    length (put32s ns ++ (o ++ (put16 x ++ (cond extended (put16 u) [] ++ t)))) ≡ fixedLength w extended + length t
-spelled-long extended w ns o x u t ten wide =
+spelled-long : (w v : ℕ) (k : Key) (e : Entry) (a : List ℕ) (h : IsEntry w v k e a) → length a ≡ fixedLength w (h .extended) + length (h .tail)
+spelled-long w v k e a h =
+    let x : ℕ = flagsOf (h .extended) e in
+    let word : List ℕ = cond (h .extended) (put16 (wordOf e)) [] in
+    let begins : Front w (e .numbers) (e .object) x (word ++ h .tail) (put32s (e .numbers) ++ (e .object ++ (put16 x ++ (word ++ h .tail)))) =
+    front w (e .numbers) (e .object) x (word ++ h .tail) (h .ten) (h .fit) (h .object) (flags-read (h .extended) e (h .stage) .0)
+    in
     omega (
       arith,
-      fixed-long w ns o x (cond extended (put16 u) [] ++ t) ten wide,
-      length-append (cond extended (put16 u) []) t,
-      word-long extended u,
-      fixed-size w extended,
+      ap length (h .bytes),
+      begins .long,
+      length-append word (h .tail),
+      word-long (h .extended) (wordOf e),
+      fixed-size w (h .extended),
     )
 
-entry-size : (w v : ℕ) (k : Key) (e : Entry) (a : List ℕ) (h : IsEntry w v k e a) → length a ≡ fixedLength w (h .extended) + length (h .tail)
-entry-size w v k e a h =
-    ap length (h .bytes) ∙ spelled-long (h .extended) w (e .numbers) (e .object) (flagsOf (h .extended) e) (wordOf e) (h .tail) (h .ten) (h .object)
-
--- an entry takes 42 + w bytes or more
+-- an entry has 42 + w bytes or more
 pub entry-long : (w v : ℕ) (k : Key) (e : Entry) (a : List ℕ) → IsEntry w v k e a → 42 + w ≤ length a
-entry-long w v k e a h = omega (arith, entry-size w v k e a h, fixed-size w (h .extended))
+entry-long w v k e a h = omega (arith, spelled-long w v k e a h, fixed-size w (h .extended))
+
+spelled-passes : (w v : ℕ) (k : Key) (p : ℕ) (e : Entry) (a rest : List ℕ) → IsEntry w v k e a → Passes w v k p (a ++ rest) e (length a)
+unfolding modeOf
+spelled-passes w v k p e a rest h =
+    let s : List ℕ = a ++ rest in
+    let x : ℕ = flagsOf (h .extended) e in
+    let u : ℕ = wordOf e in
+    let t : List ℕ = h .tail ++ rest in
+    let r : List ℕ = cond (h .extended) (put16 u) [] ++ t in
+    let whole : a ++ rest ≡ put32s (e .numbers) ++ (e .object ++ (put16 x ++ r)) = rw (h .bytes) (simp append-assoc) in
+    let (small, assume, set, stage, field) = flags-read (h .extended) e (h .stage) in
+    let (allowed, word, skip, intent) = word-is v (h .extended) e (h .extended-ok) in
+    let begins : Front w (e .numbers) (e .object) x r s = rw whole (front w (e .numbers) (e .object) x r (h .ten) (h .fit) (h .object) small) in
+    let same : wordIn (h .extended) w s ≡ cond (h .extended) u 0 = word-at w u s t (h .extended) (begins .end) (word-read e .0) in
+    let after : drop (fixedLength w (h .extended)) s ≡ t = tail-at w u s t (h .extended) (begins .end) in
+    record {
+      extended = h .extended;
+      name = e .name;
+      taken = length (h .tail);
+      mode = rw (begins .mode) (h .mode);
+      set = rw (begins .flags) set;
+      allowed = allowed;
+      long = omega (arith, length-append a rest, spelled-long w v k e a h);
+      word = rw same word;
+      named = rw (begins .flags, after, field) (read-name v (fixedLength w (h .extended)) p (k .name) (e .name) (h .tail) rest (h .name) (h .named));
+      order = rw (begins .flags, stage) (h .order);
+      entry-is =
+          rw (begins .flags, same) (entry-of w s x (cond (h .extended) u 0) e (begins .numbers) (begins .object) assume stage skip intent);
+      size = sym (spelled-long w v k e a h);
+    }
 
 pub read-entry :
     (w v : ℕ) (k : Key) (p : ℕ) (e : Entry) (a rest : List ℕ) → IsEntry w v k e a → readEntry w v k p (a ++ rest) ≡ good e (length a)
-unfolding readEntry modeOf
-read-entry w v k p e a rest h =
-    let extended : Bool = h .extended in
-    let x : ℕ = flagsOf extended e in
-    let u : ℕ = wordOf e in
-    let r : List ℕ = cond extended (put16 u) [] ++ (h .tail ++ rest) in
-    let s : List ℕ = put32s (e .numbers) ++ (e .object ++ (put16 x ++ r)) in
-    let whole : a ++ rest ≡ s = rw (h .bytes) (simp append-assoc) in
-    let size : length a ≡ fixedLength w extended + length (h .tail) = entry-size w v k e a h in
-    let (fits, assume, is-extended, stage, field) = flags-read extended e (h .stage) in
-    let (allowed, word, skip, intent) = word-is v extended e (h .extended-ok) in
-    let flags : be16 s (40 + w) ≡ x = fixed-flags w (e .numbers) (e .object) x r (h .ten) (h .object) fits in
-    let end : drop (42 + w) s ≡ r = fixed-end w (e .numbers) (e .object) x r (h .ten) (h .object) in
-    let same : wordIn extended w s ≡ cond extended u 0 = word-at w u s (h .tail ++ rest) extended end (word-read e .0) in
-    let mode : okMode (be32 s 24) ≡ true = rw (fixed-mode w (e .numbers) (e .object) x r (h .ten) (h .object) (h .fit)) (h .mode) in
-    let long : fixedLength w extended ≤ length s = omega (arith, spelled-long extended w (e .numbers) (e .object) x u (h .tail ++ rest) (h .ten) (h .object)) in
-    let enough : leb (fixedLength w false) (length s) ≡ true = omega (arith, le-leb, fixed-size w extended, fixed-size w false) in
-    rw (whole, size, flags)
-    (need-good _ _ _ _ _ _ enough
-    (need-good _ _ _ _ _ _ mode
-    (read-fixed w v k p x s e (length (h .tail)) extended is-extended allowed long (rw same word)
-    (read-tail w v k p (fixedLength w extended) x (wordIn extended w s) s e (h .tail) rest
-    (tail-at w u s (h .tail ++ rest) extended end)
-    (h .name)
-    (h .named)
-    (h .order)
-    field
-    stage
-    (entry-is w s x (wordIn extended w s) e
-    (fixed-numbers w (e .numbers) (e .object) x r (h .ten) (h .object) (h .fit))
-    (fixed-object w (e .numbers) (e .object) x r (h .ten) (h .object))
-    assume
-    stage
-    (rw same skip)
-    (rw same intent))))))
+read-entry w v k p e a rest h = passes-read w v k p (a ++ rest) e (length a) (spelled-passes w v k p e a rest h)
+
+-- ---- an entry that is read
 
 -- the parts of an entry's first f + m bytes, c being the bytes of the extended word
 entry-cut :
@@ -329,15 +295,15 @@ entry-cut w c f m s is =
     )
     refl
 
--- what the bits of the word are, is the word that stands there
+-- the bits of the extended word make its bytes
 word-back :
     (w v : ℕ) (s : List ℕ) (x : ℕ) (name : List ℕ) (extended : Bool) → Bytes s → fixedLength w extended ≤ length s →
     not (extended && eqb v 2) ≡ true → okWord (wordIn extended w s) ≡ true → let e : Entry = entryOf w s x (wordIn extended w s) name in
     (okExtended v extended e ≡ true) × (cond extended (put16 (wordOf e)) [] ≡ take (cond extended 2 0) (drop (42 + w) s))
 unfolding okExtended wordOf entryOf fixedLength
-word-back w v s x name true b long ok word =
-    (ok, rw (read-word (be16 s (42 + w)) word) (put16-be16 s (42 + w) b (omega arith)))
-word-back w v s x name false b long ok word = (unfold isSet in refl, refl)
+word-back w v s x name true b long allowed word =
+    (allowed, rw (read-word (be16 s (42 + w)) word) (put16-be16 s (42 + w) b (omega arith)))
+word-back w v s x name false b long allowed word = (unfold isSet in refl, refl)
 
 -- and the parts of the flags make the flags
 flags-back :
@@ -346,69 +312,46 @@ flags-back :
 unfolding flagsOf entryOf
 flags-back w s x y name extended below set field = rw set at (read-flags x (length name) below field)
 
-entry-spelled :
-    (w v : ℕ) (k : Key) (s : List ℕ) (x : ℕ) (name : List ℕ) (m : ℕ) (extended : Bool) →
-    Bytes s →
-    fixedLength w extended ≤ length s →
-    okMode (be32 s 24) ≡ true →
-    be16 s (40 + w) ≡ x →
-    isSet 16384 x ≡ extended →
-    not (extended && eqb v 2) ≡ true →
-    okWord (wordIn extended w s) ≡ true →
-    NameBytes v (fixedLength w extended) (k .name) name (take m (drop (fixedLength w extended) s)) →
-    okName name ≡ true →
-    x % 4096 ≡ lengthField (length name) →
-    rises (compare (k .name) name) (k .stage) (x / 4096 % 4) ≡ true →
-    IsEntry w v k (entryOf w s x (wordIn extended w s) name) (take (fixedLength w extended + m) s)
+passes-spelled :
+    (w v : ℕ) (k : Key) (p : ℕ) (s : List ℕ) (e : Entry) (m : ℕ) → Bytes s → Passes w v k p s e m → (m ≤ length s) × IsEntry w v k e (take m s)
 unfolding entryOf modeOf
-entry-spelled w v k s x name m extended b long mode flags set allowed word named ok field order =
-    let e : Entry = entryOf w s x (wordIn extended w s) name in
-    let f : ℕ = fixedLength w extended in
-    let (extended-ok, word-bytes) = word-back w v s x name extended b long allowed word in
-    let size : f ≡ 42 + w + cond extended 2 0 = fixed-size w extended in
-    let least : 42 + w ≤ length s = omega arith in
-    let below : x < 65536 = rw flags at (be16-below s (40 + w) b) in
-    let same : flagsOf extended e ≡ x = flags-back w s x (wordIn extended w s) name extended below set field in
+passes-spelled w v k p s e m b h =
+    let x : ℕ = be16 s (40 + w) in
+    let f : ℕ = fixedLength w (h .extended) in
+    let y : ℕ = wordIn (h .extended) w s in
+    let (short, named, ok, field) = name-read v f p (k .name) (x % 4096) (drop f s) (h .name) (h .taken) (h .named) in
+    let (extended-ok, word-bytes) = word-back w v s x (h .name) (h .extended) b (h .long) (h .allowed) (h .word) in
+    let size : f ≡ 42 + w + cond (h .extended) 2 0 = fixed-size w (h .extended) in
+    let least : 42 + w ≤ length s = omega (arith, h .long) in
+    let flags : flagsOf (h .extended) (entryOf w s x y (h .name)) ≡ x = flags-back w s x y (h .name) (h .extended) (be16-below s (40 + w) b) (h .set) field in
     let numbers : put32s (be32s s 0 10) ≡ take 40 s = put32s-be32s s 0 10 b (omega arith) in
-    let flag-bytes : put16 x ≡ take 2 (drop (40 + w) s) = rw flags at (put16-be16 s (40 + w) b (omega arith)) in
-    record {
+    let flag-bytes : put16 x ≡ take 2 (drop (40 + w) s) = put16-be16 s (40 + w) b (omega arith) in
+    let is : IsEntry w v k (entryOf w s x y (h .name)) (take (f + h .taken) s) = record {
       ten = length-be32s s 0 10;
       fit = fit32-be32s s 0 10 b;
-      mode = rw (getD-be32s s 0 10 6 (omega arith)) mode;
+      mode = rw (getD-be32s s 0 10 6 (omega arith)) (h .mode);
       object = length-take-le w (drop 40 s) (rw (length-drop 40 s) (omega arith));
       stage = omega arith;
       name = ok;
-      order = order;
-      extended = extended;
+      order = h .order;
+      extended = h .extended;
       extended-ok = extended-ok;
-      tail = take m (drop f s);
+      tail = take (h .taken) (drop f s);
       named = named;
-      bytes = entry-cut w (cond extended 2 0) f m s size ∙ rw (same, word-bytes, numbers, flag-bytes) refl;
-    }
+      bytes = entry-cut w (cond (h .extended) 2 0) f (h .taken) s size ∙ rw (flags, word-bytes, numbers, flag-bytes) refl;
+    } in
+    (omega (arith, h .size, h .long, length-drop f s), rw (h .entry-is, h .size) at is)
 
 pub entry-read :
     (w v : ℕ) (k : Key) (p : ℕ) (s : List ℕ) (e : Entry) (m : ℕ) → Bytes s → readEntry w v k p s ≡ good e m →
     (m ≤ length s) × IsEntry w v k e (take m s)
-unfolding readEntry
-entry-read w v k p s e m b q =
-    need-inv _ _ _ _ _ _ q λ least q₁.
-    need-inv _ _ _ _ _ _ q₁ λ mode q₂.
-    fixed-read w v k p (be16 s (40 + w)) s e m (leb-true _ _ least) q₂ λ extended j set allowed long word q₃ m-is.
-    tail-read w v k p (fixedLength w extended) (be16 s (40 + w)) (wordIn extended w s) s e j q₃ λ name short named ok field order e-is.
-    rw (← e-is, ← m-is) (
-      omega (arith, length-drop (fixedLength w extended) s),
-      entry-spelled w v k s (be16 s (40 + w)) name j extended b long mode refl set allowed word named ok field order,
-    )
+entry-read w v k p s e m b q = passes-spelled w v k p s e m b (read-passes w v k p s e m q)
 
--- what was read took that many bytes, and they are there
-pub entry-takes : (w v : ℕ) (k : Key) (p : ℕ) (s : List ℕ) (e : Entry) (m : ℕ) → readEntry w v k p s ≡ good e m → (42 + w ≤ m) × (m ≤ length s)
-unfolding readEntry
+-- what is read takes 42 + w bytes or more
+pub entry-takes : (w v : ℕ) (k : Key) (p : ℕ) (s : List ℕ) (e : Entry) (m : ℕ) → readEntry w v k p s ≡ good e m → 42 + w ≤ m
 entry-takes w v k p s e m q =
-    need-inv _ _ _ _ _ _ q λ least q₁.
-    need-inv _ _ _ _ _ _ q₁ λ mode q₂.
-    fixed-read w v k p (be16 s (40 + w)) s e m (leb-true _ _ least) q₂ λ extended j set allowed long word q₃ m-is.
-    tail-read w v k p (fixedLength w extended) (be16 s (40 + w)) (wordIn extended w s) s e j q₃ λ name short named ok field order e-is.
-    omega (arith, fixed-size w extended, length-drop (fixedLength w extended) s)
+    let h : Passes w v k p s e m = read-passes w v k p s e m q in
+    omega (arith, h .size, fixed-size w (h .extended))
 
 -- ---- a run of entries
 

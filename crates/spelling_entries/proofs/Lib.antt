@@ -2,4 +2,5 @@
 pub mod Reading
 pub mod Bytes
 pub mod Names
+pub mod Flags
 pub mod Entries
