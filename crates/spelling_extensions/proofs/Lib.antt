@@ -1,0 +1,3 @@
+pub mod Tools
+pub mod Texts
+pub mod Tree
