@@ -1,3 +1,3 @@
-pub mod Tools
+-- A cache tree, resolve-undo data and extensions that are spelled are read, and what is read was spelled. Read in this order.
 pub mod Texts
 pub mod Tree

@@ -1,47 +1,59 @@
 -- Texts that a byte ends, decimals and entry counts: what is spelled is read, and what is read was spelled.
-use mathlib.Core.Path.{_≡_, refl, sym, ap, _∙_}
-use mathlib.Core.List.{List, [], _∷_, _++_}
-use mathlib.Core.Bool.{Bool, true, false, cond, not, _&&_}
+use mathlib.Core.Path.{_≡_, refl, ap, _∙_}
+use mathlib.Core.List.{List, [], _∷_, _++_, append-assoc}
+use mathlib.Core.Bool.{true, false, not, _&&_}
 use mathlib.Core.Option.{Option, none, some}
-use Prim.Native.Nat.{ℕ, zero, suc, _+_, _≤_, _<_}
+use Prim.Native.Nat.{ℕ, _+_, _≤_, _<_}
 use native.Mathlib.Omega.{arith}
-use native.Mathlib.Numerals.{add-one}
-use lib.ListN.{length, take, drop, length-append}
-use lib.Seq.{take-append-seam, drop-append-add}
+use lib.ListN.{length, take, drop, length-append, length-drop}
+use lib.Seq.{take-append-seam, take-add}
 use lib.Dec.{eqb, leb, ltb}
 use borrow.Author.Tests.{ltb-true, lt-ltb, leb-true, le-leb, eqb-true, ne-eqb}
 use Rattle.format.specs.Bytes.{before, lacks, digits, decimal, value}
 use Rattle.format.specs.Records.{Count, valid, invalid}
 use Rattle.format.specs.Layout.{CountText}
-use Rattle.format.specs.Reading.{Read, bad, good, need}
+use Rattle.format.specs.Reading.{Read, good, need}
 use Rattle.format.specs.Reader.{readText, countIn, needSome}
-use Rattle.spelling_extensions.proofs.Tools.{no-good, good-inv, need-inv, cond-inv, and-inv, before-at, before-lacks, before-split}
+use Rattle.spelling_entries.proofs.Reading.{false-true, and-inv, cond-inv, bad-good, good-inv, need-inv}
+use Rattle.spelling_entries.proofs.Bytes.{before-at, lacks-before, take-before}
+
+-- ---- answers
+
+pub same-size : {A : Type 0} {a : A} {m n : ℕ} → m ≡ n → good a m ≡ good a n
+same-size {a = a} e = ap (λ x. good a x) e
+
+pub none-some {ℓ} : {A : Type 0} {X : Type ℓ} {a : A} → none ≡ some a → X
+none-some e = let z : _≡_ {A = ℕ} 0 1 = cc in absurd (omega arith)
+
+pub needSome-inv {ℓ} : {A B : Type 0} {X : Type ℓ} (o : Option A) (n p : ℕ) (k : A → Read B) (b : B) (m : ℕ) → needSome o n p k ≡ good b m
+    → ((a : A) → o ≡ some a → k a ≡ good b m → X) → X
+unfolding needSome
+needSome-inv none n p k b m e f = bad-good n p b m e
+needSome-inv (some a) n p k b m e f = f a refl e
+
+-- ---- a text that the byte b ends
 
 pub read-text : (b n p : ℕ) (t rest : List ℕ) → lacks b t ≡ true → readText b n p (t ++ (b ∷ rest)) ≡ good t (length t + 1)
 unfolding readText need
 read-text b n p t rest e =
-    let u = before-at b t rest e in
     let l = length-append t (b ∷ rest) in
     let fits : ltb (length t) (length (t ++ (b ∷ rest))) ≡ true = lt-ltb (length t) (length (t ++ (b ∷ rest))) (omega arith) in
-    simp (u, fits, take-append-seam)
+    simp (before-at b t rest e, fits, take-append-seam)
 
-pub after-text : (b : ℕ) (t rest : List ℕ) → drop (length t + 1) (t ++ (b ∷ rest)) ≡ rest
-after-text b t rest = drop-append-add t (b ∷ rest) 1
-
-pub text-read : (b n p : ℕ) (s : List ℕ) {t : List ℕ} {m : ℕ} → readText b n p s ≡ good t m
-    → (m ≤ length s) × (take m s ≡ t ++ (b ∷ [])) × (lacks b t ≡ true)
+pub text-read : (b n p : ℕ) (s t : List ℕ) (m : ℕ) → readText b n p s ≡ good t m → (m ≤ length s) × (take m s ≡ t ++ (b ∷ [])) × (lacks b t ≡ true)
 unfolding readText
-text-read b n p s q =
-    let h = need-inv _ _ _ _ q in
-    let g = good-inv (h .1) in
-    let l : before b s < length s = ltb-true _ _ (h .0) in
-    rw (← (g .0), ← (g .1)) (omega arith, before-split b s l, before-lacks b s)
+text-read b n p s t m q =
+    need-inv _ _ _ _ _ _ q λ fits q₁.
+    good-inv _ _ _ _ q₁ λ is size.
+    let l : before b s < length s = ltb-true _ _ fits in
+    rw (← is, ← size) (omega arith, take-before b s l, lacks-before b s)
 
-pub needSome-inv {ℓ} : {A B : Type 0} {X : Type ℓ} (o : Option A) (n p : ℕ) (k : A → Read B) {b : B} {m : ℕ} → needSome o n p k ≡ good b m
-    → ((a : A) → o ≡ some a → k a ≡ good b m → X) → X
-unfolding needSome
-needSome-inv none n p k e f = no-good e
-needSome-inv (some a) n p k e f = f a refl e
+-- two parts, one after the other, that were taken from s
+pub parts-fit : (m n : ℕ) (s : List ℕ) → m ≤ length s → n ≤ length (drop m s) → m + n ≤ length s
+parts-fit m n s h k = let l = length-drop m s in omega arith
+
+pub text-then : (m n : ℕ) (s t u : List ℕ) (b : ℕ) → take m s ≡ t ++ (b ∷ []) → take n (drop m s) ≡ u → take (m + n) s ≡ t ++ (b ∷ u)
+text-then m n s t u b p q = take-add m n s ∙ rw (p, q) (append-assoc t (b ∷ []) u)
 
 -- ---- decimals
 
@@ -62,7 +74,7 @@ decimal-digits (d ∷ x ∷ t) e = and-inv (not (eqb d 48)) _ e .1
 
 not-empty {ℓ} : {X : Type ℓ} → decimal [] ≡ true → X
 unfolding decimal
-not-empty e = let z : _≡_ {A = ℕ} 0 1 = cc in absurd (omega arith)
+not-empty e = false-true e
 
 -- no byte below '0'
 pub decimal-lacks : (b : ℕ) (t : List ℕ) → b < 48 → decimal t ≡ true → lacks b t ≡ true
@@ -97,23 +109,23 @@ read-count-text (valid n) (d ∷ t) e =
     rw (no-minus d t (e .0), e .0, e .1, small) refl
 read-count-text invalid t e = rw (e .1) (read-minus (e .0) (e .2) (e .3) (e .4))
 
-pub count-text-read : (t : List ℕ) {c : Count} → countIn t ≡ some c → CountText c t
+pub count-text-read : (t : List ℕ) (c : Count) → countIn t ≡ some c → CountText c t
 unfolding countIn
-count-text-read [] {c} q = let z : none ≡ some c = q in let y : _≡_ {A = ℕ} 0 1 = cc in absurd (omega arith)
-count-text-read (d ∷ t) {c} q =
-    cond-inv (eqb d 45) q
-    (λ m q₁.
-    cond-inv (decimal t && (leb 1 (value t) && leb (value t) 2147483648)) q₁
+count-text-read [] c q = none-some q
+count-text-read (d ∷ t) c q =
+    cond-inv (eqb d 45) _ _ _ q
+    (λ minus q₁.
+    cond-inv (decimal t && (leb 1 (value t) && leb (value t) 2147483648)) _ _ _ q₁
     (λ e q₂.
     let f = and-inv (decimal t) _ e in
     let g = and-inv (leb 1 (value t)) _ (f .1) in
     let is : invalid ≡ c = cc in
-    rw (← is, eqb-true d 45 m) (t, refl, f .0, leb-true _ _ (g .0), leb-true _ _ (g .1)))
-    λ e q₂. let z : _≡_ {A = ℕ} 0 1 = cc in absurd (omega arith))
-    λ m q₁.
-    cond-inv (decimal (d ∷ t) && leb (value (d ∷ t)) 2147483647) q₁
+    rw (← is, eqb-true d 45 minus) (t, refl, f .0, leb-true _ _ (g .0), leb-true _ _ (g .1)))
+    λ e q₂. none-some q₂)
+    λ digit q₁.
+    cond-inv (decimal (d ∷ t) && leb (value (d ∷ t)) 2147483647) _ _ _ q₁
     (λ e q₂.
     let f = and-inv (decimal (d ∷ t)) _ e in
     let is : valid (value (d ∷ t)) ≡ c = cc in
     rw (← is) (f .0, refl, leb-true _ _ (f .1)))
-    λ e q₂. let z : _≡_ {A = ℕ} 0 1 = cc in absurd (omega arith)
+    λ e q₂. none-some q₂

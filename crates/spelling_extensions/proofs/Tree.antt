@@ -2,11 +2,10 @@
 use mathlib.Core.Path.{_≡_, refl, sym, ap, _∙_}
 use mathlib.Core.List.{List, [], _∷_, _++_, append-assoc, append-nil}
 use mathlib.Core.Bool.{Bool, true, false, _&&_}
-use mathlib.Core.Option.{Option, none, some}
-use Prim.Native.Nat.{ℕ, zero, suc, _+_, _≤_, _<_}
+use Prim.Native.Nat.{ℕ, zero, suc, _+_, _-_, _≤_, _<_}
 use native.Mathlib.Omega.{arith}
-use lib.ListN.{length, take, drop, replicate, length-append, length-take, length-drop}
-use lib.Seq.{take-append-seam, drop-append-seam, length-take-le, take-add, take-at, take-length}
+use lib.ListN.{length, take, drop, replicate, length-append, length-drop}
+use lib.Seq.{drop-append-seam, length-take-le, take-add, take-at, take-length}
 use lib.Dec.{eqb, leb, ltb}
 use borrow.Author.Tests.{leb-true, le-leb, eqb-true, eq-eqb}
 use Rattle.format.specs.Bytes.{lacks, decimal, value}
@@ -14,43 +13,43 @@ use Rattle.format.specs.Records.{Count, valid, invalid, Node, Forest, nil, tree
 use Rattle.format.specs.Layout.{CountText, ObjectBytes, IsNode, okNodeName, Siblings, siblings-end, siblings-more, distinct, IsTree, okTreeCounts}
 use Rattle.format.specs.Reading.{Read, bad, good, need, shift, bind}
 use Rattle.format.specs.Reader.{readText, countIn, needSome, readCount, readSubtrees, readObject, Head, readNode, readSiblings, readForest, readNodes, readTree}
-use Rattle.spelling_extensions.proofs.Tools.{no-good, good-inv, bind-good, good-size, need-inv, bind-inv, and-inv}
-use Rattle.spelling_extensions.proofs.Texts.{read-text, after-text, text-read, needSome-inv, decimal-lacks, count-lacks, read-count-text, count-text-read}
+use Rattle.spelling_entries.proofs.Reading.{and-inv, bad-good, good-inv, need-inv, bind-inv, need-good, bind-good}
+use Rattle.spelling_entries.proofs.Bytes.{after-text}
+use Rattle.spelling_extensions.proofs.Texts.{same-size, needSome-inv, read-text, text-read, parts-fit, text-then, decimal-lacks, count-lacks, read-count-text, count-text-read}
 
 -- ---- one node
 
 read-count : (p : ℕ) (c : Count) (t rest : List ℕ) → CountText c t → readCount p (t ++ (32 ∷ rest)) ≡ good c (length t + 1)
-unfolding readCount needSome
-read-count p c t rest h =
-    bind-good _ 0 (read-text 32 15 p t rest (count-lacks 32 c t (omega arith) h)) (rw (read-count-text c t h) refl) (omega arith)
+unfolding readCount bind shift needSome
+read-count p c t rest h = simp (read-text 32 15 p t rest (count-lacks 32 c t (omega arith) h), read-count-text c t h) (same-size (omega arith))
 
-count-read : (p : ℕ) (s : List ℕ) {c : Count} {m : ℕ} → readCount p s ≡ good c m
+count-read : (p : ℕ) (s : List ℕ) (c : Count) (m : ℕ) → readCount p s ≡ good c m
     → (m ≤ length s) × (t : List ℕ) × (take m s ≡ t ++ (32 ∷ [])) × CountText c t
 unfolding readCount
-count-read p s {m = total} q =
-    bind-inv _ _ q λ t m n tq k size.
-    needSome-inv _ _ _ _ k λ c₁ cq k₁.
-    let g = good-inv k₁ in
-    let h = text-read 32 15 p s tq in
-    let is : total ≡ m = omega arith in
-    rw (is, ← (g .0)) (h .0, t, h .1, count-text-read t cq)
+count-read p s c m q =
+    bind-inv _ _ _ _ q λ t i j text q₁ size.
+    needSome-inv _ _ _ _ _ _ q₁ λ c₁ count q₂.
+    good-inv _ _ _ _ q₂ λ is none.
+    let h = text-read 32 15 p s t i text in
+    let m-is : m ≡ i = omega arith in
+    rw (m-is, ← is) (h .0, t, h .1, count-text-read t c₁ count)
 
 read-subtrees : (p : ℕ) (t rest : List ℕ) → decimal t ≡ true → value t ≤ 2147483647 → readSubtrees p (t ++ (10 ∷ rest)) ≡ good (value t) (length t + 1)
-unfolding readSubtrees need
+unfolding readSubtrees bind shift need
 read-subtrees p t rest d h =
-    bind-good _ 0 (read-text 10 15 p t rest (decimal-lacks 10 t (omega arith) d)) (rw (d, le-leb (value t) 2147483647 h) refl) (omega arith)
+    simp (read-text 10 15 p t rest (decimal-lacks 10 t (omega arith) d), d, le-leb (value t) 2147483647 h) (same-size (omega arith))
 
-subtrees-read : (p : ℕ) (s : List ℕ) {k m : ℕ} → readSubtrees p s ≡ good k m
+subtrees-read : (p : ℕ) (s : List ℕ) (k m : ℕ) → readSubtrees p s ≡ good k m
     → (m ≤ length s) × (t : List ℕ) × (take m s ≡ t ++ (10 ∷ [])) × (decimal t ≡ true) × (value t ≡ k) × (k ≤ 2147483647)
 unfolding readSubtrees
-subtrees-read p s {m = total} q =
-    bind-inv _ _ q λ t m n tq e size.
-    let f = need-inv _ _ _ _ e in
-    let g = good-inv (f .1) in
-    let b = and-inv (decimal t) _ (f .0) in
-    let h = text-read 10 15 p s tq in
-    let is : total ≡ m = omega arith in
-    rw (is, ← (g .0)) (h .0, t, h .1, b .0, refl, leb-true _ _ (b .1))
+subtrees-read p s k m q =
+    bind-inv _ _ _ _ q λ t i j text q₁ size.
+    need-inv _ _ _ _ _ _ q₁ λ test q₂.
+    good-inv _ _ _ _ q₂ λ is none.
+    let b = and-inv (decimal t) _ test in
+    let h = text-read 10 15 p s t i text in
+    let m-is : m ≡ i = omega arith in
+    rw (m-is, ← is) (h .0, t, h .1, b .0, refl, leb-true _ _ (b .1))
 
 read-object : (w p : ℕ) (c : Count) (object a rest : List ℕ) → ObjectBytes w c object a → readObject w p c (a ++ rest) ≡ good object (length a)
 unfolding readObject need
@@ -61,17 +60,16 @@ read-object w p (valid n) object a rest h =
     rw (h .1) (simp (fits, take-at object rest w lo, lo))
 read-object w p invalid object a rest h = rw (h .0, h .1) refl
 
-object-read : (w p : ℕ) (c : Count) (s : List ℕ) {object : List ℕ} {m : ℕ} → readObject w p c s ≡ good object m
-    → (m ≤ length s) × ObjectBytes w c object (take m s)
+object-read : (w p : ℕ) (c : Count) (s object : List ℕ) (m : ℕ) → readObject w p c s ≡ good object m → (m ≤ length s) × ObjectBytes w c object (take m s)
 unfolding readObject
-object-read w p (valid n) s q =
-    let f = need-inv _ _ _ _ q in
-    let g = good-inv (f .1) in
-    let l : w ≤ length s = leb-true _ _ (f .0) in
-    rw (← (g .0), ← (g .1)) (l, (length-take-le w s l, refl))
-object-read w p invalid s q =
-    let g = good-inv q in
-    rw (← (g .0), ← (g .1)) (omega arith, (refl, refl))
+object-read w p (valid n) s object m q =
+    need-inv _ _ _ _ _ _ q λ test q₁.
+    good-inv _ _ _ _ q₁ λ is size.
+    let l : w ≤ length s = leb-true _ _ test in
+    rw (← is, ← size) (l, (length-take-le w s l, refl))
+object-read w p invalid s object m q =
+    good-inv _ _ _ _ q λ is size.
+    rw (← is, ← size) (omega arith, (refl, refl))
 
 pub read-node : (w p : ℕ) {n : Node} {k : ℕ} {a : List ℕ} (rest : List ℕ) → IsNode w n k a
     → readNode w p (a ++ rest) ≡ good (record { node = n; subtrees = k }) (length a)
@@ -93,14 +91,37 @@ read-node w p {n} {k} {a} rest h =
       h .subtrees-value,
       length-append,
     )
-    (good-size (omega arith)))
+    (same-size (omega arith)))
 
-pub node-read : (w p : ℕ) (s : List ℕ) {h : Head} {m : ℕ} → readNode w p s ≡ good h m → (m ≤ length s) × IsNode w (h .node) (h .subtrees) (take m s)
+pub node-read : (w p : ℕ) (s : List ℕ) (h : Head) (m : ℕ) → readNode w p s ≡ good h m → (m ≤ length s) × IsNode w (h .node) (h .subtrees) (take m s)
 unfolding readNode
-node-read w p s {m = total} q =
-    bind-inv _ _ q λ name m n nameq q₁ size₁.
-    bind-inv _ _ q₁ λ count m₁ n₁ countq q₂ size₂.
-    bind-inv _ _ q₂ λ subtrees m₂ n₂ subtreesq q₃ size₃.
-    bind-inv _ _ q₃ λ object m₃ n₃ objectq q₄ size₄.
-    let g = good-inv q₄ in
-    ?
+node-read w p s h m q =
+    bind-inv _ _ _ _ q λ name i₀ j₀ nameq q₁ size₀.
+    bind-inv _ _ _ _ q₁ λ count i₁ j₁ countq q₂ size₁.
+    bind-inv _ _ _ _ q₂ λ subtrees i₂ j₂ subtreesq q₃ size₂.
+    bind-inv _ _ _ _ q₃ λ object i₃ j₃ objectq q₄ size₃.
+    good-inv _ _ _ _ q₄ λ is none.
+    let s₁ : List ℕ = drop i₀ s in
+    let s₂ : List ℕ = drop i₁ s₁ in
+    let s₃ : List ℕ = drop i₂ s₂ in
+    let t = text-read 0 15 p s name i₀ nameq in
+    let c = count-read p s₁ count i₁ countq in
+    let k = subtrees-read p s₂ subtrees i₂ subtreesq in
+    let o = object-read w p count s₃ object i₃ objectq in
+    let m-is : m ≡ i₀ + (i₁ + (i₂ + i₃)) = omega arith in
+    rw (m-is, ← is)
+    (
+      parts-fit i₀ _ s (t .0) (parts-fit i₁ _ s₁ (c .0) (parts-fit i₂ i₃ s₂ (k .0) (o .0))),
+      record {
+        named = t .2;
+        countText = c .1;
+        counted = c .3;
+        subtreesText = k .1;
+        subtrees-decimal = k .3;
+        subtrees-value = k .4;
+        subtrees-fit = k .5;
+        tail = take i₃ s₃;
+        object = o .1;
+        bytes = text-then i₀ _ s name _ 0 (t .1) (text-then i₁ _ s₁ (c .1) _ 32 (c .2) (text-then i₂ i₃ s₂ (k .1) _ 10 (k .2) refl));
+      },
+    )
