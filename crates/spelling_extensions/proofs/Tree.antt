@@ -125,3 +125,58 @@ node-read w p s h m q =
         bytes = text-then i₀ _ s name _ 0 (t .1) (text-then i₁ _ s₁ (c .1) _ 32 (c .2) (text-then i₂ i₃ s₂ (k .1) _ 10 (k .2) refl));
       },
     )
+
+-- ---- siblings
+
+pub read-siblings : (w p : ℕ) {levels : ℕ} {f : Forest} {a : List ℕ} (rest : List ℕ) → Siblings w levels f a
+    → readForest w p levels (width f) (a ++ rest) ≡ good f (length a)
+unfolding readForest readSiblings width bind shift need
+read-siblings w p rest (siblings-end {levels = zero}) = refl
+read-siblings w p rest (siblings-end {levels = suc levels}) = refl
+read-siblings w p rest (siblings-more {a = a} {b = b} {c = c} named x y z) =
+    simp
+    (
+      append-assoc,
+      drop-append-seam,
+      read-node w p (b ++ (c ++ rest)) x,
+      named,
+      read-siblings w p (c ++ rest) y,
+      read-siblings w p rest z,
+      length-append,
+    )
+    (same-size (omega arith))
+
+siblings-read-by : (w p levels : ℕ) (go : ℕ → List ℕ → Read Forest)
+    → ((k : ℕ) (s : List ℕ) (f : Forest) (m : ℕ) → go k s ≡ good f m → (m ≤ length s) × (width f ≡ k) × Siblings w levels f (take m s))
+    → (k : ℕ) (s : List ℕ) (f : Forest) (m : ℕ) → readSiblings w p go k s ≡ good f m
+    → (m ≤ length s) × (width f ≡ k) × Siblings w (suc levels) f (take m s)
+unfolding readSiblings width
+siblings-read-by w p levels go go-read zero s f m q =
+    good-inv _ _ _ _ q λ is size. rw (← is, ← size) (omega arith, refl, siblings-end)
+siblings-read-by w p levels go go-read (suc k) s f m q =
+    bind-inv _ _ _ _ q λ h i₀ j₀ headq q₁ size₀.
+    need-inv _ _ _ _ _ _ q₁ λ named q₂.
+    bind-inv _ _ _ _ q₂ λ kids i₁ j₁ kidsq q₃ size₁.
+    bind-inv _ _ _ _ q₃ λ after i₂ j₂ afterq q₄ size₂.
+    good-inv _ _ _ _ q₄ λ is none.
+    let s₁ : List ℕ = drop i₀ s in
+    let s₂ : List ℕ = drop i₁ s₁ in
+    let x = node-read w p s h i₀ headq in
+    let y = go-read (h .subtrees) s₁ kids i₁ kidsq in
+    let z = siblings-read-by w p levels go go-read k s₂ after i₂ afterq in
+    let node : IsNode w (h .node) (width kids) (take i₀ s) = rw (y .1) (x .1) in
+    let m-is : m ≡ i₀ + (i₁ + i₂) = omega arith in
+    rw (m-is, ← is)
+    (
+      parts-fit i₀ _ s (x .0) (parts-fit i₁ i₂ s₁ (y .0) (z .0)),
+      ap suc (z .1),
+      rw (take-add i₀ (i₁ + i₂) s, take-add i₁ i₂ s₁) (siblings-more named node (y .2) (z .2)),
+    )
+
+pub siblings-read : (w p levels k : ℕ) (s : List ℕ) (f : Forest) (m : ℕ) → readForest w p levels k s ≡ good f m
+    → (m ≤ length s) × (width f ≡ k) × Siblings w levels f (take m s)
+unfolding readForest width
+siblings-read w p zero zero s f m q = good-inv _ _ _ _ q λ is size. rw (← is, ← size) (omega arith, refl, siblings-end)
+siblings-read w p zero (suc k) s f m q = bad-good _ _ _ _ q
+siblings-read w p (suc levels) k s f m q =
+    siblings-read-by w p levels (readForest w p levels) (λ k₁ s₁ f₁ m₁ q₁. siblings-read w p levels k₁ s₁ f₁ m₁ q₁) k s f m q
