@@ -180,3 +180,74 @@ siblings-read w p zero zero s f m q = good-inv _ _ _ _ q λ is size. rw (← is,
 siblings-read w p zero (suc k) s f m q = bad-good _ _ _ _ q
 siblings-read w p (suc levels) k s f m q =
     siblings-read-by w p levels (readForest w p levels) (λ k₁ s₁ f₁ m₁ q₁. siblings-read w p levels k₁ s₁ f₁ m₁ q₁) k s f m q
+
+-- ---- the whole data
+
+read-nodes : (w p : ℕ) {t : Tree} {a : List ℕ} (rest : List ℕ) → IsTree w t a → readNodes w p (a ++ rest) ≡ good t (length a)
+unfolding readNodes bind shift need
+read-nodes w p {t} {a} rest h =
+    let unnamed : eqb (length (t .root .name)) 0 ≡ true = eq-eqb (length (t .root .name)) 0 (ap (λ (s : List ℕ). length s) (h .rootName)) in
+    rw (h .bytes)
+    (simp
+    (
+      append-assoc,
+      drop-append-seam,
+      read-node w p (h .restBytes ++ rest) (h .rootNode),
+      unnamed,
+      read-siblings w p rest (h .rest),
+      length-append,
+    )
+    (same-size (omega arith)))
+
+pub read-tree : (w : ℕ) (ns : List (List ℕ)) (p : ℕ) {t : Tree} {a : List ℕ} → IsTree w t a → okTreeCounts ns t ≡ true
+    → readTree w ns p a ≡ good t (length a)
+unfolding readTree bind shift need
+read-tree w ns p {t} {a} h counts =
+    let nodes : readNodes w p a ≡ good t (length a) = rw append-nil at (read-nodes w p [] h) in
+    simp (nodes, eq-eqb (length a) (length a) refl, h .differ, counts) (same-size (omega arith))
+
+-- the nodes, up to what tells that they are the whole data
+nodes-read : (w p : ℕ) (s : List ℕ) (t : Tree) (m : ℕ) → readNodes w p s ≡ good t m → distinct (t .subtrees) ≡ true
+    → (m ≤ length s) × IsTree w t (take m s)
+unfolding readNodes
+nodes-read w p s t m q differ =
+    bind-inv _ _ _ _ q λ h i₀ j₀ rootq q₁ size₀.
+    need-inv _ _ _ _ _ _ q₁ λ unnamed q₂.
+    bind-inv _ _ _ _ q₂ λ kids i₁ j₁ kidsq q₃ size₁.
+    good-inv _ _ _ _ q₃ λ is none.
+    let x = node-read w p s h i₀ rootq in
+    let y = siblings-read w p 127 (h .subtrees) (drop i₀ s) kids i₁ kidsq in
+    let node : IsNode w (h .node) (width kids) (take i₀ s) = rw (y .1) (x .1) in
+    let m-is : m ≡ i₀ + i₁ = omega arith in
+    let differ₁ : distinct kids ≡ true = rw (← is) at differ in
+    rw (m-is, ← is)
+    (
+      parts-fit i₀ i₁ s (x .0) (y .0),
+      record {
+        rootBytes = take i₀ s;
+        restBytes = take i₁ (drop i₀ s);
+        rootName = empty (h .node .name) (eqb-true _ _ unnamed);
+        rootNode = node;
+        rest = y .2;
+        differ = differ₁;
+        bytes = take-add i₀ i₁ s;
+      },
+    )
+  where
+    empty : (s : List ℕ) → length s ≡ 0 → s ≡ []
+    empty [] e = refl
+    empty (x ∷ s) e = absurd (omega arith)
+
+pub tree-read : (w : ℕ) (ns : List (List ℕ)) (p : ℕ) (s : List ℕ) (t : Tree) (m : ℕ) → readTree w ns p s ≡ good t m
+    → (m ≡ length s) × IsTree w t s × (okTreeCounts ns t ≡ true)
+unfolding readTree
+tree-read w ns p s t m q =
+    bind-inv _ _ _ _ q λ t₁ i j nodesq q₁ size.
+    need-inv _ _ _ _ _ _ q₁ λ all q₂.
+    need-inv _ _ _ _ _ _ q₂ λ differ q₃.
+    need-inv _ _ _ _ _ _ q₃ λ counts q₄.
+    good-inv _ _ _ _ q₄ λ is none.
+    let whole : i ≡ length s = eqb-true _ _ all in
+    let h = nodes-read w p s t₁ i nodesq differ in
+    let taken : take i s ≡ s = rw whole (take-length s) in
+    rw (← is) (omega arith, rw taken at (h .1), counts)
