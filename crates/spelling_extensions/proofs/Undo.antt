@@ -1,0 +1,78 @@
+-- Resolve-undo data that is spelled is read, and what is read was spelled.
+use mathlib.Core.Path.{_≡_, refl, sym, ap, _∙_}
+use mathlib.Core.List.{List, [], _∷_, _++_, append-assoc, append-nil}
+use mathlib.Core.Bool.{Bool, true, false, cond, not, _&&_, _||_}
+use mathlib.Core.Option.{Option, none, some}
+use Prim.Native.Nat.{ℕ, zero, suc, _+_, _-_, _≤_, _<_}
+use native.Mathlib.Omega.{arith}
+use lib.ListN.{length, take, drop, replicate, length-append, length-drop}
+use lib.Seq.{drop-append-seam, length-take-le, take-add, take-at, take-all}
+use lib.Dec.{eqb, leb, ltb}
+use borrow.Author.Tests.{leb-true, le-leb, eqb-true, eq-eqb}
+use Rattle.format.specs.Bytes.{lacks, eqList}
+use Rattle.format.specs.Names.{okName, compare, isBelow}
+use Rattle.format.specs.Records.{Stage, Undo}
+use Rattle.format.specs.Layout.{okMode, modeText, IsStage, someStage, IsUndo, Undos, undos-end, undos-more}
+use Rattle.format.specs.Reading.{Read, bad, good, need, shift, bind}
+use Rattle.format.specs.Reader.{readText, needSome, modeIn, readMode, readStage, readStages, readUndo, readUndos}
+use Rattle.spelling_entries.proofs.Reading.{false-true, and-inv, cond-inv, eqList-true, bad-good, good-inv, need-inv, bind-inv}
+use Rattle.spelling_entries.proofs.Bytes.{after-text}
+use Rattle.spelling_extensions.proofs.Texts.{same-size, bind-same, none-some, needSome-inv, read-text, text-read, parts-fit, text-then}
+
+-- ---- modes
+
+-- a mode of an entry, or 0 for a stage that is missing
+abbrev pub stageMode : ℕ → Bool
+stageMode m = eqb m 0 || okMode m
+
+or-inv {ℓ} : {X : Type ℓ} (a b : Bool) → (a || b) ≡ true → (a ≡ true → X) → (b ≡ true → X) → X
+or-inv true b e f g = f refl
+or-inv false b e f g = g e
+
+-- what holds of the five holds of each
+by-mode {ℓ} : (P : ℕ → Type ℓ) → P 0 → P 0x81a4 → P 0x81ed → P 0xa000 → P 0xe000 → (m : ℕ) → stageMode m ≡ true → P m
+unfolding okMode
+by-mode P missing plain executable symlink gitlink m h =
+    or-inv (eqb m 0) _ h (λ e. rw (eqb-true m 0 e) missing) λ h₁.
+    or-inv (eqb m 0x81a4) _ h₁ (λ e. rw (eqb-true m 0x81a4 e) plain) λ h₂.
+    or-inv (eqb m 0x81ed) _ h₂ (λ e. rw (eqb-true m 0x81ed e) executable) λ h₃.
+    or-inv (eqb m 0xa000) _ h₃ (λ e. rw (eqb-true m 0xa000 e) symlink) λ e. rw (eqb-true m 0xe000 e) gitlink
+
+mode-lacks : (m : ℕ) → stageMode m ≡ true → lacks 0 (modeText m) ≡ true
+unfolding modeText lacks
+mode-lacks m h = by-mode (λ x. lacks 0 (modeText x) ≡ true) refl refl refl refl refl m h
+
+read-mode-text : (m : ℕ) → stageMode m ≡ true → modeIn (modeText m) ≡ some m
+unfolding modeText modeIn eqList
+read-mode-text m h = by-mode (λ x. modeIn (modeText x) ≡ some x) refl refl refl refl refl m h
+
+mode-text-read : (t : List ℕ) (m : ℕ) → modeIn t ≡ some m → (t ≡ modeText m) × (stageMode m ≡ true)
+unfolding modeIn modeText okMode
+mode-text-read t m q =
+    one 0 _ _ refl refl q λ q₁.
+    one 0x81a4 _ _ refl refl q₁ λ q₂.
+    one 0x81ed _ _ refl refl q₂ λ q₃. one 0xa000 _ _ refl refl q₃ λ q₄. one 0xe000 _ none refl refl q₄ λ q₅. none-some q₅
+  where
+    one : (k : ℕ) (u : List ℕ) (r : Option ℕ) → u ≡ modeText k → stageMode k ≡ true → cond (eqList t u) (some k) r ≡ some m
+        → (r ≡ some m → (t ≡ modeText m) × (stageMode m ≡ true)) → (t ≡ modeText m) × (stageMode m ≡ true)
+    one k u r e h c f =
+        cond-inv (eqList t u) _ _ _ c
+        (λ same is.
+        let k-is : k ≡ m = cc in
+        rw (← k-is) (eqList-true t u same ∙ e, h))
+        λ other more. f more
+
+read-mode : (p m : ℕ) (rest : List ℕ) → stageMode m ≡ true → readMode p (modeText m ++ (0 ∷ rest)) ≡ good m (length (modeText m) + 1)
+unfolding readMode bind shift needSome
+read-mode p m rest h = simp (read-text 0 17 p (modeText m) rest (mode-lacks m h), read-mode-text m h) (same-size (omega arith))
+
+mode-read : (p : ℕ) (s : List ℕ) (x m : ℕ) → readMode p s ≡ good x m → (m ≤ length s) × (take m s ≡ modeText x ++ (0 ∷ [])) × (stageMode x ≡ true)
+unfolding readMode
+mode-read p s x m q =
+    bind-inv _ _ _ _ q λ t i j text q₁ size.
+    needSome-inv _ _ _ _ _ _ q₁ λ x₁ mode q₂.
+    good-inv _ _ _ _ q₂ λ is none.
+    let h = text-read 0 17 p s t i text in
+    let k = mode-text-read t x₁ mode in
+    let m-is : m ≡ i = omega arith in
+    rw (m-is, ← is) (h .0, (rw (k .0) at (h .1)), k .1)
