@@ -25,6 +25,10 @@ use Rattle.spelling_extensions.proofs.Texts.{same-size, bind-same, none
 abbrev pub stageMode : ℕ → Bool
 stageMode m = eqb m 0 || okMode m
 
+by-test {ℓ} : {X : Type ℓ} (b : Bool) → (b ≡ true → X) → (b ≡ false → X) → X
+by-test true f g = f refl
+by-test false f g = g refl
+
 or-inv {ℓ} : {X : Type ℓ} (a b : Bool) → (a || b) ≡ true → (a ≡ true → X) → (b ≡ true → X) → X
 or-inv true b e f g = f refl
 or-inv false b e f g = g e
@@ -76,3 +80,42 @@ mode-read p s x m q =
     let k = mode-text-read t x₁ mode in
     let m-is : m ≡ i = omega arith in
     rw (m-is, ← is) (h .0, (rw (k .0) at (h .1)), k .1)
+
+-- ---- stages
+
+stage-mode : (w : ℕ) (x : Stage) (a : List ℕ) → IsStage w x a → stageMode (x .mode) ≡ true
+stage-mode w x a h = by-test (eqb (x .mode) 0) (λ missing. rw missing refl) λ there. let k = rw there at h in rw there (k .0)
+
+read-stage : (w p : ℕ) (x : Stage) (a rest : List ℕ) → IsStage w x a → readStage w p (x .mode) (a ++ rest) ≡ good x (length a)
+unfolding readStage need
+read-stage w p x a rest h =
+    by-test (eqb (x .mode) 0)
+    (λ missing.
+    let k = rw missing at h in
+    let mode : x .mode ≡ 0 = eqb-true (x .mode) 0 missing in
+    let object : x .object ≡ replicate w 0 = k .0 in
+    rw (missing, k .1) (same-stage 0 (sym mode) (sym object)))
+    λ there.
+    let k = rw there at h in
+    let wide : length (x .object) ≡ w = k .1 in
+    let l = length-append (x .object) rest in
+    let fits : leb w (length (x .object ++ rest)) ≡ true = le-leb w (length (x .object ++ rest)) (omega arith) in
+    rw (there, k .2) (simp (fits, take-at (x .object) rest w wide, wide))
+  where
+    same-stage : {m : ℕ} {object : List ℕ} (n : ℕ) → m ≡ x .mode → object ≡ x .object → good (record { mode = m; object = object }) n ≡ good x n
+    same-stage n e f = rw (e, f) refl
+
+stage-read : (w p mode : ℕ) (s : List ℕ) (x : Stage) (m : ℕ) → stageMode mode ≡ true → readStage w p mode s ≡ good x m
+    → (m ≤ length s) × (x .mode ≡ mode) × IsStage w x (take m s)
+unfolding readStage
+stage-read w p mode s x m h q =
+    cond-inv (eqb mode 0) _ _ _ q
+    (λ missing q₁.
+    good-inv _ _ _ _ q₁ λ is size.
+    rw (← is, ← size) (omega arith, sym (eqb-true mode 0 missing), (refl, refl)))
+    λ there q₁.
+    need-inv _ _ _ _ _ _ q₁ λ test q₂.
+    good-inv _ _ _ _ q₂ λ is size.
+    let l : w ≤ length s = leb-true _ _ test in
+    let ok : okMode mode ≡ true = rw there at h in
+    rw (← is, ← size) (l, refl, rw there (ok, length-take-le w s l, refl))
