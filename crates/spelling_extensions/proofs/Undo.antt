@@ -119,3 +119,81 @@ stage-read w p mode s x m h q =
     let l : w ≤ length s = leb-true _ _ test in
     let ok : okMode mode ≡ true = rw there at h in
     rw (← is, ← size) (l, refl, rw there (ok, length-take-le w s l, refl))
+
+-- ---- one record
+
+path-lacks : (s : List ℕ) → okName s ≡ true → lacks 0 s ≡ true
+unfolding okName
+path-lacks s h = and-inv (lacks 0 s) _ (and-inv (leb (length s) 8192) _ (and-inv (leb 1 (length s)) _ h .1) .1) .0
+
+read-stages : (w p : ℕ) (u : Undo) (a b c rest : List ℕ) → IsStage w (u .first) a → IsStage w (u .second) b → IsStage w (u .third) c → someStage u ≡ true
+    → readStages w p (u .path) (u .first .mode) (u .second .mode) (u .third .mode) (a ++ (b ++ (c ++ rest))) ≡ good u (length a + (length b + length c))
+unfolding readStages bind shift need
+read-stages w p u a b c rest x y z some =
+    simp
+    (
+      drop-append-seam,
+      read-stage w p (u .first) a (b ++ (c ++ rest)) x,
+      read-stage w p (u .second) b (c ++ rest) y,
+      read-stage w p (u .third) c rest z,
+      some,
+    )
+    (same-size (omega arith))
+
+pub read-undo : (w p : ℕ) {previous : List ℕ} {u : Undo} {a : List ℕ} (rest : List ℕ) → IsUndo w previous u a → readUndo w p previous (a ++ rest) ≡ good u (length a)
+unfolding readUndo bind shift need
+read-undo w p {previous} {u} {a} rest h =
+    let s₄ : List ℕ = h .firstBytes ++ (h .secondBytes ++ (h .thirdBytes ++ rest)) in
+    let s₃ : List ℕ = modeText (u .third .mode) ++ (0 ∷ s₄) in
+    let s₂ : List ℕ = modeText (u .second .mode) ++ (0 ∷ s₃) in
+    let s₁ : List ℕ = modeText (u .first .mode) ++ (0 ∷ s₂) in
+    rw (h .bytes)
+    (simp
+    (
+      append-assoc,
+      read-text 0 17 p (u .path) s₁ (path-lacks (u .path) (h .path)),
+      after-text,
+      h .path,
+      h .order,
+      read-mode p (u .first .mode) s₂ (stage-mode w (u .first) (h .firstBytes) (h .first)),
+      read-mode p (u .second .mode) s₃ (stage-mode w (u .second) (h .secondBytes) (h .second)),
+      read-mode p (u .third .mode) s₄ (stage-mode w (u .third) (h .thirdBytes) (h .third)),
+      read-stages w p u (h .firstBytes) (h .secondBytes) (h .thirdBytes) rest (h .first) (h .second) (h .third) (h .stages),
+      length-append,
+    )
+    (same-size (omega arith)))
+
+stages-read : (w p : ℕ) (path : List ℕ) (a b c : ℕ) (s : List ℕ) (u : Undo) (m : ℕ)
+    → stageMode a ≡ true → stageMode b ≡ true → stageMode c ≡ true → readStages w p path a b c s ≡ good u m
+    → (m ≤ length s) × (u .path ≡ path) × (u .first .mode ≡ a) × (u .second .mode ≡ b) × (u .third .mode ≡ c) × (someStage u ≡ true)
+    × (x : List ℕ) × (y : List ℕ) × (z : List ℕ)
+    × IsStage w (u .first) x × IsStage w (u .second) y × IsStage w (u .third) z × (take m s ≡ x ++ (y ++ z))
+unfolding readStages
+stages-read w p path a b c s u m ha hb hc q =
+    bind-inv _ _ _ _ q λ x i₀ j₀ firstq q₁ size₀.
+    bind-inv _ _ _ _ q₁ λ y i₁ j₁ secondq q₂ size₁.
+    bind-inv _ _ _ _ q₂ λ z i₂ j₂ thirdq q₃ size₂.
+    need-inv _ _ _ _ _ _ q₃ λ some q₄.
+    good-inv _ _ _ _ q₄ λ is none.
+    let s₁ : List ℕ = drop i₀ s in
+    let s₂ : List ℕ = drop i₁ s₁ in
+    let f = stage-read w p a s x i₀ ha firstq in
+    let g = stage-read w p b s₁ y i₁ hb secondq in
+    let h = stage-read w p c s₂ z i₂ hc thirdq in
+    let m-is : m ≡ i₀ + (i₁ + i₂) = omega arith in
+    rw (m-is, ← is)
+    (
+      parts-fit i₀ _ s (f .0) (parts-fit i₁ i₂ s₁ (g .0) (h .0)),
+      refl,
+      f .1,
+      g .1,
+      h .1,
+      some,
+      take i₀ s,
+      take i₁ s₁,
+      take i₂ s₂,
+      f .2,
+      g .2,
+      h .2,
+      rw (take-add i₀ (i₁ + i₂) s, take-add i₁ i₂ s₁) refl,
+    )
