@@ -91,17 +91,21 @@ put32-word x y h =
     let q : (x * 65536 + y) / 256 % 256 ≡ y / 256 % 256 = omega arith in
     let r : (x * 65536 + y) % 256 ≡ y % 256 = omega arith in cc
 
-two-long : (s : List ℕ) → 2 ≤ length s → take 2 s ≡ getD s 0 0 ∷ getD s 1 0 ∷ []
-two-long [] h = absurd (omega arith)
-two-long (x ∷ []) h = absurd (omega arith)
-two-long (x ∷ y ∷ s) h = refl
+pub take-one : (s : List ℕ) → 1 ≤ length s → take 1 s ≡ getD s 0 0 ∷ []
+take-one [] h = absurd (omega arith)
+take-one (x ∷ s) h = refl
+
+pub take-two : (s : List ℕ) → 2 ≤ length s → take 2 s ≡ getD s 0 0 ∷ getD s 1 0 ∷ []
+take-two [] h = absurd (omega arith)
+take-two (x ∷ []) h = absurd (omega arith)
+take-two (x ∷ y ∷ s) h = refl
 
 pub put16-be16 : (s : List ℕ) (a : ℕ) → Bytes s → a + 2 ≤ length s → put16 (be16 s a) ≡ take 2 (drop a s)
 unfolding be16
 put16-be16 s a h l =
     let long : 2 ≤ length (drop a s) = simp length-drop (omega arith) in
     let here : a + 0 ≡ a = omega arith in
-    put16-word _ _ (h a) (h (a + 1)) ∙ sym (rw (two-long (drop a s) long, getD-drop a s 0 0, getD-drop a s 1 0, here) refl)
+    put16-word _ _ (h a) (h (a + 1)) ∙ sym (rw (take-two (drop a s) long, getD-drop a s 0 0, getD-drop a s 1 0, here) refl)
 
 pub put32-be32 : (s : List ℕ) (a : ℕ) → Bytes s → a + 4 ≤ length s → put32 (be32 s a) ≡ take 4 (drop a s)
 unfolding be32

@@ -22,6 +22,10 @@ pub and-both : (a b : Bool) → a ≡ true → b ≡ true → (a && b) ≡ true
 and-both true b p q = q
 and-both false b p q = p
 
+pub by-test {ℓ} : {X : Type ℓ} (t : Bool) → (t ≡ true → X) → (t ≡ false → X) → X
+by-test true f g = f refl
+by-test false f g = g refl
+
 -- which branch was taken
 pub cond-inv {ℓ κ} : {A : Type κ} {X : Type ℓ} (t : Bool) (x y z : A) → cond t x y ≡ z → (t ≡ true → x ≡ z → X) → (t ≡ false → y ≡ z → X) → X
 cond-inv true x y z e f g = f refl e
@@ -81,9 +85,9 @@ module _ {ℓ} {X : Type ℓ} {A : Type 0} where
   bind-inv (good b i) k a m e f = shift-inv i (k b i) a m e (λ j q l. f b i j refl q l)
 
 -- the same steps forward
-pub need-good : {A : Type 0} (t : Bool) (n p : ℕ) (r : Read A) → t ≡ true → need t n p r ≡ r
+pub need-good : {A : Type 0} (t : Bool) (n p : ℕ) (r : Read A) (a : A) (m : ℕ) → t ≡ true → r ≡ good a m → need t n p r ≡ good a m
 unfolding need
-need-good t n p r e = rw e
+need-good t n p r a m h e = rw h e
 
 pub shift-good : {A : Type 0} (k : ℕ) (r : Read A) (a : A) (m : ℕ) → r ≡ good a m → shift k r ≡ good a (k + m)
 unfolding shift
