@@ -17,6 +17,7 @@ use Rattle.format.specs.Reading.{Read, bad, good, need, shift, bind}
 use Rattle.format.specs.Reader.{readText, needSome, modeIn, readMode, readStage, readStages, readUndo, readUndos}
 use Rattle.spelling_entries.proofs.Reading.{false-true, and-inv, cond-inv, eqList-true, bad-good, good-inv, need-inv, bind-inv}
 use Rattle.spelling_entries.proofs.Bytes.{after-text}
+use Rattle.spelling_entries.proofs.Names.{okName-lacks}
 use Rattle.spelling_extensions.proofs.Texts.{same-size, bind-same, none-some, needSome-inv, read-text, text-read, parts-fit, text-then}
 
 -- ---- modes
@@ -122,21 +123,17 @@ stage-read w p mode s x m h q =
 
 -- ---- one record
 
-path-lacks : (s : List ℕ) → okName s ≡ true → lacks 0 s ≡ true
-unfolding okName
-path-lacks s h = and-inv (lacks 0 s) _ (and-inv (leb (length s) 8192) _ (and-inv (leb 1 (length s)) _ h .1) .1) .0
-
 read-stages : (w p : ℕ) (u : Undo) (a b c rest : List ℕ) → IsStage w (u .first) a → IsStage w (u .second) b → IsStage w (u .third) c → someStage u ≡ true
     → readStages w p (u .path) (u .first .mode) (u .second .mode) (u .third .mode) (a ++ (b ++ (c ++ rest))) ≡ good u (length a + (length b + length c))
-unfolding readStages bind shift need
-read-stages w p u a b c rest x y z some =
+unfolding readStages bind shift need someStage
+read-stages w p u a b c rest x y z stages =
     simp
     (
       drop-append-seam,
       read-stage w p (u .first) a (b ++ (c ++ rest)) x,
       read-stage w p (u .second) b (c ++ rest) y,
       read-stage w p (u .third) c rest z,
-      some,
+      stages,
     )
     (same-size (omega arith))
 
@@ -151,7 +148,7 @@ read-undo w p {previous} {u} {a} rest h =
     (simp
     (
       append-assoc,
-      read-text 0 17 p (u .path) s₁ (path-lacks (u .path) (h .path)),
+      read-text 0 17 p (u .path) s₁ (okName-lacks (u .path) (h .path)),
       after-text,
       h .path,
       h .order,
@@ -163,37 +160,54 @@ read-undo w p {previous} {u} {a} rest h =
     )
     (same-size (omega arith)))
 
-stages-read : (w p : ℕ) (path : List ℕ) (a b c : ℕ) (s : List ℕ) (u : Undo) (m : ℕ)
-    → stageMode a ≡ true → stageMode b ≡ true → stageMode c ≡ true → readStages w p path a b c s ≡ good u m
-    → (m ≤ length s) × (u .path ≡ path) × (u .first .mode ≡ a) × (u .second .mode ≡ b) × (u .third .mode ≡ c) × (someStage u ≡ true)
-    × (x : List ℕ) × (y : List ℕ) × (z : List ℕ)
-    × IsStage w (u .first) x × IsStage w (u .second) y × IsStage w (u .third) z × (take m s ≡ x ++ (y ++ z))
-unfolding readStages
-stages-read w p path a b c s u m ha hb hc q =
-    bind-inv _ _ _ _ q λ x i₀ j₀ firstq q₁ size₀.
-    bind-inv _ _ _ _ q₁ λ y i₁ j₁ secondq q₂ size₁.
-    bind-inv _ _ _ _ q₂ λ z i₂ j₂ thirdq q₃ size₂.
-    need-inv _ _ _ _ _ _ q₃ λ some q₄.
-    good-inv _ _ _ _ q₄ λ is none.
+pub undo-read : (w p : ℕ) (previous s : List ℕ) (u : Undo) (m : ℕ) → readUndo w p previous s ≡ good u m → (m ≤ length s) × IsUndo w previous u (take m s)
+unfolding readUndo readStages
+undo-read w p previous s u m q =
+    bind-inv _ _ _ _ q λ path i₀ j₀ pathq q₁ size₀.
+    need-inv _ _ _ _ _ _ q₁ λ test q₂.
+    bind-inv _ _ _ _ q₂ λ a i₁ j₁ aq q₃ size₁.
+    bind-inv _ _ _ _ q₃ λ b i₂ j₂ bq q₄ size₂.
+    bind-inv _ _ _ _ q₄ λ c i₃ j₃ cq q₅ size₃.
+    bind-inv _ _ _ _ q₅ λ x i₄ j₄ xq q₆ size₄.
+    bind-inv _ _ _ _ q₆ λ y i₅ j₅ yq q₇ size₅.
+    bind-inv _ _ _ _ q₇ λ z i₆ j₆ zq q₈ size₆.
+    need-inv _ _ _ _ _ _ q₈ λ stages q₉.
+    good-inv _ _ _ _ q₉ λ is none.
     let s₁ : List ℕ = drop i₀ s in
     let s₂ : List ℕ = drop i₁ s₁ in
-    let f = stage-read w p a s x i₀ ha firstq in
-    let g = stage-read w p b s₁ y i₁ hb secondq in
-    let h = stage-read w p c s₂ z i₂ hc thirdq in
-    let m-is : m ≡ i₀ + (i₁ + i₂) = omega arith in
+    let s₃ : List ℕ = drop i₂ s₂ in
+    let s₄ : List ℕ = drop i₃ s₃ in
+    let s₅ : List ℕ = drop i₄ s₄ in
+    let s₆ : List ℕ = drop i₅ s₅ in
+    let t = text-read 0 17 p s path i₀ pathq in
+    let ok = and-inv (okName path) _ test in
+    let ma = mode-read p s₁ a i₁ aq in
+    let mb = mode-read p s₂ b i₂ bq in
+    let mc = mode-read p s₃ c i₃ cq in
+    let sx = stage-read w p a s₄ x i₄ (ma .2) xq in
+    let sy = stage-read w p b s₅ y i₅ (mb .2) yq in
+    let sz = stage-read w p c s₆ z i₆ (mc .2) zq in
+    let objects : take (i₄ + (i₅ + i₆)) s₄ ≡ take i₄ s₄ ++ (take i₅ s₅ ++ take i₆ s₆) = rw (take-add i₄ (i₅ + i₆) s₄, take-add i₅ i₆ s₅) refl in
+    let m-is : m ≡ i₀ + (i₁ + (i₂ + (i₃ + (i₄ + (i₅ + i₆))))) = omega arith in
     rw (m-is, ← is)
     (
-      parts-fit i₀ _ s (f .0) (parts-fit i₁ i₂ s₁ (g .0) (h .0)),
-      refl,
-      f .1,
-      g .1,
-      h .1,
-      some,
-      take i₀ s,
-      take i₁ s₁,
-      take i₂ s₂,
-      f .2,
-      g .2,
-      h .2,
-      rw (take-add i₀ (i₁ + i₂) s, take-add i₁ i₂ s₁) refl,
+      parts-fit i₀ _ s (t .0)
+      (parts-fit i₁ _ s₁ (ma .0)
+      (parts-fit i₂ _ s₂ (mb .0) (parts-fit i₃ _ s₃ (mc .0) (parts-fit i₄ _ s₄ (sx .0) (parts-fit i₅ i₆ s₅ (sy .0) (sz .0)))))),
+      record {
+        path = ok .0;
+        order = ok .1;
+        stages = stages;
+        firstBytes = take i₄ s₄;
+        secondBytes = take i₅ s₅;
+        thirdBytes = take i₆ s₆;
+        first = sx .2;
+        second = sy .2;
+        third = sz .2;
+        bytes =
+            rw (sx .1, sy .1, sz .1)
+            (text-then i₀ _ s path _ 0 (t .1)
+            (text-then i₁ _ s₁ (modeText a) _ 0 (ma .1)
+            (text-then i₂ _ s₂ (modeText b) _ 0 (mb .1) (text-then i₃ _ s₃ (modeText c) _ 0 (mc .1) objects))));
+      },
     )
