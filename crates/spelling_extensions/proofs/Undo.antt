@@ -5,7 +5,7 @@ use mathlib.Core.Bool.{Bool, true, false, cond, not, _&&_, _||_}
 use mathlib.Core.Option.{Option, none, some}
 use Prim.Native.Nat.{ℕ, zero, suc, _+_, _-_, _≤_, _<_}
 use native.Mathlib.Omega.{arith}
-use lib.ListN.{length, take, drop, replicate, length-append, length-drop}
+use lib.ListN.{length, take, drop, replicate, length-append, length-drop, take-append-drop}
 use lib.Seq.{drop-append-seam, length-take-le, take-add, take-at, take-all}
 use lib.Dec.{eqb, leb, ltb}
 use borrow.Author.Tests.{leb-true, le-leb, eqb-true, eq-eqb}
@@ -211,3 +211,86 @@ undo-read w p previous s u m q =
             (text-then i₂ _ s₂ (modeText b) _ 0 (mb .1) (text-then i₃ _ s₃ (modeText c) _ 0 (mc .1) objects))));
       },
     )
+
+undo-long : {w : ℕ} {previous : List ℕ} {u : Undo} {a : List ℕ} → IsUndo w previous u a → 1 ≤ length a
+undo-long {u = u} h = rw (h .bytes) (simp length-append (omega arith))
+
+pub undo-takes : (w p : ℕ) (previous s : List ℕ) (u : Undo) (m : ℕ) → readUndo w p previous s ≡ good u m → (1 ≤ m) × (m ≤ length s)
+undo-takes w p previous s u m q =
+    let h = undo-read w p previous s u m q in
+    let taken = length-take-le m s (h .0) in
+    let long = undo-long (h .1) in omega arith
+
+-- ---- all records
+
+undos-step : (w p fuel : ℕ) (previous s : List ℕ) → 1 ≤ length s
+    → readUndos w p (suc fuel) previous s
+    ≡ bind (readUndo w p previous s) (λ u m. bind (readUndos w p fuel (u .path) (drop m s)) (λ us n. good (u ∷ us) 0))
+unfolding readUndos
+undos-step w p fuel previous [] h = absurd (omega arith)
+undos-step w p fuel previous (x ∷ s) h = refl
+
+pub read-undos : (w p fuel : ℕ) {previous : List ℕ} {us : List Undo} {a : List ℕ} → Undos w previous us a → length a ≤ fuel
+    → readUndos w p fuel previous a ≡ good us (length a)
+unfolding readUndos bind shift
+read-undos w p zero undos-end h = refl
+read-undos w p (suc fuel) undos-end h = refl
+read-undos w p zero (undos-more {a = a} {b = b} x y) h = let l = length-append a b in let long = undo-long x in absurd (omega arith)
+read-undos w p (suc fuel) (undos-more {previous = previous} {a = a} {b = b} x y) h =
+    let l = length-append a b in
+    let long = undo-long x in
+    undos-step w p fuel previous (a ++ b) (omega arith)
+    ∙ simp (read-undo w p b x, drop-append-seam, read-undos w p fuel y (omega arith), length-append) (same-size (omega arith))
+
+pub undos-read : (w p fuel : ℕ) (previous s : List ℕ) (us : List Undo) (m : ℕ) → readUndos w p fuel previous s ≡ good us m
+    → (m ≡ length s) × Undos w previous us s
+unfolding readUndos
+undos-read w p zero previous [] us m q = good-inv _ _ _ _ q λ is size. rw (← is, ← size) (refl, undos-end)
+undos-read w p (suc fuel) previous [] us m q = good-inv _ _ _ _ q λ is size. rw (← is, ← size) (refl, undos-end)
+undos-read w p zero previous (x ∷ s) us m q = bad-good _ _ _ _ q
+undos-read w p (suc fuel) previous (x ∷ s) us m q =
+    bind-inv _ _ _ _ q λ u i₀ j₀ undoq q₁ size₀.
+    bind-inv _ _ _ _ q₁ λ vs i₁ j₁ undosq q₂ size₁.
+    good-inv _ _ _ _ q₂ λ is none.
+    more (x ∷ s) u vs i₀ i₁ (undo-read w p previous (x ∷ s) u i₀ undoq) (undos-read w p fuel (u .path) (drop i₀ (x ∷ s)) vs i₁ undosq) is (omega arith)
+  where
+    more : (s : List ℕ) (u : Undo) (vs : List Undo) (i₀ i₁ : ℕ) → (i₀ ≤ length s) × IsUndo w previous u (take i₀ s)
+        → (i₁ ≡ length (drop i₀ s)) × Undos w (u .path) vs (drop i₀ s) → u ∷ vs ≡ us → m ≡ i₀ + i₁
+        → (m ≡ length s) × Undos w previous us s
+    more s u vs i₀ i₁ h k is size =
+        let l = length-drop i₀ s in
+        rw (← is) (omega arith, rw (take-append-drop i₀ s) at (undos-more (h .1) (k .1)))
+
+-- any fuel that is as long as what is left gives the same
+undos-fuel : (w p f g : ℕ) (previous s : List ℕ) → length s ≤ f → length s ≤ g → readUndos w p f previous s ≡ readUndos w p g previous s
+unfolding readUndos
+undos-fuel w p zero zero previous s hf hg = refl
+undos-fuel w p zero (suc g) previous [] hf hg = refl
+undos-fuel w p zero (suc g) previous (x ∷ s) hf hg = absurd (omega arith)
+undos-fuel w p (suc f) zero previous [] hf hg = refl
+undos-fuel w p (suc f) zero previous (x ∷ s) hf hg = absurd (omega arith)
+undos-fuel w p (suc f) (suc g) previous [] hf hg = refl
+undos-fuel w p (suc f) (suc g) previous (x ∷ s) hf hg =
+    bind-same (readUndo w p previous (x ∷ s)) _ _ λ u m q.
+    let takes = undo-takes w p previous (x ∷ s) u m q in
+    let l = length-drop m (x ∷ s) in
+    rw (undos-fuel w p f g (u .path) (drop m (x ∷ s)) (omega arith) (omega arith)) refl
+
+-- the records in s with no fuel to be seen, and its steps: what code is proved against
+unfoldable pub undosOf : ℕ → ℕ → List ℕ → List ℕ → Read (List Undo)
+undosOf w p previous s = readUndos w p (length s) previous s
+
+pub undosOf-end : (w p : ℕ) (previous : List ℕ) → undosOf w p previous [] ≡ good [] 0
+unfolding undosOf readUndos
+undosOf-end w p previous = refl
+
+pub undosOf-step : (w p : ℕ) (previous s : List ℕ) → 1 ≤ length s
+    → undosOf w p previous s ≡ bind (readUndo w p previous s) (λ u m. bind (undosOf w p (u .path) (drop m s)) (λ us n. good (u ∷ us) 0))
+unfolding undosOf
+undosOf-step w p previous s h =
+    undos-fuel w p (length s) (suc (length s)) previous s (omega arith) (omega arith)
+    ∙ undos-step w p (length s) previous s h
+    ∙ bind-same (readUndo w p previous s) _ _ λ u m q.
+    let takes = undo-takes w p previous s u m q in
+    let l = length-drop m s in
+    rw (undos-fuel w p (length s) (length (drop m s)) (u .path) (drop m s) (omega arith) (omega arith)) refl
