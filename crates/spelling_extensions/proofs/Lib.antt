@@ -2,3 +2,4 @@
 pub mod Texts
 pub mod Tree
 pub mod Undo
+pub mod Extensions
