@@ -154,21 +154,34 @@ read-extension w ns k p {x} {a} rest h new =
     let fits : leb (8 + length d) (length s) ≡ true = le-leb (8 + length d) (length s) (omega arith) in
     rw (whole, number, eight, fits, may, signature, past, take-append-seam d rest, read-data w ns k p x sig d (h .says) new) (same-size (omega arith))
 
-pub extension-read : (w : ℕ) (ns : List (List ℕ)) (k : Seen) (p : ℕ) (s : List ℕ) (x : Extension) (m : ℕ) → Bytes s → readExtension w ns k p s ≡ good x m
-    → (m ≤ length s) × IsExtension w ns x (take m s) × (isNew x k ≡ true)
+-- of any list, whether or not its elements are bytes
+extension-data : (w : ℕ) (ns : List (List ℕ)) (k : Seen) (p : ℕ) (s : List ℕ) (x : Extension) (m : ℕ) → readExtension w ns k p s ≡ good x m
+    → (8 + be32 s 4 ≤ length s) × (m ≡ 8 + be32 s 4) × Says w ns x (take 4 s) (take (be32 s 4) (drop 8 s)) × (isNew x k ≡ true)
 unfolding readExtension
-extension-read w ns k p s x m are q =
+extension-data w ns k p s x m q =
     need-inv _ _ _ _ _ _ q λ eight q₁.
     need-inv _ _ _ _ _ _ q₁ λ fits q₂.
     need-inv _ _ _ _ _ _ q₂ λ may q₃.
     shift-inv _ _ _ _ q₃ λ j dataq size.
+    let long : 8 + be32 s 4 ≤ length s = leb-true _ _ fits in
+    let l = length-drop 8 s in
+    let left = length-take-le (be32 s 4) (drop 8 s) (omega arith) in
+    let four = length-take-le 4 s (omega arith) in
+    let h = data-read w ns k p (take 4 s) (take (be32 s 4) (drop 8 s)) x j four (optional-take 4 s (omega arith) ∙ may) dataq in
+    (long, omega arith, h .1, h .2)
+
+pub extension-takes : (w : ℕ) (ns : List (List ℕ)) (k : Seen) (p : ℕ) (s : List ℕ) (x : Extension) (m : ℕ) → readExtension w ns k p s ≡ good x m
+    → (8 ≤ m) × (m ≤ length s)
+extension-takes w ns k p s x m q = let h = extension-data w ns k p s x m q in omega arith
+
+pub extension-read : (w : ℕ) (ns : List (List ℕ)) (k : Seen) (p : ℕ) (s : List ℕ) (x : Extension) (m : ℕ) → Bytes s → readExtension w ns k p s ≡ good x m
+    → (m ≤ length s) × IsExtension w ns x (take m s) × (isNew x k ≡ true)
+extension-read w ns k p s x m are q =
+    let h = extension-data w ns k p s x m q in
     let n : ℕ = be32 s 4 in
     let d : List ℕ = take n (drop 8 s) in
-    let long : 8 + n ≤ length s = leb-true _ _ fits in
     let l = length-drop 8 s in
     let left : length d ≡ n = length-take-le n (drop 8 s) (omega arith) in
-    let four : length (take 4 s) ≡ 4 = length-take-le 4 s (omega arith) in
-    let h = data-read w ns k p (take 4 s) d x j four (optional-take 4 s (omega arith) ∙ may) dataq in
     let m-is : m ≡ 4 + (4 + n) = omega arith in
     let number : put32 n ≡ take 4 (drop 4 s) = put32-be32 s 4 are (omega arith) in
     let bytes : take (4 + (4 + n)) s ≡ take 4 s ++ (put32 (length d) ++ d) =
@@ -176,6 +189,90 @@ extension-read w ns k p s x m are q =
     rw m-is
     (
       omega arith,
-      record { signature = take 4 s; content = d; says = h .1; fits = rw left (be32-below s 4 are); bytes = bytes },
-      h .2,
+      record { signature = take 4 s; content = d; says = h .2; fits = rw left (be32-below s 4 are); bytes = bytes },
+      h .3,
     )
+
+extension-long : {w : ℕ} {ns : List (List ℕ)} {x : Extension} {a : List ℕ} → IsExtension w ns x a → 4 ≤ length a
+extension-long h = rw (h .bytes) (simp length-append (omega (arith, length-put32 (length (h .content)))))
+
+-- ---- all extensions
+
+extensions-step : (w : ℕ) (ns : List (List ℕ)) (fuel : ℕ) (k : Seen) (p : ℕ) (s : List ℕ) → 1 ≤ length s
+    → readExtensions w ns (suc fuel) k p s
+    ≡ bind (readExtension w ns k p s) (λ x m. bind (readExtensions w ns fuel (alsoSeen x k) (p + m) (drop m s)) (λ xs n. good (x ∷ xs) 0))
+unfolding readExtensions
+extensions-step w ns fuel k p [] h = absurd (omega arith)
+extensions-step w ns fuel k p (y ∷ s) h = refl
+
+pub read-extensions : (w : ℕ) (ns : List (List ℕ)) (fuel : ℕ) (k : Seen) (p : ℕ) {xs : List Extension} {a : List ℕ} → Extensions w ns xs a → Once k xs
+    → length a ≤ fuel → readExtensions w ns fuel k p a ≡ good xs (length a)
+unfolding readExtensions bind shift
+read-extensions w ns zero k p extensions-end once h = refl
+read-extensions w ns (suc fuel) k p extensions-end once h = refl
+read-extensions w ns zero k p (extensions-more {a = a} {b = b} e es) once h =
+    let l = length-append a b in let long = extension-long e in absurd (omega arith)
+read-extensions w ns (suc fuel) k p (extensions-more {x = x} {xs = xs} {a = a} {b = b} e es) once h =
+    let l = length-append a b in
+    let long = extension-long e in
+    let one = read-extension w ns k p b e (once-new x xs k once) in
+    let more = read-extensions w ns fuel (alsoSeen x k) (p + length a) es (once-rest x xs k once) (omega arith) in
+    extensions-step w ns fuel k p (a ++ b) (omega arith) ∙ simp (one, drop-append-seam, more, length-append) (same-size (omega arith))
+
+pub extensions-read : (w : ℕ) (ns : List (List ℕ)) (fuel : ℕ) (k : Seen) (p : ℕ) (s : List ℕ) (xs : List Extension) (m : ℕ) → Bytes s
+    → readExtensions w ns fuel k p s ≡ good xs m → (m ≡ length s) × Extensions w ns xs s × Once k xs
+unfolding readExtensions
+extensions-read w ns zero k p [] xs m are q = good-inv _ _ _ _ q λ is size. rw (← is, ← size) (refl, extensions-end, once-end k)
+extensions-read w ns (suc fuel) k p [] xs m are q = good-inv _ _ _ _ q λ is size. rw (← is, ← size) (refl, extensions-end, once-end k)
+extensions-read w ns zero k p (y ∷ s) xs m are q = bad-good _ _ _ _ q
+extensions-read w ns (suc fuel) k p (y ∷ s) xs m are q =
+    bind-inv _ _ _ _ q λ e i₀ j₀ oneq q₁ size₀.
+    bind-inv _ _ _ _ q₁ λ es i₁ j₁ moreq q₂ size₁.
+    good-inv _ _ _ _ q₂ λ is none.
+    more (y ∷ s) e es i₀ i₁ (extension-read w ns k p (y ∷ s) e i₀ are oneq)
+    (extensions-read w ns fuel (alsoSeen e k) (p + i₀) (drop i₀ (y ∷ s)) es i₁ (bytes-drop i₀ (y ∷ s) are) moreq)
+    is
+    (omega arith)
+  where
+    more : (s : List ℕ) (e : Extension) (es : List Extension) (i₀ i₁ : ℕ) → (i₀ ≤ length s) × IsExtension w ns e (take i₀ s) × (isNew e k ≡ true)
+        → (i₁ ≡ length (drop i₀ s)) × Extensions w ns es (drop i₀ s) × Once (alsoSeen e k) es → e ∷ es ≡ xs → m ≡ i₀ + i₁
+        → (m ≡ length s) × Extensions w ns xs s × Once k xs
+    more s e es i₀ i₁ h g is size =
+        let l = length-drop i₀ s in
+        rw (← is) (omega arith, rw (take-append-drop i₀ s) at (extensions-more (h .1) (g .1)), once-more e es k (h .2) (g .2))
+
+-- any fuel that is as long as what is left gives the same
+extensions-fuel : (w : ℕ) (ns : List (List ℕ)) (f g : ℕ) (k : Seen) (p : ℕ) (s : List ℕ) → length s ≤ f → length s ≤ g
+    → readExtensions w ns f k p s ≡ readExtensions w ns g k p s
+unfolding readExtensions
+extensions-fuel w ns zero zero k p s hf hg = refl
+extensions-fuel w ns zero (suc g) k p [] hf hg = refl
+extensions-fuel w ns zero (suc g) k p (y ∷ s) hf hg = absurd (omega arith)
+extensions-fuel w ns (suc f) zero k p [] hf hg = refl
+extensions-fuel w ns (suc f) zero k p (y ∷ s) hf hg = absurd (omega arith)
+extensions-fuel w ns (suc f) (suc g) k p [] hf hg = refl
+extensions-fuel w ns (suc f) (suc g) k p (y ∷ s) hf hg =
+    bind-same (readExtension w ns k p (y ∷ s)) _ _ λ x m q.
+    let takes = extension-takes w ns k p (y ∷ s) x m q in
+    let l = length-drop m (y ∷ s) in
+    rw (extensions-fuel w ns f g (alsoSeen x k) (p + m) (drop m (y ∷ s)) (omega arith) (omega arith)) refl
+
+-- the extensions in s with no fuel to be seen, and its steps: what code is proved against
+unfoldable pub extensionsOf : ℕ → List (List ℕ) → Seen → ℕ → List ℕ → Read (List Extension)
+extensionsOf w ns k p s = readExtensions w ns (length s) k p s
+
+pub extensionsOf-end : (w : ℕ) (ns : List (List ℕ)) (k : Seen) (p : ℕ) → extensionsOf w ns k p [] ≡ good [] 0
+unfolding extensionsOf readExtensions
+extensionsOf-end w ns k p = refl
+
+pub extensionsOf-step : (w : ℕ) (ns : List (List ℕ)) (k : Seen) (p : ℕ) (s : List ℕ) → 1 ≤ length s
+    → extensionsOf w ns k p s
+    ≡ bind (readExtension w ns k p s) (λ x m. bind (extensionsOf w ns (alsoSeen x k) (p + m) (drop m s)) (λ xs n. good (x ∷ xs) 0))
+unfolding extensionsOf
+extensionsOf-step w ns k p s h =
+    extensions-fuel w ns (length s) (suc (length s)) k p s (omega arith) (omega arith)
+    ∙ extensions-step w ns (length s) k p s h
+    ∙ bind-same (readExtension w ns k p s) _ _ λ x m q.
+    let takes = extension-takes w ns k p s x m q in
+    let l = length-drop m s in
+    rw (extensions-fuel w ns (length s) (length (drop m s)) (alsoSeen x k) (p + m) (drop m s) (omega arith) (omega arith)) refl
