@@ -16,7 +16,7 @@ use Rattle.format.specs.Reading.{Read, bad, good, need, shift, bind}
 use Rattle.format.specs.Reader.{readTree, readUndos, Seen, noneSeen, alsoSeen, readData, readExtension, readExtensions, first}
 use Rattle.spelling_entries.proofs.Reading.{false-true, and-inv, cond-inv, eqList-true, eqList-refl, bad-good, good-inv, need-inv, shift-inv, bind-inv}
 use Rattle.spelling_entries.proofs.Bytes.{bytes-drop, length-put32, be32-at, be32-below, put32-be32}
-use Rattle.spelling_extensions.proofs.Texts.{same-size, bind-same}
+use Rattle.spelling_extensions.proofs.Answers.{same-size, fuel-step}
 use Rattle.spelling_extensions.proofs.Tree.{read-tree, tree-read}
 use Rattle.spelling_extensions.proofs.Undo.{read-undos, undos-read}
 
@@ -198,6 +198,11 @@ extension-long h = rw (h .bytes) (simp length-append (omega (arith, length-put32
 
 -- ---- all extensions
 
+extensions-none : (w : ℕ) (ns : List (List ℕ)) (fuel : ℕ) (k : Seen) (p : ℕ) → readExtensions w ns fuel k p [] ≡ good [] 0
+unfolding readExtensions
+extensions-none w ns zero k p = refl
+extensions-none w ns (suc fuel) k p = refl
+
 extensions-step : (w : ℕ) (ns : List (List ℕ)) (fuel : ℕ) (k : Seen) (p : ℕ) (s : List ℕ) → 1 ≤ length s
     → readExtensions w ns (suc fuel) k p s
     ≡ bind (readExtension w ns k p s) (λ x m. bind (readExtensions w ns fuel (alsoSeen x k) (p + m) (drop m s)) (λ xs n. good (x ∷ xs) 0))
@@ -207,9 +212,8 @@ extensions-step w ns fuel k p (y ∷ s) h = refl
 
 pub read-extensions : (w : ℕ) (ns : List (List ℕ)) (fuel : ℕ) (k : Seen) (p : ℕ) {xs : List Extension} {a : List ℕ} → Extensions w ns xs a → Once k xs
     → length a ≤ fuel → readExtensions w ns fuel k p a ≡ good xs (length a)
-unfolding readExtensions bind shift
-read-extensions w ns zero k p extensions-end once h = refl
-read-extensions w ns (suc fuel) k p extensions-end once h = refl
+unfolding bind shift
+read-extensions w ns fuel k p extensions-end once h = extensions-none w ns fuel k p
 read-extensions w ns zero k p (extensions-more {a = a} {b = b} e es) once h =
     let l = length-append a b in let long = extension-long e in absurd (omega arith)
 read-extensions w ns (suc fuel) k p (extensions-more {x = x} {xs = xs} {a = a} {b = b} e es) once h =
@@ -241,38 +245,26 @@ extensions-read w ns (suc fuel) k p (y ∷ s) xs m are q =
         let l = length-drop i₀ s in
         rw (← is) (omega arith, rw (take-append-drop i₀ s) at (extensions-more (h .1) (g .1)), once-more e es k (h .2) (g .2))
 
--- any fuel that is as long as what is left gives the same
-extensions-fuel : (w : ℕ) (ns : List (List ℕ)) (f g : ℕ) (k : Seen) (p : ℕ) (s : List ℕ) → length s ≤ f → length s ≤ g
-    → readExtensions w ns f k p s ≡ readExtensions w ns g k p s
-unfolding readExtensions
-extensions-fuel w ns zero zero k p s hf hg = refl
-extensions-fuel w ns zero (suc g) k p [] hf hg = refl
-extensions-fuel w ns zero (suc g) k p (y ∷ s) hf hg = absurd (omega arith)
-extensions-fuel w ns (suc f) zero k p [] hf hg = refl
-extensions-fuel w ns (suc f) zero k p (y ∷ s) hf hg = absurd (omega arith)
-extensions-fuel w ns (suc f) (suc g) k p [] hf hg = refl
-extensions-fuel w ns (suc f) (suc g) k p (y ∷ s) hf hg =
-    bind-same (readExtension w ns k p (y ∷ s)) _ _ λ x m q.
-    let takes = extension-takes w ns k p (y ∷ s) x m q in
-    let l = length-drop m (y ∷ s) in
-    rw (extensions-fuel w ns f g (alsoSeen x k) (p + m) (drop m (y ∷ s)) (omega arith) (omega arith)) refl
-
 -- the extensions in s with no fuel to be seen, and its steps: what code is proved against
 unfoldable pub extensionsOf : ℕ → List (List ℕ) → Seen → ℕ → List ℕ → Read (List Extension)
 extensionsOf w ns k p s = readExtensions w ns (length s) k p s
 
 pub extensionsOf-end : (w : ℕ) (ns : List (List ℕ)) (k : Seen) (p : ℕ) → extensionsOf w ns k p [] ≡ good [] 0
-unfolding extensionsOf readExtensions
-extensionsOf-end w ns k p = refl
+unfolding extensionsOf
+extensionsOf-end w ns k p = extensions-none w ns 0 k p
 
 pub extensionsOf-step : (w : ℕ) (ns : List (List ℕ)) (k : Seen) (p : ℕ) (s : List ℕ) → 1 ≤ length s
     → extensionsOf w ns k p s
     ≡ bind (readExtension w ns k p s) (λ x m. bind (extensionsOf w ns (alsoSeen x k) (p + m) (drop m s)) (λ xs n. good (x ∷ xs) 0))
 unfolding extensionsOf
 extensionsOf-step w ns k p s h =
-    extensions-fuel w ns (length s) (suc (length s)) k p s (omega arith) (omega arith)
-    ∙ extensions-step w ns (length s) k p s h
-    ∙ bind-same (readExtension w ns k p s) _ _ λ x m q.
-    let takes = extension-takes w ns k p s x m q in
-    let l = length-drop m s in
-    rw (extensions-fuel w ns (length s) (length (drop m s)) (alsoSeen x k) (p + m) (drop m s) (omega arith) (omega arith)) refl
+    fuel-step {Q = Seen × ℕ}
+    (λ q t. readExtension w ns (q .0) (q .1) t)
+    (λ q x m. (alsoSeen x (q .0), q .1 + m))
+    (λ fuel q t. readExtensions w ns fuel (q .0) (q .1) t)
+    (λ fuel q. extensions-none w ns fuel (q .0) (q .1))
+    (λ fuel q t. extensions-step w ns fuel (q .0) (q .1) t)
+    (λ q t x m e. let takes = extension-takes w ns (q .0) (q .1) t x m e in omega arith)
+    (k, p)
+    s
+    h

@@ -15,27 +15,8 @@ use Rattle.format.specs.Layout.{CountText}
 use Rattle.format.specs.Reading.{Read, bad, good, need, shift, bind}
 use Rattle.format.specs.Reader.{readText, countIn, needSome}
 use Rattle.spelling_entries.proofs.Reading.{false-true, and-inv, cond-inv, bad-good, good-inv, need-inv}
+use Rattle.spelling_extensions.proofs.Answers.{none-some}
 use Rattle.spelling_entries.proofs.Bytes.{before-at, lacks-before, take-before}
-
--- ---- answers
-
-pub same-size : {A : Type 0} {a : A} {m n : ℕ} → m ≡ n → good a m ≡ good a n
-same-size {a = a} e = ap (λ x. good a x) e
-
--- what comes next may be told what the first part answered
-pub bind-same : {A B : Type 0} (r : Read A) (k l : A → ℕ → Read B) → ((a : A) (m : ℕ) → r ≡ good a m → k a m ≡ l a m) → bind r k ≡ bind r l
-unfolding bind
-bind-same (bad n p) k l h = refl
-bind-same (good a m) k l h = ap (λ x. shift m x) (h a m refl)
-
-pub none-some {ℓ} : {A : Type 0} {X : Type ℓ} {a : A} → none ≡ some a → X
-none-some e = let z : _≡_ {A = ℕ} 0 1 = cc in absurd (omega arith)
-
-pub needSome-inv {ℓ} : {A B : Type 0} {X : Type ℓ} (o : Option A) (n p : ℕ) (k : A → Read B) (b : B) (m : ℕ) → needSome o n p k ≡ good b m
-    → ((a : A) → o ≡ some a → k a ≡ good b m → X) → X
-unfolding needSome
-needSome-inv none n p k b m e f = bad-good n p b m e
-needSome-inv (some a) n p k b m e f = f a refl e
 
 -- ---- a text that the byte b ends
 

@@ -15,7 +15,8 @@ use Rattle.format.specs.Reading.{Read, bad, good, need, shift, bind}
 use Rattle.format.specs.Reader.{readText, countIn, needSome, readCount, readSubtrees, readObject, Head, readNode, readSiblings, readForest, readNodes, readTree}
 use Rattle.spelling_entries.proofs.Reading.{and-inv, bad-good, good-inv, need-inv, bind-inv, need-good, bind-good}
 use Rattle.spelling_entries.proofs.Bytes.{after-text}
-use Rattle.spelling_extensions.proofs.Texts.{same-size, needSome-inv, read-text, text-read, parts-fit, text-then, decimal-lacks, count-lacks, read-count-text, count-text-read}
+use Rattle.spelling_extensions.proofs.Answers.{same-size, needSome-inv}
+use Rattle.spelling_extensions.proofs.Texts.{read-text, text-read, parts-fit, text-then, decimal-lacks, count-lacks, read-count-text, count-text-read}
 
 -- ---- one node
 

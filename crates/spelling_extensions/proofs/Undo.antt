@@ -18,7 +18,8 @@ use Rattle.format.specs.Reader.{readText, needSome, modeIn, readMode, readStage
 use Rattle.spelling_entries.proofs.Reading.{false-true, and-inv, cond-inv, eqList-true, bad-good, good-inv, need-inv, bind-inv}
 use Rattle.spelling_entries.proofs.Bytes.{after-text}
 use Rattle.spelling_entries.proofs.Names.{okName-lacks}
-use Rattle.spelling_extensions.proofs.Texts.{same-size, bind-same, none-some, needSome-inv, read-text, text-read, parts-fit, text-then}
+use Rattle.spelling_extensions.proofs.Answers.{same-size, none-some, needSome-inv, fuel-step}
+use Rattle.spelling_extensions.proofs.Texts.{read-text, text-read, parts-fit, text-then}
 
 -- ---- modes
 
@@ -223,6 +224,11 @@ undo-takes w p previous s u m q =
 
 -- ---- all records
 
+undos-none : (w p fuel : ℕ) (previous : List ℕ) → readUndos w p fuel previous [] ≡ good [] 0
+unfolding readUndos
+undos-none w p zero previous = refl
+undos-none w p (suc fuel) previous = refl
+
 undos-step : (w p fuel : ℕ) (previous s : List ℕ) → 1 ≤ length s
     → readUndos w p (suc fuel) previous s
     ≡ bind (readUndo w p previous s) (λ u m. bind (readUndos w p fuel (u .path) (drop m s)) (λ us n. good (u ∷ us) 0))
@@ -232,9 +238,8 @@ undos-step w p fuel previous (x ∷ s) h = refl
 
 pub read-undos : (w p fuel : ℕ) {previous : List ℕ} {us : List Undo} {a : List ℕ} → Undos w previous us a → length a ≤ fuel
     → readUndos w p fuel previous a ≡ good us (length a)
-unfolding readUndos bind shift
-read-undos w p zero undos-end h = refl
-read-undos w p (suc fuel) undos-end h = refl
+unfolding bind shift
+read-undos w p fuel undos-end h = undos-none w p fuel _
 read-undos w p zero (undos-more {a = a} {b = b} x y) h = let l = length-append a b in let long = undo-long x in absurd (omega arith)
 read-undos w p (suc fuel) (undos-more {previous = previous} {a = a} {b = b} x y) h =
     let l = length-append a b in
@@ -261,36 +266,16 @@ undos-read w p (suc fuel) previous (x ∷ s) us m q =
         let l = length-drop i₀ s in
         rw (← is) (omega arith, rw (take-append-drop i₀ s) at (undos-more (h .1) (k .1)))
 
--- any fuel that is as long as what is left gives the same
-undos-fuel : (w p f g : ℕ) (previous s : List ℕ) → length s ≤ f → length s ≤ g → readUndos w p f previous s ≡ readUndos w p g previous s
-unfolding readUndos
-undos-fuel w p zero zero previous s hf hg = refl
-undos-fuel w p zero (suc g) previous [] hf hg = refl
-undos-fuel w p zero (suc g) previous (x ∷ s) hf hg = absurd (omega arith)
-undos-fuel w p (suc f) zero previous [] hf hg = refl
-undos-fuel w p (suc f) zero previous (x ∷ s) hf hg = absurd (omega arith)
-undos-fuel w p (suc f) (suc g) previous [] hf hg = refl
-undos-fuel w p (suc f) (suc g) previous (x ∷ s) hf hg =
-    bind-same (readUndo w p previous (x ∷ s)) _ _ λ u m q.
-    let takes = undo-takes w p previous (x ∷ s) u m q in
-    let l = length-drop m (x ∷ s) in
-    rw (undos-fuel w p f g (u .path) (drop m (x ∷ s)) (omega arith) (omega arith)) refl
-
 -- the records in s with no fuel to be seen, and its steps: what code is proved against
 unfoldable pub undosOf : ℕ → ℕ → List ℕ → List ℕ → Read (List Undo)
 undosOf w p previous s = readUndos w p (length s) previous s
 
 pub undosOf-end : (w p : ℕ) (previous : List ℕ) → undosOf w p previous [] ≡ good [] 0
-unfolding undosOf readUndos
-undosOf-end w p previous = refl
+unfolding undosOf
+undosOf-end w p previous = undos-none w p 0 previous
 
 pub undosOf-step : (w p : ℕ) (previous s : List ℕ) → 1 ≤ length s
     → undosOf w p previous s ≡ bind (readUndo w p previous s) (λ u m. bind (undosOf w p (u .path) (drop m s)) (λ us n. good (u ∷ us) 0))
 unfolding undosOf
 undosOf-step w p previous s h =
-    undos-fuel w p (length s) (suc (length s)) previous s (omega arith) (omega arith)
-    ∙ undos-step w p (length s) previous s h
-    ∙ bind-same (readUndo w p previous s) _ _ λ u m q.
-    let takes = undo-takes w p previous s u m q in
-    let l = length-drop m s in
-    rw (undos-fuel w p (length s) (length (drop m s)) (u .path) (drop m s) (omega arith) (omega arith)) refl
+    fuel-step (readUndo w p) (λ q u m. u .path) (readUndos w p) (undos-none w p) (undos-step w p) (λ q t u m e. undo-takes w p q t u m e .0) previous s h
