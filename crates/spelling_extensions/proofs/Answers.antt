@@ -29,11 +29,10 @@ bind-same (good a m) k l h = ap (λ x. shift m x) (h a m refl)
 
 -- ---- fuel: read reads a list by the reader one, each element of which takes at least a byte; q is what an element is told of those before
 module _ {A Q : Type 0} (one : Q → List ℕ → Read A) (next : Q → A → ℕ → Q) (read : ℕ → Q → List ℕ → Read (List A))
-  (end : (fuel : ℕ) (q : Q) → read fuel q [] ≡ good [] 0)
-  (step : (fuel : ℕ) (q : Q) (s : List ℕ) → 1 ≤ length s
+    (end : (fuel : ℕ) (q : Q) → read fuel q [] ≡ good [] 0)
+    (step : (fuel : ℕ) (q : Q) (s : List ℕ) → 1 ≤ length s
     → read (suc fuel) q s ≡ bind (one q s) (λ a m. bind (read fuel (next q a m) (drop m s)) (λ rest n. good (a ∷ rest) 0)))
-  (takes : (q : Q) (s : List ℕ) (a : A) (m : ℕ) → one q s ≡ good a m → 1 ≤ m) where
-
+    (takes : (q : Q) (s : List ℕ) (a : A) (m : ℕ) → one q s ≡ good a m → 1 ≤ m) where
   -- any fuel that is as long as what is left gives the same
   pub same-fuel : (f g : ℕ) (q : Q) (s : List ℕ) → length s ≤ f → length s ≤ g → read f q s ≡ read g q s
   same-fuel zero g q [] hf hg = end 0 q ∙ sym (end g q)

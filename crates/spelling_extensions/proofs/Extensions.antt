@@ -1,20 +1,20 @@
 -- Extensions that are spelled, at most one of each known kind, are read, and what is read was spelled and has at most one of each.
-use mathlib.Core.Path.{_≡_, refl, sym, ap, _∙_}
+use mathlib.Core.Path.{_≡_, refl, sym, _∙_}
 use mathlib.Core.List.{List, [], _∷_, _++_, append-assoc}
-use mathlib.Core.Bool.{Bool, true, false, not, _&&_}
+use mathlib.Core.Bool.{Bool, true, false, not}
 use mathlib.Core.Option.{Option, none, some}
-use Prim.Native.Nat.{ℕ, zero, suc, _+_, _-_, _≤_, _<_}
+use Prim.Native.Nat.{ℕ, zero, suc, _+_, _≤_}
 use native.Mathlib.Omega.{arith}
-use lib.ListN.{length, take, drop, getD, length-append, length-drop, take-append-drop}
+use lib.ListN.{length, take, drop, length-append, length-drop, take-append-drop}
 use lib.Seq.{take-append-seam, drop-append-seam, length-take-le, take-add, take-at, drop-at, drop-drop, getD-take}
 use lib.Dec.{leb}
-use borrow.Author.Tests.{leb-true, le-leb, not-true}
+use borrow.Author.Tests.{leb-true, le-leb}
 use Rattle.format.specs.Bytes.{Bytes, be32, put32, eqList}
 use Rattle.format.specs.Records.{Tree, Undo}
-use Rattle.format.specs.Layout.{bit, IsTree, okTreeCounts, Undos, Extension, cacheTree, resolveUndo, other, TREE, REUC, optional, Says, IsExtension, Extensions, extensions-end, extensions-more, trees, undos, only}
-use Rattle.format.specs.Reading.{Read, bad, good, need, shift, bind}
-use Rattle.format.specs.Reader.{readTree, readUndos, Seen, noneSeen, alsoSeen, readData, readExtension, readExtensions, first}
-use Rattle.spelling_entries.proofs.Reading.{false-true, and-inv, cond-inv, eqList-true, eqList-refl, bad-good, good-inv, need-inv, shift-inv, bind-inv}
+use Rattle.format.specs.Layout.{bit, Extension, cacheTree, resolveUndo, other, TREE, REUC, optional, Says, IsExtension, Extensions, extensions-end, extensions-more, trees, undos, only}
+use Rattle.format.specs.Reading.{Read, good, need, shift, bind}
+use Rattle.format.specs.Reader.{Seen, noneSeen, alsoSeen, readData, readExtension, readExtensions, first}
+use Rattle.spelling_entries.proofs.Reading.{false-true, cond-inv, eqList-true, bad-good, good-inv, need-inv, shift-inv, bind-inv}
 use Rattle.spelling_entries.proofs.Bytes.{bytes-drop, length-put32, be32-at, be32-below, put32-be32}
 use Rattle.spelling_extensions.proofs.Answers.{same-size, fuel-step}
 use Rattle.spelling_extensions.proofs.Tree.{read-tree, tree-read}
@@ -185,9 +185,8 @@ extension-read w ns k p s x m are q =
     let m-is : m ≡ 4 + (4 + n) = omega arith in
     let number : put32 n ≡ take 4 (drop 4 s) = put32-be32 s 4 are (omega arith) in
     let bytes : take (4 + (4 + n)) s ≡ take 4 s ++ (put32 (length d) ++ d) =
-        take-add 4 (4 + n) s ∙ rw (take-add 4 n (drop 4 s), drop-drop 4 4 s, left, number) refl in
-    rw m-is
-    (
+    take-add 4 (4 + n) s ∙ rw (take-add 4 n (drop 4 s), drop-drop 4 4 s, left, number) refl in
+    rw m-is (
       omega arith,
       record { signature = take 4 s; content = d; says = h .2; fits = rw left (be32-below s 4 are); bytes = bytes },
       h .3,

@@ -1,8 +1,8 @@
 -- Texts that a byte ends, decimals and entry counts: what is spelled is read, and what is read was spelled.
-use mathlib.Core.Path.{_≡_, refl, ap, _∙_}
+use mathlib.Core.Path.{_≡_, refl, _∙_}
 use mathlib.Core.List.{List, [], _∷_, _++_, append-assoc}
 use mathlib.Core.Bool.{true, false, not, _&&_}
-use mathlib.Core.Option.{Option, none, some}
+use mathlib.Core.Option.{some}
 use Prim.Native.Nat.{ℕ, _+_, _≤_, _<_}
 use native.Mathlib.Omega.{arith}
 use lib.ListN.{length, take, drop, length-append, length-drop}
@@ -12,9 +12,9 @@ use borrow.Author.Tests.{ltb-true, lt-ltb, leb-true, le-leb, eqb-true, ne-eqb}
 use Rattle.format.specs.Bytes.{before, lacks, digits, decimal, value}
 use Rattle.format.specs.Records.{Count, valid, invalid}
 use Rattle.format.specs.Layout.{CountText}
-use Rattle.format.specs.Reading.{Read, bad, good, need, shift, bind}
-use Rattle.format.specs.Reader.{readText, countIn, needSome}
-use Rattle.spelling_entries.proofs.Reading.{false-true, and-inv, cond-inv, bad-good, good-inv, need-inv}
+use Rattle.format.specs.Reading.{good, need}
+use Rattle.format.specs.Reader.{readText, countIn}
+use Rattle.spelling_entries.proofs.Reading.{false-true, and-inv, cond-inv, good-inv, need-inv}
 use Rattle.spelling_extensions.proofs.Answers.{none-some}
 use Rattle.spelling_entries.proofs.Bytes.{before-at, lacks-before, take-before}
 

@@ -1,19 +1,19 @@
 -- A cache tree that is spelled is read, and what is read was spelled.
-use mathlib.Core.Path.{_≡_, refl, sym, ap, _∙_}
+use mathlib.Core.Path.{_≡_, refl, ap}
 use mathlib.Core.List.{List, [], _∷_, _++_, append-assoc, append-nil}
-use mathlib.Core.Bool.{Bool, true, false, _&&_}
-use Prim.Native.Nat.{ℕ, zero, suc, _+_, _-_, _≤_, _<_}
+use mathlib.Core.Bool.{true}
+use Prim.Native.Nat.{ℕ, zero, suc, _+_, _≤_}
 use native.Mathlib.Omega.{arith}
-use lib.ListN.{length, take, drop, replicate, length-append, length-drop}
+use lib.ListN.{length, take, drop, length-append}
 use lib.Seq.{drop-append-seam, length-take-le, take-add, take-at, take-length}
-use lib.Dec.{eqb, leb, ltb}
+use lib.Dec.{eqb, leb}
 use borrow.Author.Tests.{leb-true, le-leb, eqb-true, eq-eqb}
-use Rattle.format.specs.Bytes.{lacks, decimal, value}
-use Rattle.format.specs.Records.{Count, valid, invalid, Node, Forest, nil, tree, Tree, width}
-use Rattle.format.specs.Layout.{CountText, ObjectBytes, IsNode, okNodeName, Siblings, siblings-end, siblings-more, distinct, IsTree, okTreeCounts}
-use Rattle.format.specs.Reading.{Read, bad, good, need, shift, bind}
-use Rattle.format.specs.Reader.{readText, countIn, needSome, readCount, readSubtrees, readObject, Head, readNode, readSiblings, readForest, readNodes, readTree}
-use Rattle.spelling_entries.proofs.Reading.{and-inv, bad-good, good-inv, need-inv, bind-inv, need-good, bind-good}
+use Rattle.format.specs.Bytes.{decimal, value}
+use Rattle.format.specs.Records.{Count, valid, invalid, Node, Forest, Tree, width}
+use Rattle.format.specs.Layout.{CountText, ObjectBytes, IsNode, Siblings, siblings-end, siblings-more, distinct, IsTree, okTreeCounts}
+use Rattle.format.specs.Reading.{Read, good, need, shift, bind}
+use Rattle.format.specs.Reader.{needSome, readCount, readSubtrees, readObject, Head, readNode, readSiblings, readForest, readNodes, readTree}
+use Rattle.spelling_entries.proofs.Reading.{and-inv, bad-good, good-inv, need-inv, bind-inv}
 use Rattle.spelling_entries.proofs.Bytes.{after-text}
 use Rattle.spelling_extensions.proofs.Answers.{same-size, needSome-inv}
 use Rattle.spelling_extensions.proofs.Texts.{read-text, text-read, parts-fit, text-then, decimal-lacks, count-lacks, read-count-text, count-text-read}
@@ -81,8 +81,7 @@ read-node w p {n} {k} {a} rest h =
     let s₁ : List ℕ = h .countText ++ (32 ∷ s₂) in
     let fits : value (h .subtreesText) ≤ 2147483647 = rw (h .subtrees-value) (h .subtrees-fit) in
     rw (h .bytes)
-    (simp
-    (
+    (simp (
       append-assoc,
       read-text 0 15 p (n .name) s₁ (h .named),
       after-text,
@@ -110,8 +109,7 @@ node-read w p s h m q =
     let k = subtrees-read p s₂ subtrees i₂ subtreesq in
     let o = object-read w p count s₃ object i₃ objectq in
     let m-is : m ≡ i₀ + (i₁ + (i₂ + i₃)) = omega arith in
-    rw (m-is, ← is)
-    (
+    rw (m-is, ← is) (
       parts-fit i₀ _ s (t .0) (parts-fit i₁ _ s₁ (c .0) (parts-fit i₂ i₃ s₂ (k .0) (o .0))),
       record {
         named = t .2;
@@ -135,8 +133,7 @@ unfolding readForest readSiblings width bind shift need
 read-siblings w p rest (siblings-end {levels = zero}) = refl
 read-siblings w p rest (siblings-end {levels = suc levels}) = refl
 read-siblings w p rest (siblings-more {a = a} {b = b} {c = c} named x y z) =
-    simp
-    (
+    simp (
       append-assoc,
       drop-append-seam,
       read-node w p (b ++ (c ++ rest)) x,
@@ -167,8 +164,7 @@ siblings-read-by w p levels go go-read (suc k) s f m q =
     let z = siblings-read-by w p levels go go-read k s₂ after i₂ afterq in
     let node : IsNode w (h .node) (width kids) (take i₀ s) = rw (y .1) (x .1) in
     let m-is : m ≡ i₀ + (i₁ + i₂) = omega arith in
-    rw (m-is, ← is)
-    (
+    rw (m-is, ← is) (
       parts-fit i₀ _ s (x .0) (parts-fit i₁ i₂ s₁ (y .0) (z .0)),
       ap suc (z .1),
       rw (take-add i₀ (i₁ + i₂) s, take-add i₁ i₂ s₁) (siblings-more named node (y .2) (z .2)),
@@ -189,8 +185,7 @@ unfolding readNodes bind shift need
 read-nodes w p {t} {a} rest h =
     let unnamed : eqb (length (t .root .name)) 0 ≡ true = eq-eqb (length (t .root .name)) 0 (ap (λ (s : List ℕ). length s) (h .rootName)) in
     rw (h .bytes)
-    (simp
-    (
+    (simp (
       append-assoc,
       drop-append-seam,
       read-node w p (h .restBytes ++ rest) (h .rootNode),
@@ -221,8 +216,7 @@ nodes-read w p s t m q differ =
     let node : IsNode w (h .node) (width kids) (take i₀ s) = rw (y .1) (x .1) in
     let m-is : m ≡ i₀ + i₁ = omega arith in
     let differ₁ : distinct kids ≡ true = rw (← is) at differ in
-    rw (m-is, ← is)
-    (
+    rw (m-is, ← is) (
       parts-fit i₀ i₁ s (x .0) (y .0),
       record {
         rootBytes = take i₀ s;

@@ -1,21 +1,21 @@
 -- Resolve-undo data that is spelled is read, and what is read was spelled.
-use mathlib.Core.Path.{_≡_, refl, sym, ap, _∙_}
-use mathlib.Core.List.{List, [], _∷_, _++_, append-assoc, append-nil}
-use mathlib.Core.Bool.{Bool, true, false, cond, not, _&&_, _||_}
+use mathlib.Core.Path.{_≡_, refl, sym, _∙_}
+use mathlib.Core.List.{List, [], _∷_, _++_, append-assoc}
+use mathlib.Core.Bool.{Bool, true, false, cond, _||_}
 use mathlib.Core.Option.{Option, none, some}
-use Prim.Native.Nat.{ℕ, zero, suc, _+_, _-_, _≤_, _<_}
+use Prim.Native.Nat.{ℕ, zero, suc, _+_, _≤_}
 use native.Mathlib.Omega.{arith}
 use lib.ListN.{length, take, drop, replicate, length-append, length-drop, take-append-drop}
-use lib.Seq.{drop-append-seam, length-take-le, take-add, take-at, take-all}
-use lib.Dec.{eqb, leb, ltb}
-use borrow.Author.Tests.{leb-true, le-leb, eqb-true, eq-eqb}
+use lib.Seq.{drop-append-seam, length-take-le, take-add, take-at}
+use lib.Dec.{eqb, leb}
+use borrow.Author.Tests.{leb-true, le-leb, eqb-true}
 use Rattle.format.specs.Bytes.{lacks, eqList}
-use Rattle.format.specs.Names.{okName, compare, isBelow}
+use Rattle.format.specs.Names.{okName}
 use Rattle.format.specs.Records.{Stage, Undo}
 use Rattle.format.specs.Layout.{okMode, modeText, IsStage, someStage, IsUndo, Undos, undos-end, undos-more}
-use Rattle.format.specs.Reading.{Read, bad, good, need, shift, bind}
-use Rattle.format.specs.Reader.{readText, needSome, modeIn, readMode, readStage, readStages, readUndo, readUndos}
-use Rattle.spelling_entries.proofs.Reading.{false-true, and-inv, cond-inv, eqList-true, bad-good, good-inv, need-inv, bind-inv}
+use Rattle.format.specs.Reading.{Read, good, need, shift, bind}
+use Rattle.format.specs.Reader.{needSome, modeIn, readMode, readStage, readStages, readUndo, readUndos}
+use Rattle.spelling_entries.proofs.Reading.{and-inv, cond-inv, eqList-true, bad-good, good-inv, need-inv, bind-inv}
 use Rattle.spelling_entries.proofs.Bytes.{after-text}
 use Rattle.spelling_entries.proofs.Names.{okName-lacks}
 use Rattle.spelling_extensions.proofs.Answers.{same-size, none-some, needSome-inv, fuel-step}
@@ -128,8 +128,7 @@ read-stages : (w p : ℕ) (u : Undo) (a b c rest : List ℕ) → IsStage w (u .f
     → readStages w p (u .path) (u .first .mode) (u .second .mode) (u .third .mode) (a ++ (b ++ (c ++ rest))) ≡ good u (length a + (length b + length c))
 unfolding readStages bind shift need someStage
 read-stages w p u a b c rest x y z stages =
-    simp
-    (
+    simp (
       drop-append-seam,
       read-stage w p (u .first) a (b ++ (c ++ rest)) x,
       read-stage w p (u .second) b (c ++ rest) y,
@@ -146,8 +145,7 @@ read-undo w p {previous} {u} {a} rest h =
     let s₂ : List ℕ = modeText (u .second .mode) ++ (0 ∷ s₃) in
     let s₁ : List ℕ = modeText (u .first .mode) ++ (0 ∷ s₂) in
     rw (h .bytes)
-    (simp
-    (
+    (simp (
       append-assoc,
       read-text 0 17 p (u .path) s₁ (okName-lacks (u .path) (h .path)),
       after-text,
@@ -190,11 +188,10 @@ undo-read w p previous s u m q =
     let sz = stage-read w p c s₆ z i₆ (mc .2) zq in
     let objects : take (i₄ + (i₅ + i₆)) s₄ ≡ take i₄ s₄ ++ (take i₅ s₅ ++ take i₆ s₆) = rw (take-add i₄ (i₅ + i₆) s₄, take-add i₅ i₆ s₅) refl in
     let m-is : m ≡ i₀ + (i₁ + (i₂ + (i₃ + (i₄ + (i₅ + i₆))))) = omega arith in
-    rw (m-is, ← is)
-    (
+    rw (m-is, ← is) (
       parts-fit i₀ _ s (t .0)
-      (parts-fit i₁ _ s₁ (ma .0)
-      (parts-fit i₂ _ s₂ (mb .0) (parts-fit i₃ _ s₃ (mc .0) (parts-fit i₄ _ s₄ (sx .0) (parts-fit i₅ i₆ s₅ (sy .0) (sz .0)))))),
+          (parts-fit i₁ _ s₁ (ma .0)
+          (parts-fit i₂ _ s₂ (mb .0) (parts-fit i₃ _ s₃ (mc .0) (parts-fit i₄ _ s₄ (sx .0) (parts-fit i₅ i₆ s₅ (sy .0) (sz .0)))))),
       record {
         path = ok .0;
         order = ok .1;
