@@ -100,7 +100,7 @@ data-read w ns k p s d x m four may q =
     (λ tree q₁.
     need-inv _ _ _ _ _ _ q₁ λ new q₂.
     bind-inv _ _ _ _ q₂ λ t i j treeq q₃ size.
-    good-inv _ _ _ _ q₃ λ is none.
+    good-inv _ _ _ _ q₃ λ is done.
     let h = tree-read w ns p d t i treeq in
     rw (← is) (omega arith, (eqList-true s TREE tree, h .1, h .2), new))
     λ no-tree q₁.
@@ -108,7 +108,7 @@ data-read w ns k p s d x m four may q =
     (λ undo q₂.
     need-inv _ _ _ _ _ _ q₂ λ new q₃.
     bind-inv _ _ _ _ q₃ λ us i j undosq q₄ size.
-    good-inv _ _ _ _ q₄ λ is none.
+    good-inv _ _ _ _ q₄ λ is done.
     let h = undos-read w p (length d) [] d us i undosq in
     rw (← is) (omega arith, (eqList-true s REUC undo, h .1), new))
     λ no-undo q₂.
@@ -184,11 +184,10 @@ extension-read w ns k p s x m are q =
     let left : length d ≡ n = length-take-le n (drop 8 s) (omega arith) in
     let m-is : m ≡ 4 + (4 + n) = omega arith in
     let number : put32 n ≡ take 4 (drop 4 s) = put32-be32 s 4 are (omega arith) in
-    let bytes : take (4 + (4 + n)) s ≡ take 4 s ++ (put32 (length d) ++ d) =
-    take-add 4 (4 + n) s ∙ rw (take-add 4 n (drop 4 s), drop-drop 4 4 s, left, number) refl in
+    let parts : take (4 + n) (drop 4 s) ≡ put32 (length d) ++ d = rw (take-add 4 n (drop 4 s), drop-drop 4 4 s, left, number) refl in
     rw m-is (
       omega arith,
-      record { signature = take 4 s; content = d; says = h .2; fits = rw left (be32-below s 4 are); bytes = bytes },
+      record { signature = take 4 s; content = d; says = h .2; fits = rw left (be32-below s 4 are); bytes = take-add 4 (4 + n) s ∙ rw parts refl },
       h .3,
     )
 
@@ -231,7 +230,7 @@ extensions-read w ns zero k p (y ∷ s) xs m are q = bad-good _ _ _ _ q
 extensions-read w ns (suc fuel) k p (y ∷ s) xs m are q =
     bind-inv _ _ _ _ q λ e i₀ j₀ oneq q₁ size₀.
     bind-inv _ _ _ _ q₁ λ es i₁ j₁ moreq q₂ size₁.
-    good-inv _ _ _ _ q₂ λ is none.
+    good-inv _ _ _ _ q₂ λ is done.
     more (y ∷ s) e es i₀ i₁ (extension-read w ns k p (y ∷ s) e i₀ are oneq)
     (extensions-read w ns fuel (alsoSeen e k) (p + i₀) (drop i₀ (y ∷ s)) es i₁ (bytes-drop i₀ (y ∷ s) are) moreq)
     is

@@ -2,7 +2,7 @@
 use mathlib.Core.Path.{_≡_, refl, _∙_}
 use mathlib.Core.List.{List, [], _∷_, _++_, append-assoc}
 use mathlib.Core.Bool.{true, false, not, _&&_}
-use mathlib.Core.Option.{some}
+use mathlib.Core.Option.{Option, some}
 use Prim.Native.Nat.{ℕ, _+_, _≤_, _<_}
 use native.Mathlib.Omega.{arith}
 use lib.ListN.{length, take, drop, length-append, length-drop}
@@ -12,11 +12,11 @@ use borrow.Author.Tests.{ltb-true, lt-ltb, leb-true, le-leb, eqb-true, ne-eqb}
 use Rattle.format.specs.Bytes.{before, lacks, digits, decimal, value}
 use Rattle.format.specs.Records.{Count, valid, invalid}
 use Rattle.format.specs.Layout.{CountText}
-use Rattle.format.specs.Reading.{good, need}
-use Rattle.format.specs.Reader.{readText, countIn}
-use Rattle.spelling_entries.proofs.Reading.{false-true, and-inv, cond-inv, good-inv, need-inv}
-use Rattle.spelling_extensions.proofs.Answers.{none-some}
+use Rattle.format.specs.Reading.{good, need, shift, bind}
+use Rattle.format.specs.Reader.{readText, countIn, needSome}
+use Rattle.spelling_entries.proofs.Reading.{false-true, and-inv, cond-inv, good-inv, need-inv, bind-inv}
 use Rattle.spelling_entries.proofs.Bytes.{before-at, lacks-before, take-before}
+use Rattle.spelling_extensions.proofs.Answers.{same-size, none-some, needSome-inv}
 
 -- ---- a text that the byte b ends
 
@@ -34,6 +34,23 @@ text-read b n p s t m q =
     good-inv _ _ _ _ q₁ λ is size.
     let l : before b s < length s = ltb-true _ _ fits in
     rw (← is, ← size) (omega arith, take-before b s l, lacks-before b s)
+
+-- the same where f says what the text stands for
+pub read-decoded : {A : Type 0} (f : List ℕ → Option A) (b n p : ℕ) (t rest : List ℕ) (a : A) → lacks b t ≡ true → f t ≡ some a
+    → bind (readText b n p (t ++ (b ∷ rest))) (λ u m. needSome (f u) n p (λ x. good x 0)) ≡ good a (length t + 1)
+unfolding bind shift needSome
+read-decoded f b n p t rest a h e = simp (read-text b n p t rest h, e) (same-size (omega arith))
+
+pub decoded-read : {A : Type 0} (f : List ℕ → Option A) (b n p : ℕ) (s : List ℕ) (a : A) (m : ℕ)
+    → bind (readText b n p s) (λ u k. needSome (f u) n p (λ x. good x 0)) ≡ good a m
+    → (m ≤ length s) × (t : List ℕ) × (take m s ≡ t ++ (b ∷ [])) × (f t ≡ some a)
+decoded-read f b n p s a m q =
+    bind-inv _ _ _ _ q λ t i j text q₁ size.
+    needSome-inv _ _ _ _ _ _ q₁ λ c is q₂.
+    good-inv _ _ _ _ q₂ λ same done.
+    let h = text-read b n p s t i text in
+    let m-is : m ≡ i = omega arith in
+    rw (m-is, ← same) (h .0, t, h .1, is)
 
 -- two parts, one after the other, that were taken from s
 pub parts-fit : (m n : ℕ) (s : List ℕ) → m ≤ length s → n ≤ length (drop m s) → m + n ≤ length s

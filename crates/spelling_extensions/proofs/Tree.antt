@@ -12,28 +12,22 @@ use Rattle.format.specs.Bytes.{decimal, value}
 use Rattle.format.specs.Records.{Count, valid, invalid, Node, Forest, Tree, width}
 use Rattle.format.specs.Layout.{CountText, ObjectBytes, IsNode, Siblings, siblings-end, siblings-more, distinct, IsTree, okTreeCounts}
 use Rattle.format.specs.Reading.{Read, good, need, shift, bind}
-use Rattle.format.specs.Reader.{needSome, readCount, readSubtrees, readObject, Head, readNode, readSiblings, readForest, readNodes, readTree}
+use Rattle.format.specs.Reader.{countIn, readCount, readSubtrees, readObject, Head, readNode, readSiblings, readForest, readNodes, readTree}
 use Rattle.spelling_entries.proofs.Reading.{and-inv, bad-good, good-inv, need-inv, bind-inv}
 use Rattle.spelling_entries.proofs.Bytes.{after-text}
-use Rattle.spelling_extensions.proofs.Answers.{same-size, needSome-inv}
-use Rattle.spelling_extensions.proofs.Texts.{read-text, text-read, parts-fit, text-then, decimal-lacks, count-lacks, read-count-text, count-text-read}
+use Rattle.spelling_extensions.proofs.Answers.{same-size}
+use Rattle.spelling_extensions.proofs.Texts.{read-text, text-read, read-decoded, decoded-read, parts-fit, text-then, decimal-lacks, count-lacks, read-count-text, count-text-read}
 
 -- ---- one node
 
 read-count : (p : ℕ) (c : Count) (t rest : List ℕ) → CountText c t → readCount p (t ++ (32 ∷ rest)) ≡ good c (length t + 1)
-unfolding readCount bind shift needSome
-read-count p c t rest h = simp (read-text 32 15 p t rest (count-lacks 32 c t (omega arith) h), read-count-text c t h) (same-size (omega arith))
+unfolding readCount
+read-count p c t rest h = read-decoded countIn 32 15 p t rest c (count-lacks 32 c t (omega arith) h) (read-count-text c t h)
 
 count-read : (p : ℕ) (s : List ℕ) (c : Count) (m : ℕ) → readCount p s ≡ good c m
     → (m ≤ length s) × (t : List ℕ) × (take m s ≡ t ++ (32 ∷ [])) × CountText c t
 unfolding readCount
-count-read p s c m q =
-    bind-inv _ _ _ _ q λ t i j text q₁ size.
-    needSome-inv _ _ _ _ _ _ q₁ λ c₁ count q₂.
-    good-inv _ _ _ _ q₂ λ is none.
-    let h = text-read 32 15 p s t i text in
-    let m-is : m ≡ i = omega arith in
-    rw (m-is, ← is) (h .0, t, h .1, count-text-read t c₁ count)
+count-read p s c m q = let h = decoded-read countIn 32 15 p s c m q in (h .0, h .1, h .2, count-text-read (h .1) c (h .3))
 
 read-subtrees : (p : ℕ) (t rest : List ℕ) → decimal t ≡ true → value t ≤ 2147483647 → readSubtrees p (t ++ (10 ∷ rest)) ≡ good (value t) (length t + 1)
 unfolding readSubtrees bind shift need
@@ -46,7 +40,7 @@ unfolding readSubtrees
 subtrees-read p s k m q =
     bind-inv _ _ _ _ q λ t i j text q₁ size.
     need-inv _ _ _ _ _ _ q₁ λ test q₂.
-    good-inv _ _ _ _ q₂ λ is none.
+    good-inv _ _ _ _ q₂ λ is done.
     let b = and-inv (decimal t) _ test in
     let h = text-read 10 15 p s t i text in
     let m-is : m ≡ i = omega arith in
@@ -100,7 +94,7 @@ node-read w p s h m q =
     bind-inv _ _ _ _ q₁ λ count i₁ j₁ countq q₂ size₁.
     bind-inv _ _ _ _ q₂ λ subtrees i₂ j₂ subtreesq q₃ size₂.
     bind-inv _ _ _ _ q₃ λ object i₃ j₃ objectq q₄ size₃.
-    good-inv _ _ _ _ q₄ λ is none.
+    good-inv _ _ _ _ q₄ λ is done.
     let s₁ : List ℕ = drop i₀ s in
     let s₂ : List ℕ = drop i₁ s₁ in
     let s₃ : List ℕ = drop i₂ s₂ in
@@ -144,6 +138,7 @@ read-siblings w p rest (siblings-more {a = a} {b = b} {c = c} named x y z) =
     )
     (same-size (omega arith))
 
+-- where go reads the subtrees
 siblings-read-by : (w p levels : ℕ) (go : ℕ → List ℕ → Read Forest)
     → ((k : ℕ) (s : List ℕ) (f : Forest) (m : ℕ) → go k s ≡ good f m → (m ≤ length s) × (width f ≡ k) × Siblings w levels f (take m s))
     → (k : ℕ) (s : List ℕ) (f : Forest) (m : ℕ) → readSiblings w p go k s ≡ good f m
@@ -156,7 +151,7 @@ siblings-read-by w p levels go go-read (suc k) s f m q =
     need-inv _ _ _ _ _ _ q₁ λ named q₂.
     bind-inv _ _ _ _ q₂ λ kids i₁ j₁ kidsq q₃ size₁.
     bind-inv _ _ _ _ q₃ λ after i₂ j₂ afterq q₄ size₂.
-    good-inv _ _ _ _ q₄ λ is none.
+    good-inv _ _ _ _ q₄ λ is done.
     let s₁ : List ℕ = drop i₀ s in
     let s₂ : List ℕ = drop i₁ s₁ in
     let x = node-read w p s h i₀ headq in
@@ -202,7 +197,7 @@ read-tree w ns p {t} {a} h counts =
     let nodes : readNodes w p a ≡ good t (length a) = rw append-nil at (read-nodes w p [] h) in
     simp (nodes, eq-eqb (length a) (length a) refl, h .differ, counts) (same-size (omega arith))
 
--- the nodes, up to what tells that they are the whole data
+-- the nodes, given that no two siblings have one name
 nodes-read : (w p : ℕ) (s : List ℕ) (t : Tree) (m : ℕ) → readNodes w p s ≡ good t m → distinct (t .subtrees) ≡ true
     → (m ≤ length s) × IsTree w t (take m s)
 unfolding readNodes
@@ -210,7 +205,7 @@ nodes-read w p s t m q differ =
     bind-inv _ _ _ _ q λ h i₀ j₀ rootq q₁ size₀.
     need-inv _ _ _ _ _ _ q₁ λ unnamed q₂.
     bind-inv _ _ _ _ q₂ λ kids i₁ j₁ kidsq q₃ size₁.
-    good-inv _ _ _ _ q₃ λ is none.
+    good-inv _ _ _ _ q₃ λ is done.
     let x = node-read w p s h i₀ rootq in
     let y = siblings-read w p 127 (h .subtrees) (drop i₀ s) kids i₁ kidsq in
     let node : IsNode w (h .node) (width kids) (take i₀ s) = rw (y .1) (x .1) in
@@ -241,7 +236,7 @@ tree-read w ns p s t m q =
     need-inv _ _ _ _ _ _ q₁ λ all q₂.
     need-inv _ _ _ _ _ _ q₂ λ differ q₃.
     need-inv _ _ _ _ _ _ q₃ λ counts q₄.
-    good-inv _ _ _ _ q₄ λ is none.
+    good-inv _ _ _ _ q₄ λ is done.
     let whole : i ≡ length s = eqb-true _ _ all in
     let h = nodes-read w p s t₁ i nodesq differ in
     let taken : take i s ≡ s = rw whole (take-length s) in

@@ -14,12 +14,12 @@ use Rattle.format.specs.Names.{okName}
 use Rattle.format.specs.Records.{Stage, Undo}
 use Rattle.format.specs.Layout.{okMode, modeText, IsStage, someStage, IsUndo, Undos, undos-end, undos-more}
 use Rattle.format.specs.Reading.{Read, good, need, shift, bind}
-use Rattle.format.specs.Reader.{needSome, modeIn, readMode, readStage, readStages, readUndo, readUndos}
+use Rattle.format.specs.Reader.{modeIn, readMode, readStage, readStages, readUndo, readUndos}
 use Rattle.spelling_entries.proofs.Reading.{and-inv, cond-inv, eqList-true, bad-good, good-inv, need-inv, bind-inv}
 use Rattle.spelling_entries.proofs.Bytes.{after-text}
 use Rattle.spelling_entries.proofs.Names.{okName-lacks}
-use Rattle.spelling_extensions.proofs.Answers.{same-size, none-some, needSome-inv, fuel-step}
-use Rattle.spelling_extensions.proofs.Texts.{read-text, text-read, parts-fit, text-then}
+use Rattle.spelling_extensions.proofs.Answers.{same-size, none-some, fuel-step}
+use Rattle.spelling_extensions.proofs.Texts.{read-text, text-read, read-decoded, decoded-read, parts-fit, text-then}
 
 -- ---- modes
 
@@ -27,6 +27,7 @@ use Rattle.spelling_extensions.proofs.Texts.{read-text, text-read, part
 abbrev pub stageMode : ℕ → Bool
 stageMode m = eqb m 0 || okMode m
 
+-- the two cases of a test, and of an "or" that holds
 by-test {ℓ} : {X : Type ℓ} (b : Bool) → (b ≡ true → X) → (b ≡ false → X) → X
 by-test true f g = f refl
 by-test false f g = g refl
@@ -69,19 +70,15 @@ mode-text-read t m q =
         λ other more. f more
 
 read-mode : (p m : ℕ) (rest : List ℕ) → stageMode m ≡ true → readMode p (modeText m ++ (0 ∷ rest)) ≡ good m (length (modeText m) + 1)
-unfolding readMode bind shift needSome
-read-mode p m rest h = simp (read-text 0 17 p (modeText m) rest (mode-lacks m h), read-mode-text m h) (same-size (omega arith))
+unfolding readMode
+read-mode p m rest h = read-decoded modeIn 0 17 p (modeText m) rest m (mode-lacks m h) (read-mode-text m h)
 
 mode-read : (p : ℕ) (s : List ℕ) (x m : ℕ) → readMode p s ≡ good x m → (m ≤ length s) × (take m s ≡ modeText x ++ (0 ∷ [])) × (stageMode x ≡ true)
 unfolding readMode
 mode-read p s x m q =
-    bind-inv _ _ _ _ q λ t i j text q₁ size.
-    needSome-inv _ _ _ _ _ _ q₁ λ x₁ mode q₂.
-    good-inv _ _ _ _ q₂ λ is none.
-    let h = text-read 0 17 p s t i text in
-    let k = mode-text-read t x₁ mode in
-    let m-is : m ≡ i = omega arith in
-    rw (m-is, ← is) (h .0, (rw (k .0) at (h .1)), k .1)
+    let h = decoded-read modeIn 0 17 p s x m q in
+    let k = mode-text-read (h .1) x (h .3) in
+    (h .0, rw (k .0) at (h .2), k .1)
 
 -- ---- stages
 
@@ -171,7 +168,7 @@ undo-read w p previous s u m q =
     bind-inv _ _ _ _ q₆ λ y i₅ j₅ yq q₇ size₅.
     bind-inv _ _ _ _ q₇ λ z i₆ j₆ zq q₈ size₆.
     need-inv _ _ _ _ _ _ q₈ λ stages q₉.
-    good-inv _ _ _ _ q₉ λ is none.
+    good-inv _ _ _ _ q₉ λ is done.
     let s₁ : List ℕ = drop i₀ s in
     let s₂ : List ℕ = drop i₁ s₁ in
     let s₃ : List ℕ = drop i₂ s₂ in
@@ -253,7 +250,7 @@ undos-read w p zero previous (x ∷ s) us m q = bad-good _ _ _ _ q
 undos-read w p (suc fuel) previous (x ∷ s) us m q =
     bind-inv _ _ _ _ q λ u i₀ j₀ undoq q₁ size₀.
     bind-inv _ _ _ _ q₁ λ vs i₁ j₁ undosq q₂ size₁.
-    good-inv _ _ _ _ q₂ λ is none.
+    good-inv _ _ _ _ q₂ λ is done.
     more (x ∷ s) u vs i₀ i₁ (undo-read w p previous (x ∷ s) u i₀ undoq) (undos-read w p fuel (u .path) (drop i₀ (x ∷ s)) vs i₁ undosq) is (omega arith)
   where
     more : (s : List ℕ) (u : Undo) (vs : List Undo) (i₀ i₁ : ℕ) → (i₀ ≤ length s) × IsUndo w previous u (take i₀ s)
