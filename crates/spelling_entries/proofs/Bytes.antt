@@ -1,11 +1,11 @@
 -- Laws of numbers and texts in bytes: what is put is read back, and what is read, where every element is a byte, puts the bytes back.
 use mathlib.Core.Path.{_≡_, refl, sym, ap, _∙_}
 use mathlib.Core.List.{List, [], _∷_, _++_, append-assoc}
-use mathlib.Core.Bool.{Bool, true, false, cond, _&&_}
+use mathlib.Core.Bool.{true, false}
 use Prim.Native.Nat.{ℕ, zero, suc, _+_, _-_, _*_, _/_, _%_, _≤_, _<_}
 use native.Mathlib.Omega.{arith}
 use lib.ListN.{length, take, drop, getD, replicate, length-append, length-drop}
-use lib.Seq.{drop-cons, drop-drop, drop-at, drop-append-add, getD-drop, getD-take, take-add}
+use lib.Seq.{drop-drop, drop-at, drop-append-add, getD-drop, take-add}
 use lib.Dec.{eqb, ltb}
 use borrow.Author.Tests.{ltb-true, lt-ltb, le-ltb, eqb-true, eq-eqb}
 use Rattle.format.specs.Bytes.{Bytes, be16, be32, be32s, put16, put32, put32s, fit32, two, putN, before, lacks, zeros}

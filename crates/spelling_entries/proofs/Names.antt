@@ -1,20 +1,20 @@
 -- The name of an entry, plain or packed: what is spelled is read, and what is read was spelled.
-use mathlib.Core.Path.{_≡_, refl, sym, ap, _∙_}
+use mathlib.Core.Path.{_≡_, refl, sym, _∙_}
 use mathlib.Core.List.{List, [], _∷_, _++_, append-assoc}
 use mathlib.Core.Bool.{Bool, true, false, cond, _&&_}
-use Prim.Native.Nat.{ℕ, zero, suc, _+_, _-_, _*_, _/_, _%_, _≤_, _<_, min}
+use Prim.Native.Nat.{ℕ, zero, suc, _+_, _-_, _/_, _%_, _≤_, _<_, min}
 use native.Mathlib.Omega.{arith}
 use lib.ListN.{length, take, drop, getD, replicate, length-append, length-drop, length-take, length-replicate, take-append-drop}
-use lib.Seq.{drop-drop, drop-append-seam, take-append-seam, take-append-add, take-at, drop-at, take-take, take-add, length-take-le}
+use lib.Seq.{drop-append-seam, take-append-seam, take-append-add, take-at, take-take, take-add, length-take-le}
 use lib.Dec.{eqb, leb, ltb}
 use borrow.Author.Tests.{ltb-true, ltb-false, leb-true, eqb-true, lt-ltb, le-ltb, le-leb, eq-eqb}
-use Rattle.format.specs.Bytes.{Bytes, two, putN, before, lacks, zeros}
+use Rattle.format.specs.Bytes.{two, putN, before, lacks, zeros}
 use Rattle.format.specs.Names.{okName, okComponents, components, lengthField}
 use Rattle.format.specs.Layout.{when, entryLength, Plain, Packed, NameBytes}
-use Rattle.format.specs.Reading.{Read, good, need, bind, shift}
+use Rattle.format.specs.Reading.{good}
 use Rattle.format.specs.Reader.{plainLength, readPlain, readN, joined, readSuffix, readPacked, readName}
-use Rattle.spelling_entries.proofs.Reading.{false-true, and-inv, and-both, by-test, cond-inv, by-cond, good-inv, need-inv, bind-inv, need-good, bind-good}
-use Rattle.spelling_entries.proofs.Bytes.{take-one, take-two, putN-one, putN-two, two-putN, putN-of-two, before-at, lacks-before, before-le, take-before, lacks-right, zeros-replicate, replicate-zeros}
+use Rattle.spelling_entries.proofs.Reading.{and-inv, and-both, by-test, cond-inv, by-cond, good-inv, need-inv, bind-inv, need-good, bind-good}
+use Rattle.spelling_entries.proofs.Bytes.{take-one, take-two, putN-one, putN-two, two-putN, putN-of-two, before-at, take-before, lacks-right, zeros-replicate, replicate-zeros}
 
 pub okName-lacks : (s : List ℕ) → okName s ≡ true → lacks 0 s ≡ true
 unfolding okName
