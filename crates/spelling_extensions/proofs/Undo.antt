@@ -15,7 +15,7 @@ use Rattle.format.specs.Records.{Stage, Undo}
 use Rattle.format.specs.Layout.{okMode, modeText, IsStage, someStage, IsUndo, Undos, undos-end, undos-more}
 use Rattle.format.specs.Reading.{Read, good, need, shift, bind}
 use Rattle.format.specs.Reader.{modeIn, readMode, readStage, readStages, readUndo, readUndos}
-use Rattle.spelling_entries.proofs.Reading.{and-inv, cond-inv, eqList-true, bad-good, good-inv, need-inv, bind-inv}
+use Rattle.spelling_entries.proofs.Reading.{and-inv, by-test, cond-inv, eqList-true, bad-good, good-inv, need-inv, bind-inv}
 use Rattle.spelling_entries.proofs.Bytes.{after-text}
 use Rattle.spelling_entries.proofs.Names.{okName-lacks}
 use Rattle.spelling_extensions.proofs.Answers.{same-size, none-some, fuel-step}
@@ -27,11 +27,7 @@ use Rattle.spelling_extensions.proofs.Texts.{read-text, text-read, read
 abbrev pub stageMode : ℕ → Bool
 stageMode m = eqb m 0 || okMode m
 
--- the two cases of a test, and of an "or" that holds
-by-test {ℓ} : {X : Type ℓ} (b : Bool) → (b ≡ true → X) → (b ≡ false → X) → X
-by-test true f g = f refl
-by-test false f g = g refl
-
+-- the two cases of an "or" that holds
 or-inv {ℓ} : {X : Type ℓ} (a b : Bool) → (a || b) ≡ true → (a ≡ true → X) → (b ≡ true → X) → X
 or-inv true b e f g = f refl
 or-inv false b e f g = g e
