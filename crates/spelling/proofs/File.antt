@@ -1,0 +1,211 @@
+-- A whole file: it is accepted exactly when records spell it, one set of records only spells it, and what a cut of it can show.
+use mathlib.Core.Path.{_≡_, refl, sym, ap, _∙_}
+use mathlib.Core.List.{List, [], _∷_, _++_, append-assoc}
+use mathlib.Core.Bool.{Bool, true, false, _&&_}
+use mathlib.Core.Option.{Option, none, some}
+use Prim.Native.Nat.{ℕ, zero, suc, _+_, _-_, _≤_, _<_}
+use native.Mathlib.Omega.{arith}
+use lib.ListN.{length, take, drop, length-append, length-take, length-drop, take-append-drop}
+use lib.Seq.{take-at, drop-at, drop-drop, take-take, getD-take, length-take-le}
+use lib.Dec.{leb}
+use borrow.Author.Tests.{le-leb, leb-true}
+use Rattle.format.specs.Bytes.{Bytes, be16, be32, put32, eqList}
+use Rattle.format.specs.Records.{Entry, Key, start, Records, Tree, Undo}
+use Rattle.format.specs.Layout.{Entries, Extension, Extensions, trees, undos, only, DIRC, names, Body, Spells}
+use Rattle.format.specs.Reading.{Read, bad, good, need, shift, bind}
+use Rattle.format.specs.Reader.{readEntries, readExtensions, noneSeen, first, Contents, readBody, readFile}
+use Rattle.spelling_entries.proofs.Reading.{and-inv, and-both, eqList-true, eq-eqList, bad-good, good-inv, need-inv, shift-inv, bind-inv}
+use Rattle.spelling_entries.proofs.Bytes.{bytes-take, bytes-drop, length-put32, be32-at, be32-below, put32-be32}
+use Rattle.spelling_entries.proofs.Entries.{read-entries, entries-read}
+use Rattle.spelling_extensions.proofs.Extensions.{only-once, once-only, read-extensions, extensions-read}
+
+-- ---- the header
+
+-- the bytes of a header, and of what follows it
+abbrev headed : ℕ → ℕ → List ℕ → List ℕ
+headed v n s = DIRC ++ (put32 v ++ (put32 n ++ s))
+
+module _ (v n : ℕ) (s : List ℕ) where
+  headed-length : length (headed v n s) ≡ 12 + length s
+  headed-length = simp (length-append, length-put32) (omega arith)
+
+  headed-signature : take 4 (headed v n s) ≡ DIRC
+  headed-signature = refl
+
+  headed-version : v < 4294967296 → be32 (headed v n s) 4 ≡ v
+  headed-version h = be32-at DIRC v (put32 n ++ s) 4 refl h
+
+  headed-count : n < 4294967296 → be32 (headed v n s) 8 ≡ n
+  headed-count h =
+      let l : length (DIRC ++ put32 v) ≡ 8 = simp length-append (omega (arith, length-put32 v)) in
+      rw (← (append-assoc DIRC (put32 v) (put32 n ++ s))) (be32-at (DIRC ++ put32 v) n s 8 l h)
+
+  headed-rest : drop 12 (headed v n s) ≡ s
+  headed-rest =
+      let l : length (DIRC ++ (put32 v ++ put32 n)) ≡ 12 = simp length-append (omega (arith, length-put32 v, length-put32 n)) in
+      let e : headed v n s ≡ (DIRC ++ (put32 v ++ put32 n)) ++ s = simp append-assoc in
+      rw e (drop-at (DIRC ++ (put32 v ++ put32 n)) s 12 l)
+
+four : (k : ℕ) (s : List ℕ) → drop k s ≡ take 4 (drop k s) ++ drop (k + 4) s
+four k s = sym (take-append-drop 4 (drop k s)) ∙ rw (drop-drop 4 k s)
+
+-- twelve bytes or more that begin so are a header and what follows it
+headed-back : (b : List ℕ) → Bytes b → 12 ≤ length b → take 4 b ≡ DIRC → b ≡ headed (be32 b 4) (be32 b 8) (drop 12 b)
+headed-back b bytes long sig =
+    let rest : drop 4 b ≡ put32 (be32 b 4) ++ (put32 (be32 b 8) ++ drop 12 b) =
+    rw (put32-be32 b 4 bytes (omega arith), put32-be32 b 8 bytes (omega arith), ← (four 8 b)) (four 4 b) in
+    four 0 b ∙ ap (λ (x : List ℕ). x ++ drop 4 b) sig ∙ ap (λ (x : List ℕ). DIRC ++ x) rest
+
+-- a number within the first n bytes
+be32-take : (s : List ℕ) (n a : ℕ) → a + 4 ≤ n → be32 (take n s) a ≡ be32 s a
+unfolding be32 be16
+be32-take s n a h =
+    rw (getD-take n s a 0 (omega arith), getD-take n s (a + 1) 0 (omega arith), getD-take n s (a + 2) 0 (omega arith), getD-take n s (a + 2 + 1) 0 (omega arith)) refl
+
+-- ---- the body
+
+first-only : {A : Type 0} (o : Option A) (l : List A) → l ≡ only o → first l ≡ o
+first-only none l e = rw e refl
+first-only (some a) l e = rw e refl
+
+-- what a body that is spelled is read as
+abbrev contentsOf : {w : ℕ} {r : Records} {b : List ℕ} → Body w r b → Contents
+contentsOf {r = r} h = record { version = h .version; end = 12 + length (h .entryBytes); records = r }
+
+read-body : (w : ℕ) (r : Records) (b : List ℕ) (h : Body w r b) → readBody w (h .version) b ≡ good (contentsOf h) (length b)
+unfolding readBody shift bind
+read-body w r b h =
+    let a = h .entryBytes in
+    let x = h .extensionBytes in
+    let count : be32 b 8 ≡ length (r .entries) = rw (h .bytes) (headed-count (h .version) (length (r .entries)) (a ++ x) (h .few)) in
+    let rest : drop 12 b ≡ a ++ x = rw (h .bytes) (headed-rest (h .version) (length (r .entries)) (a ++ x)) in
+    let entries = read-entries w (h .version) 12 x (h .entries-are) in
+    let after : drop (length a) (a ++ x) ≡ x = drop-at a x (length a) refl in
+    let extensions = read-extensions w (names (r .entries)) (length x) noneSeen (12 + length a) (h .extensions-are) (only-once (h .extensions) (r .cacheTree) (r .resolveUndo) (h .tree-is) (h .undo-is)) (omega arith) in
+    let t : first (trees (h .extensions)) ≡ r .cacheTree = first-only (r .cacheTree) _ (h .tree-is) in
+    let u : first (undos (h .extensions)) ≡ r .resolveUndo = first-only (r .resolveUndo) _ (h .undo-is) in
+    let long : length b ≡ 12 + (length a + (length x + 0)) =
+    ap length (h .bytes) ∙ headed-length (h .version) (length (r .entries)) (a ++ x) ∙ simp length-append (omega arith) in
+    rw (long, count, rest) (simp (entries, after, extensions, t, u))
+
+body-read : (w v : ℕ) (b : List ℕ) (c : Contents) (m : ℕ) → Bytes b → 12 ≤ length b → take 4 b ≡ DIRC → be32 b 4 ≡ v → 2 ≤ v → v ≤ 4 → readBody w v b ≡ good c m → Body w (c .records) b
+unfolding readBody
+body-read w v b c m bytes long sig ver lo hi q =
+    shift-inv _ _ _ _ q λ j q₁ _.
+    bind-inv _ _ _ _ q₁ λ es i k eq q₂ _.
+    bind-inv _ _ _ _ q₂ λ xs o l xq q₃ _.
+    good-inv _ _ _ _ q₃ λ is _.
+    let rest-bytes : Bytes (drop 12 b) = bytes-drop 12 b bytes in
+    let (within, entries, n-is) = entries-read _ _ _ _ _ _ _ _ rest-bytes eq in
+    let (_, extensions, once) = extensions-read _ _ _ _ _ _ _ _ (bytes-drop i (drop 12 b) rest-bytes) xq in
+    let (tree-is, undo-is) = once-only xs once in
+    let n-fits = be32-below b 8 bytes in
+    let bytes-are : b ≡ headed v (length es) (take i (drop 12 b) ++ drop i (drop 12 b)) =
+    rw (← ver, n-is, take-append-drop i (drop 12 b)) (headed-back b bytes long sig) in
+    rw (← is) (record {
+      version = v;
+      two-to-four = (lo, hi);
+      few = omega arith;
+      entryBytes = take i (drop 12 b);
+      extensionBytes = drop i (drop 12 b);
+      extensions = xs;
+      entries-are = entries;
+      extensions-are = extensions;
+      tree-is = tree-is;
+      undo-is = undo-is;
+      bytes = bytes-are;
+    })
+
+-- ---- the file
+
+module _ (w : ℕ) (hash : List ℕ → List ℕ) (width : (b : List ℕ) → length (hash b) ≡ w) where
+  -- what is spelled is accepted, and read as these records
+  pub spelled-read : (r : Records) (f : List ℕ) (h : Spells w hash r f) → readFile w hash f ≡ good (contentsOf (h .body-is)) (length (h .body))
+  unfolding readFile need
+  spelled-read r f h =
+      let b = h .body in
+      let body = h .body-is in
+      let n = length (r .entries) in
+      let s : List ℕ = body .entryBytes ++ body .extensionBytes in
+      let wide : length (hash b) ≡ w = width b in
+      let lf : length f ≡ length b + w = ap length (h .file-is) ∙ length-append b (hash b) ∙ rw wide refl in
+      let lb : length b ≡ 12 + length s = ap length (body .bytes) ∙ headed-length (body .version) n s in
+      let at : length f - w ≡ length b = omega arith in
+      let bs : take (length f - w) f ≡ b = rw at (ap (take (length b)) (h .file-is) ∙ take-at b (hash b) (length b) refl) in
+      let cs : drop (length f - w) f ≡ hash b = rw at (ap (drop (length b)) (h .file-is) ∙ drop-at b (hash b) (length b) refl) in
+      let whole : f ≡ headed (body .version) n (s ++ hash b) =
+      h .file-is ∙ ap (λ (x : List ℕ). x ++ hash b) (body .bytes) ∙ simp append-assoc in
+      let sig : take 4 f ≡ DIRC = rw whole (headed-signature (body .version) n (s ++ hash b)) in
+      let small : body .version < 4294967296 = omega (arith, body .two-to-four .1) in
+      let ver : be32 f 4 ≡ body .version = rw whole (headed-version (body .version) n (s ++ hash b) small) in
+      let t₁ : leb (12 + w) (length f) ≡ true = le-leb (12 + w) (length f) (omega arith) in
+      let t₂ : leb (length f) 16777216 ≡ true = le-leb _ _ (h .short) in
+      let t₃ : eqList (take 4 f) DIRC ≡ true = eq-eqList _ _ sig in
+      let t₄ : (leb 2 (be32 f 4) && leb (be32 f 4) 4) ≡ true = rw ver (and-both _ _ (le-leb _ _ (body .two-to-four .0)) (le-leb _ _ (body .two-to-four .1))) in
+      let t₅ : eqList (drop (length f - w) f) (hash (take (length f - w) f)) ≡ true = rw (cs, bs) (eq-eqList _ _ refl) in
+      rw (t₁, t₂, t₃, t₄, t₅, bs, ver) (read-body w r b body)
+
+  -- what is accepted is spelled
+  pub read-spelled : (f : List ℕ) (c : Contents) (m : ℕ) → Bytes f → readFile w hash f ≡ good c m → Spells w hash (c .records) f
+  unfolding readFile
+  read-spelled f c m bytes q =
+      need-inv _ _ _ _ _ _ q λ t₁ q₁.
+      need-inv _ _ _ _ _ _ q₁ λ t₂ q₂.
+      need-inv _ _ _ _ _ _ q₂ λ t₃ q₃.
+      need-inv _ _ _ _ _ _ q₃ λ t₄ q₄.
+      need-inv _ _ _ _ _ _ q₄ λ t₅ q₅.
+      let b : List ℕ = take (length f - w) f in
+      let long : 12 + w ≤ length f = leb-true _ _ t₁ in
+      let (lo, hi) = and-inv _ _ t₄ in
+      let lb : length (take (length f - w) f) ≡ length f - w = length-take-le (length f - w) f (omega arith) in
+      let sig : take 4 b ≡ DIRC = take-take 4 (length f - w) f (omega arith) ∙ eqList-true _ _ t₃ in
+      let ver : be32 b 4 ≡ be32 f 4 = be32-take f (length f - w) 4 (omega arith) in
+      record {
+        body = b;
+        body-is = body-read w (be32 f 4) b c m (bytes-take (length f - w) f bytes) (omega arith) sig ver (leb-true _ _ lo) (leb-true _ _ hi) q₅;
+        file-is = sym (take-append-drop (length f - w) f) ∙ ap (λ (x : List ℕ). b ++ x) (eqList-true _ _ t₅);
+        short = leb-true _ _ t₂;
+      }
+
+  -- one set of records only spells a file
+  pub one : (r q : Records) (f : List ℕ) → Spells w hash r f → Spells w hash q f → r ≡ q
+  one r q f h k =
+      good-inv _ _ _ _ (sym (spelled-read r f h) ∙ spelled-read q f k) λ e _. ap (λ (c : Contents). c .records) e
+
+-- ---- a cut file. Nothing of the hash is used
+
+-- what stands at the beginning of a list that begins with a spelled body
+record Begins (w : ℕ) (es : List Entry) (f : List ℕ) : Type 0 where
+  version : ℕ
+  version-is : be32 f 4 ≡ version
+  count-is : be32 f 8 ≡ length es
+  taken : ℕ
+  entries-are : readEntries w version (length es) start 12 (drop 12 f) ≡ good es taken
+
+begins : (w : ℕ) (r : Records) (b rest f : List ℕ) → Body w r b → f ≡ b ++ rest → Begins w (r .entries) f
+begins w r b rest f h e =
+    let n = length (r .entries) in
+    let s : List ℕ = h .entryBytes ++ (h .extensionBytes ++ rest) in
+    let whole : f ≡ headed (h .version) n s = e ∙ ap (λ (x : List ℕ). x ++ rest) (h .bytes) ∙ simp append-assoc in
+    let small : h .version < 4294967296 = omega (arith, h .two-to-four .1) in
+    rw whole (record {
+      version = h .version;
+      version-is = headed-version (h .version) n s small;
+      count-is = headed-count (h .version) n s (h .few);
+      taken = length (h .entryBytes);
+      entries-are = rw (headed-rest (h .version) n s) (read-entries w (h .version) 12 (h .extensionBytes ++ rest) (h .entries-are));
+    })
+
+same-entries : (w : ℕ) (es fs : List Entry) (f : List ℕ) → Begins w es f → Begins w fs f → es ≡ fs
+same-entries w es fs f h k =
+    let v : h .version ≡ k .version = sym (h .version-is) ∙ k .version-is in
+    let n : length es ≡ length fs = sym (h .count-is) ∙ k .count-is in
+    let again : readEntries w (k .version) (length fs) start 12 (drop 12 f) ≡ good es (h .taken) = rw (← v, ← n) (h .entries-are) in
+    good-inv _ _ _ _ (sym again ∙ k .entries-are) λ same _. same
+
+-- a file and a beginning of it, both spelled, have the same entries
+pub cut : (w : ℕ) (hash : List ℕ → List ℕ) (r q : Records) (f : List ℕ) (c : ℕ) → Spells w hash r f → Spells w hash q (take c f) → r .entries ≡ q .entries
+cut w hash r q f c h k =
+    same-entries w (r .entries) (q .entries) f (begins w r (h .body) (hash (h .body)) f (h .body-is) (h .file-is))
+    (begins w q (k .body) (hash (k .body) ++ drop c f) f (k .body-is)
+    (sym (take-append-drop c f) ∙ ap (λ (x : List ℕ). x ++ drop c f) (k .file-is) ∙ append-assoc (k .body) (hash (k .body)) (drop c f)))

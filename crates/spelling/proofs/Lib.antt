@@ -1,0 +1,2 @@
+-- The whole file, as it is spelled and as it is read.
+pub mod File

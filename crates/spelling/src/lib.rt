@@ -1,0 +1,1 @@
+// A file is accepted exactly when records spell it; the proofs are in proofs/.
