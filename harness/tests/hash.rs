@@ -5,7 +5,7 @@
 use harness::{ffi, plain};
 use std::ptr;
 
-/// A value that neither a message nor a digest of these tests is filled with.
+/// What fills the bytes around an input and an output.
 const GUARD: u8 = 0xa5;
 
 /// A fixed sequence of numbers (xorshift64), so that each run tests the same messages.
@@ -132,24 +132,27 @@ fn null_with_length_0_is_the_empty_message() {
 /// else of the two may change.
 #[test]
 fn bytes_around_input_and_output_stay() {
-    for shift in 0..16 {
+    for front in 16..32 {
         for length in [0, 1, 55, 56, 64, 119, 120, 200] {
-            let mut input = vec![GUARD; shift];
-            input.extend(Random(5).bytes(length));
-            input.extend([GUARD; 64]);
-            let before = input.clone();
-            let mut output = vec![GUARD; shift + 20 + 64];
-            let message = &input[shift..shift + length];
-            let out: &mut [u8; 20] = (&mut output[shift..shift + 20]).try_into().unwrap();
-            // SAFETY: the pointer and the length are those of a slice, and `out` is an array of 20 bytes.
-            unsafe { ffi::nerupazhil_sha1(message.as_ptr(), message.len(), out) };
-            assert_eq!(input, before);
-            let mut expected = vec![GUARD; shift];
-            expected.extend(plain::sha1(&before[shift..shift + length]));
-            expected.extend([GUARD; 64]);
-            assert_eq!(output, expected);
+            let message = Random(5).bytes(length);
+            let mut input = guarded(front, &message);
+            let mut output = guarded(front, &[0; 20]);
+            let out: &mut [u8; 20] = (&mut output[front..front + 20]).try_into().unwrap();
+            // SAFETY: `length` bytes start at `front`, and `out` is an array of 20 bytes. The input's pointer is a
+            // mutable one, so that the comparison below would see a write through it.
+            unsafe { ffi::nerupazhil_sha1(input[front..].as_mut_ptr(), length, out) };
+            assert_eq!(input, guarded(front, &message));
+            assert_eq!(output, guarded(front, &plain::sha1(&message)));
         }
     }
+}
+
+/// `front` guard bytes, the bytes given, and 64 guard bytes.
+fn guarded(front: usize, bytes: &[u8]) -> Vec<u8> {
+    let mut whole = vec![GUARD; front];
+    whole.extend(bytes);
+    whole.extend([GUARD; 64]);
+    whole
 }
 
 /// What `out` held before plays no part.

@@ -1,8 +1,8 @@
 // Runs SHA-1 on published examples. One line each: a description, two spaces, the digest in hexadecimal.
 //
 // "abc" and the 56-byte message are the SHA-1 examples published with FIPS 180-4; a million times "a" is the
-// long example of FIPS 180-2, A.3. The 112-byte message is that of the SHA-512 example, which takes three
-// blocks here. The file stdout has the digests from another implementation.
+// long example of FIPS 180-2, A.3. The 112-byte message is that of the SHA-512 example. The file stdout has the
+// digests from another implementation.
 fn main() {
     io::write_all(1, b"abc");
     print_digest(hash::sha1(b"abc"));
