@@ -1,0 +1,7 @@
+//! What the tests and the benchmark share: the calls of the proved library, and the plain Rust that they are
+//! compared with.
+
+#![deny(warnings)]
+
+pub mod ffi;
+pub mod plain;
