@@ -3,7 +3,7 @@ use mathlib.Core.Path.{_≡_, refl, ap, sym, _∙_}
 use mathlib.Core.List.{List, [], _∷_, _++_, append-assoc}
 use Prim.Native.Nat.{ℕ, suc, _+_, _-_, _*_, _/_, _%_, _^_, _≤_, _<_}
 use native.Mathlib.Omega.{arith}
-use lib.ListN.{length, set, take, drop, replicate, length-append, length-drop, length-replicate, replicate-append-replicate}
+use lib.ListN.{length, getD, set, take, drop, replicate, length-append, length-drop, length-replicate, replicate-append-replicate, List·getD-append}
 use lib.Seq.{sets, length-sets, set-at, take-append-seam, drop-append-le}
 use Rattle.hash_words.specs.Words.{bytes4}
 use Rattle.hash_words.specs.Padding.{be64, padded, ending, Tail}
@@ -30,10 +30,28 @@ put-words l a b i x p q =
     let f : List ℕ = bytes4 (x % 2 ^ 64 % 2 ^ 32) in
     q ∙ rw p (rw (length-bytes4 (x % 2 ^ 64 / 2 ^ 32)) at (sets-append h f l i)) ∙ ap (sets l i) (be64-words x)
 
+-- ---- the padded message
 pub length-padded : (n : ℕ) (m : List ℕ) → length (padded n m) ≡ length m + 1 + (119 - length m % 64) % 64 + 8
 unfolding padded
 length-padded n m = simp (length-append, length-replicate, length-be64) (omega arith)
 
+-- it begins with the message
+pub padded-at : (n : ℕ) (m : List ℕ) (k : ℕ) → k < length m → getD (padded n m) k 0 ≡ getD m k 0
+unfolding padded
+padded-at n m k h = List·getD-append m _ 0 k h
+
+-- whole blocks before the last piece are not changed
+pub padded-append : (n : ℕ) (a b : List ℕ) → length a % 64 ≡ 0 → padded n (a ++ b) ≡ a ++ padded n b
+unfolding padded
+padded-append n a b h =
+    let e : length (a ++ b) % 64 ≡ length b % 64 = rw length-append (omega arith) in
+    rw e (append-assoc a b (128 ∷ (replicate ((119 - length b % 64) % 64) 0 ++ be64 (n * 8))))
+
+pub length-ending : (n : ℕ) (m : List ℕ) → length (ending n m) ≡ length m % 64 + 1 + (119 - length m % 64) % 64 + 8
+unfolding ending
+length-ending n m = simp (length-drop, length-padded) (omega arith)
+
+-- ---- the tail
 module _ (n : ℕ) (m : List ℕ) where
   -- the ending without its count of bits
   opening : List ℕ

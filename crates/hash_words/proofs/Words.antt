@@ -34,18 +34,22 @@ pub length-bytes4 : (x : ℕ) → length (bytes4 x) ≡ 4
 unfolding bytes4
 length-bytes4 x = refl
 
-pub bytes4-below : (x i : ℕ) → getD (bytes4 x) i 0 < 256
-unfolding bytes4
-bytes4-below x zero = omega arith
-bytes4-below x (suc zero) = omega arith
-bytes4-below x (suc (suc zero)) = omega arith
-bytes4-below x (suc (suc (suc zero))) = omega arith
-bytes4-below x (suc (suc (suc (suc i)))) = omega arith
+-- a list of bytes
+pub record Bytes (s : List ℕ) : Type 0 where
+  pub below : (i : ℕ) → getD s i 0 < 256
 
-pub append-below : (s t : List ℕ) → ((i : ℕ) → getD s i 0 < 256) → ((i : ℕ) → getD t i 0 < 256) → (i : ℕ) → getD (s ++ t) i 0 < 256
-append-below [] t a b i = b i
-append-below (x ∷ s) t a b zero = a zero
-append-below (x ∷ s) t a b (suc i) = append-below s t (λ k. a (suc k)) b i
+bytes-cons : (x : ℕ) {s : List ℕ} → x < 256 → Bytes s → Bytes (x ∷ s)
+bytes-cons x h b = record { below = λ i. elim i [ | zero ↦ h | suc k ↦ b .below k ] }
+
+pub bytes-append : (s : List ℕ) {t : List ℕ} → Bytes s → Bytes t → Bytes (s ++ t)
+bytes-append [] a b = b
+bytes-append (x ∷ s) a b = bytes-cons x (a .below 0) (bytes-append s (record { below = λ i. a .below (suc i) }) b)
+
+pub bytes4-bytes : (x : ℕ) → Bytes (bytes4 x)
+unfolding bytes4
+bytes4-bytes x =
+    bytes-cons _ (omega arith)
+    (bytes-cons _ (omega arith) (bytes-cons _ (omega arith) (bytes-cons _ (omega arith) (record { below = λ i. omega arith }))))
 
 -- a word's bytes are those of its low 32 bits
 pub bytes4-low : (x : ℕ) → bytes4 (x % 2 ^ 32) ≡ bytes4 x

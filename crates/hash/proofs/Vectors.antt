@@ -1,0 +1,1 @@
+-- The examples of FIPS 180-4 for SHA-1. Assumes nothing.
