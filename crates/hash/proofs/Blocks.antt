@@ -1,18 +1,18 @@
 -- The message, block by block. Assumes nothing.
-use mathlib.Core.Path.{_≡_, refl, ap, sym, _∙_}
 use mathlib.Core.List.{List, _++_}
-use Prim.Native.Nat.{ℕ, zero, suc, _+_, _*_, _/_, _%_, _≤_, _<_}
+use mathlib.Core.Path.{_≡_, refl, ap, sym, _∙_}
+use Prim.Native.Nat.{ℕ, zero, suc, _+_, _*_, _/_, _%_, _<_}
 use native.Mathlib.Nat.{add-zero, add-suc}
 use native.Mathlib.Numerals.{add-one}
 use native.Mathlib.Omega.{arith}
 use lib.ListN.{length, getD, take, drop, length-append, List·getD-append}
 use lib.Seq.{getD-drop, drop-at}
-use Rattle.hash_words.specs.Words.{words}
-use Rattle.hash_words.specs.Padding.{padded, ending, Tail}
-use Rattle.hash_words.proofs.Words.{words-same}
 use Rattle.hash_words.proofs.Padding.{length-padded, length-ending, padded-at}
-use Rattle.hash.specs.declared.State.{State}
+use Rattle.hash_words.proofs.Words.{words-same}
+use Rattle.hash_words.specs.Padding.{padded, ending, Tail}
+use Rattle.hash_words.specs.Words.{words}
 use Rattle.hash.specs.Sha1.{block, absorb, digest, finish}
+use Rattle.hash.specs.declared.State.{State}
 
 -- one more block
 pub absorb-next : (h s r : State) (p : List ℕ) (i : ℕ) → s ≡ absorb h p i → r ≡ block s (words p (i * 64) 16) → r ≡ absorb h p (i + 1)

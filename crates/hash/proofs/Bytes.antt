@@ -1,12 +1,12 @@
 -- A digest is twenty bytes. Assumes nothing.
-use mathlib.Core.Path.{_≡_, refl}
 use mathlib.Core.List.{List}
+use mathlib.Core.Path.{_≡_, refl}
 use Prim.Native.Nat.{ℕ, _<_}
 use lib.ListN.{length, getD}
-use Rattle.hash_words.specs.Words.{bytes4}
 use Rattle.hash_words.proofs.Words.{Bytes, bytes-append, bytes4-bytes}
-use Rattle.hash.specs.declared.State.{State}
+use Rattle.hash_words.specs.Words.{bytes4}
 use Rattle.hash.specs.Sha1.{digest, sha1}
+use Rattle.hash.specs.declared.State.{State}
 
 pub length-digest : (h : State) → length (digest h) ≡ 20
 unfolding digest bytes4

@@ -1,12 +1,12 @@
 -- Hashing in pieces. Assumes nothing.
-use mathlib.Core.Path.{_≡_, refl, sym, _∙_}
 use mathlib.Core.List.{List, _++_}
+use mathlib.Core.Path.{_≡_, refl, sym, _∙_}
 use Prim.Native.Nat.{ℕ, _/_, _%_}
 use lib.ListN.{length}
-use Rattle.hash_words.specs.Padding.{pad, padded}
 use Rattle.hash_words.proofs.Padding.{padded-append}
+use Rattle.hash_words.specs.Padding.{pad, padded}
+use Rattle.hash.specs.Sha1.{H0, absorb, finish, sha1}
 use Rattle.hash.specs.declared.State.{State}
-use Rattle.hash.specs.Sha1.{H0, absorb, digest, finish, sha1}
 use Rattle.hash.proofs.Blocks.{absorb-append}
 
 -- whole blocks that are absorbed first do not change how the message is finished

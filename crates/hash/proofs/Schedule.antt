@@ -1,20 +1,20 @@
 -- The schedule, and the window of sixteen words over it. Assumes nothing.
+use mathlib.Core.List.{List, []}
 use mathlib.Core.Path.{_≡_, refl, ap, sym, subst, _∙_}
-use mathlib.Core.List.{List, [], _++_}
 use Prim.Native.Nat.{ℕ, zero, suc, _+_, _-_, _%_, _≤_, _<_, max}
+use native.Mathlib.Decide.{le-ind, ℕ-discrete}
 use native.Mathlib.Nat.{add-assoc}
 use native.Mathlib.Numerals.{add-one}
 use native.Mathlib.Omega.{arith}
-use native.Mathlib.Decide.{le-ind, ℕ-discrete}
 use lib.Arith.{lt-of-le-ne}
 use lib.Bits.{bitXor}
 use lib.ListN.{length, getD, set, length-append, length-set, List·getD-append}
 use lib.Seq.{getD-at, getD-set-same, getD-set-other}
-use Rattle.hash_words.specs.Words.{rotl, words}
 use Rattle.hash_words.proofs.Words.{length-words}
-use Rattle.hash.specs.declared.State.{State}
+use Rattle.hash_words.specs.Words.{rotl, words}
 use Rattle.hash.specs.Sha1.{nextWord, extended, schedule, round, rounds}
 use Rattle.hash.specs.Window.{Holds, At}
+use Rattle.hash.specs.declared.State.{State}
 
 -- ---- the schedule, word by word
 module _ (m : List ℕ) (sized : length m ≡ 16) where

@@ -2,11 +2,11 @@
 use mathlib.Core.Bool.{cond}
 use mathlib.Core.List.{List, [], _∷_, _++_}
 use Prim.Native.Nat.{ℕ, zero, suc, _+_, _-_, _*_, _/_}
+use lib.Bits.{bitXor}
 use lib.Dec.{ltb}
 use lib.ListN.{length, getD}
-use lib.Bits.{bitXor}
-use Rattle.hash_words.specs.Words.{add32, rotl, ch, maj, words, bytes4}
 use Rattle.hash_words.specs.Padding.{pad, padded}
+use Rattle.hash_words.specs.Words.{add32, rotl, ch, maj, words, bytes4}
 use Rattle.hash.specs.declared.State.{State}
 
 -- what belongs to round t, where the rounds come in quarters of twenty

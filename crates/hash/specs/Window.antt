@@ -1,10 +1,10 @@
 -- The schedule in sixteen words: word k of the schedule stands at k % 16, until word k + 16 takes its place.
-use mathlib.Core.Path.{_≡_}
 use mathlib.Core.List.{List}
+use mathlib.Core.Path.{_≡_}
 use Prim.Native.Nat.{ℕ, _+_, _%_, _≤_, _<_, max}
 use lib.ListN.{length, getD}
-use Rattle.hash.specs.declared.State.{State}
 use Rattle.hash.specs.Sha1.{schedule, rounds}
+use Rattle.hash.specs.declared.State.{State}
 
 -- w is the window before round t of the block m: the block itself before round 16, then the words t - 16 .. t - 1
 pub record Holds (m : List ℕ) (t : ℕ) (w : List ℕ) : Type 0 where

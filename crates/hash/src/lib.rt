@@ -1,6 +1,11 @@
 // SHA-1, FIPS 180-4. A message is hashed in one call, or in pieces: start, absorb for each piece of whole blocks, finish.
-use hash_words::{add, ch, load, maj, put_word, rotl, tail};
-
+use hash_words::add;
+use hash_words::ch;
+use hash_words::load;
+use hash_words::maj;
+use hash_words::put_word;
+use hash_words::rotl;
+use hash_words::tail;
 ghost use mathlib.Core.Path.{_≡_};
 ghost use mathlib.Core.List.{List};
 ghost use Prim.Native.Nat.{ℕ, _+_, _/_, _<_, _≤_};
@@ -63,7 +68,10 @@ fn word_of(w: &mut [u32; 16], t: usize) -> u32
     if t < 16 {
         return w[t];
     }
-    let x = rotl(w[(t + 13) % 16] ^ w[(t + 8) % 16] ^ w[(t + 2) % 16] ^ w[t % 16], 1);
+    let x = rotl(
+        w[(t + 13) % 16] ^ w[(t + 8) % 16] ^ w[(t + 2) % 16] ^ w[t % 16],
+        1,
+    );
     w[t % 16] = x;
     x
 }
@@ -72,7 +80,13 @@ fn word_of(w: &mut [u32; 16], t: usize) -> u32
 fn step(s: State, t: usize, x: u32) -> State
     ensures { λ r. ⌜ r ≡ F.round t x s ⌝ }
 {
-    let sum = add(add(add(add(rotl(s.a, 5), mix(t, s.b, s.c, s.d)), s.e), constant(t)), x);
+    let sum = add(
+        add(
+            add(add(rotl(s.a, 5), mix(t, s.b, s.c, s.d)), s.e),
+            constant(t),
+        ),
+        x,
+    );
     State {
         a: sum,
         b: s.a,

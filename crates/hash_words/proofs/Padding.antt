@@ -1,12 +1,12 @@
 -- The padded message. Assumes nothing.
-use mathlib.Core.Path.{_≡_, refl, ap, sym, _∙_}
-use mathlib.Core.List.{List, [], _∷_, _++_, append-assoc}
+use mathlib.Core.List.{List, _∷_, _++_, append-assoc}
+use mathlib.Core.Path.{_≡_, ap, sym, _∙_}
 use Prim.Native.Nat.{ℕ, suc, _+_, _-_, _*_, _/_, _%_, _^_, _≤_, _<_}
 use native.Mathlib.Omega.{arith}
-use lib.ListN.{length, getD, set, take, drop, replicate, length-append, length-drop, length-replicate, replicate-append-replicate, List·getD-append}
+use lib.ListN.{length, getD, set, drop, replicate, length-append, length-drop, length-replicate, replicate-append-replicate, List·getD-append}
 use lib.Seq.{sets, length-sets, set-at, take-append-seam, drop-append-le}
-use Rattle.hash_words.specs.Words.{bytes4}
 use Rattle.hash_words.specs.Padding.{be64, padded, ending, Tail}
+use Rattle.hash_words.specs.Words.{bytes4}
 use Rattle.hash_words.proofs.Copying.{sets-append, sets-after, drop-replicate}
 use Rattle.hash_words.proofs.Words.{length-bytes4, bytes4-low}
 

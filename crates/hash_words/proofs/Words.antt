@@ -1,6 +1,6 @@
 -- The words of a block, and the bytes of a word. Assumes nothing.
-use mathlib.Core.Path.{_≡_, refl, ap, ap₂}
 use mathlib.Core.List.{List, [], _∷_, _++_}
+use mathlib.Core.Path.{_≡_, refl, ap, ap₂}
 use Prim.Native.Nat.{ℕ, zero, suc, _+_, _*_, _/_, _%_, _^_, _<_}
 use native.Mathlib.Nat.{add-assoc, add-zero}
 use native.Mathlib.Omega.{arith}
@@ -39,7 +39,7 @@ pub record Bytes (s : List ℕ) : Type 0 where
   pub below : (i : ℕ) → getD s i 0 < 256
 
 bytes-cons : (x : ℕ) {s : List ℕ} → x < 256 → Bytes s → Bytes (x ∷ s)
-bytes-cons x h b = record { below = λ i. elim i [ | zero ↦ h | suc k ↦ b .below k ] }
+bytes-cons x h b = record { below = λ i. elim i [ zero ↦ h | suc k ↦ b .below k ] }
 
 pub bytes-append : (s : List ℕ) {t : List ℕ} → Bytes s → Bytes t → Bytes (s ++ t)
 bytes-append [] a b = b

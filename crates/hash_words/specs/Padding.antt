@@ -1,6 +1,6 @@
 -- FIPS 180-4, 5.1.1: padding the message.
-use mathlib.Core.Path.{_≡_}
 use mathlib.Core.List.{List, _∷_, _++_}
+use mathlib.Core.Path.{_≡_}
 use Prim.Native.Nat.{ℕ, _-_, _*_, _/_, _%_, _^_}
 use lib.ListN.{length, take, drop, replicate}
 use Rattle.hash_words.specs.Words.{bytes4}

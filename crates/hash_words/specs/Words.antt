@@ -1,8 +1,8 @@
 -- FIPS 180-4: operations on words. A word is a number below 2 ^ 32, a byte a number below 256, a message a list of bytes.
 use mathlib.Core.List.{List, [], _∷_}
 use Prim.Native.Nat.{ℕ, zero, suc, _+_, _-_, _*_, _/_, _%_, _^_}
-use lib.ListN.{getD}
 use lib.Bits.{bitAnd, bitOr, bitXor}
+use lib.ListN.{getD}
 
 -- 2.2.2: ¬ x, the complement of a word
 abbrev pub not32 : ℕ → ℕ

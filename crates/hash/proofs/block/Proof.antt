@@ -1,90 +1,67 @@
-use mathlib.Core.Path.{_≡_, refl, ap, _∙_}
+-- `hash::block` meets its contract: what each five rounds ensure is what the next ask, from the block itself as the window. Assumes nothing.
+use mathlib.Core.Path.{refl, ap, _∙_}
+use borrow.Author.Needs.{needs}
 use Rattle.hash_words.specs.Words.{words}
 use Rattle.hash.specs.Sha1.{rounds, block, chain}
 use Rattle.hash.specs.Window.{At}
 use Rattle.hash.proofs.Schedule.{loaded}
-use borrow.Author.Needs.{needs}
 use Rattle.hash.proofs.block.Statement.{statement}
 use Rattle.hash.proofs.block.Tie as tie
-use Rattle.hash.proofs.block.Reads as reads
-use Rattle.hash.proofs.block.Lts as lts
-use Rattle.hash.proofs.chain.Reads as chain-reads
-use Rattle.hash.proofs.five.Reads as five-reads
-use Rattle.hash_words.proofs.load.Reads as load-reads
 
--- src/lib.rt:122:17
 load-requires : tie.Need-load-requires
 load-requires c κs = search needs
 
--- src/lib.rt:123:9
 five-requires : tie.Need-five-requires
 five-requires c κs = search needs
 
--- src/lib.rt:124:9
 five-requires-2 : tie.Need-five-requires-2
 five-requires-2 c κs = search needs
 
--- src/lib.rt:125:9
 five-requires-3 : tie.Need-five-requires-3
 five-requires-3 c κs = search needs
 
--- src/lib.rt:126:9
 five-requires-4 : tie.Need-five-requires-4
 five-requires-4 c κs = search needs
 
--- src/lib.rt:127:9
 five-requires-5 : tie.Need-five-requires-5
 five-requires-5 c κs = search needs
 
--- src/lib.rt:128:9
 five-requires-6 : tie.Need-five-requires-6
 five-requires-6 c κs = search needs
 
--- src/lib.rt:129:9
 five-requires-7 : tie.Need-five-requires-7
 five-requires-7 c κs = search needs
 
--- src/lib.rt:130:9
 five-requires-8 : tie.Need-five-requires-8
 five-requires-8 c κs = search needs
 
--- src/lib.rt:131:9
 five-requires-9 : tie.Need-five-requires-9
 five-requires-9 c κs = search needs
 
--- src/lib.rt:132:9
 five-requires-10 : tie.Need-five-requires-10
 five-requires-10 c κs = search needs
 
--- src/lib.rt:133:9
 five-requires-11 : tie.Need-five-requires-11
 five-requires-11 c κs = search needs
 
--- src/lib.rt:134:9
 five-requires-12 : tie.Need-five-requires-12
 five-requires-12 c κs = search needs
 
--- src/lib.rt:135:9
 five-requires-13 : tie.Need-five-requires-13
 five-requires-13 c κs = search needs
 
--- src/lib.rt:136:9
 five-requires-14 : tie.Need-five-requires-14
 five-requires-14 c κs = search needs
 
--- src/lib.rt:137:9
 five-requires-15 : tie.Need-five-requires-15
 five-requires-15 c κs = search needs
 
--- src/lib.rt:138:9
 five-requires-16 : tie.Need-five-requires-16
 five-requires-16 c κs = search needs
 
--- src/lib.rt:139:5
 chain-requires : tie.Need-chain-requires
 chain-requires c κs = search needs
 
--- src/lib.rt:118:1
 returns : tie.Need-returns
 unfolding rounds block
 returns c =

@@ -1,26 +1,21 @@
+-- `hash::constant` meets its contract, quarter by quarter. Assumes nothing.
 use Rattle.hash.specs.Sha1.{K}
 use Rattle.hash.proofs.Quarters.{in-first, in-second, in-third, in-fourth}
 use Rattle.hash.proofs.constant.Statement.{statement}
 use Rattle.hash.proofs.constant.Tie as tie
-use Rattle.hash.proofs.constant.Reads as reads
-use Rattle.hash.proofs.constant.Lts as lts
 
--- src/lib.rt:47:9
 returns : tie.Need-returns
 unfolding K
 returns c = in-first _ _ _ _ _ (c .if1 .taken)
 
--- src/lib.rt:50:9
 returns-2 : tie.Need-returns-2
 unfolding K
 returns-2 c = in-second _ _ _ _ _ (c .before .if1 .left) (c .if2 .taken)
 
--- src/lib.rt:53:9
 returns-3 : tie.Need-returns-3
 unfolding K
 returns-3 c = in-third _ _ _ _ _ (c .before .if2 .left) (c .if3 .taken)
 
--- src/lib.rt:43:1
 returns-4 : tie.Need-returns-4
 unfolding K
 returns-4 c = in-fourth _ _ _ _ _ (c .if3 .left)

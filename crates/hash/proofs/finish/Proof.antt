@@ -1,47 +1,36 @@
+-- `hash::finish` meets its contract: the ending is the first 64 bytes of the tail, or all 128. Assumes nothing.
 use mathlib.Core.Path.{_≡_, sym}
 use native.Mathlib.Omega.{arith}
 use lib.ListN.{length, take}
 use lib.Seq.{take-all, length-take-le}
-use Rattle.hash_words.specs.Padding.{ending, Tail}
-use Rattle.hash_words.proofs.Padding.{length-ending}
-use Rattle.hash.proofs.Blocks.{finished}
 use borrow.Author.Needs.{needs}
+use Rattle.hash_words.proofs.Padding.{length-ending}
+use Rattle.hash_words.specs.Padding.{ending}
+use Rattle.hash.proofs.Blocks.{finished}
 use Rattle.hash.proofs.finish.Statement.{statement}
 use Rattle.hash.proofs.finish.Tie as tie
-use Rattle.hash.proofs.finish.Reads as reads
-use Rattle.hash.proofs.finish.Lts as lts
-use Rattle.hash.proofs.absorb.Reads as absorb-reads
-use Rattle.hash.proofs.digest.Reads as digest-reads
-use Rattle.hash_words.proofs.tail.Reads as tail-reads
 
--- src/lib.rt:185:9
 absorb-requires : tie.Need-absorb-requires
 absorb-requires c κs = search needs
 
--- src/lib.rt:186:13
 tail-requires : tie.Need-tail-requires
 tail-requires c κs = search needs
 
--- src/lib.rt:188:33
 array-share-prefix-t : tie.Need-array-share-prefix-t
 array-share-prefix-t c = search needs
 
--- src/lib.rt:188:33
 slice-aggregate-absorb : tie.Need-slice-aggregate-absorb
 slice-aggregate-absorb c =
     let t = c .before .before .tail in
     let e : length (take 64 (t .result)) ≡ 64 = length-take-le 64 (t .result) (omega (arith, t .ensures .long)) in
     search needs
 
--- src/lib.rt:188:23
 absorb-requires-2 : tie.Need-absorb-requires-2
 absorb-requires-2 c κs = search needs
 
--- src/lib.rt:188:9
 digest-requires : tie.Need-digest-requires
 digest-requires c κs = search needs
 
--- src/lib.rt:188:9
 returns : tie.Need-returns
 returns c =
     let c2 = c .before .before .before .before in
@@ -53,19 +42,15 @@ returns c =
     finished (z .h) _ _ m (t .result) (take 64 (t .result)) _ (z .length) (c2 .before .absorb .ensures) (t .ensures) (rw e)
     (c .before .absorb2 .ensures) (c .digest .ensures)
 
--- src/lib.rt:190:22
 slice-aggregate-absorb-2 : tie.Need-slice-aggregate-absorb-2
 slice-aggregate-absorb-2 c = search needs
 
--- src/lib.rt:190:12
 absorb-requires-3 : tie.Need-absorb-requires-3
 absorb-requires-3 c κs = search needs
 
--- src/lib.rt:190:5
 digest-requires-2 : tie.Need-digest-requires-2
 digest-requires-2 c κs = search needs
 
--- src/lib.rt:182:1
 returns-2 : tie.Need-returns-2
 returns-2 c =
     let c2 = c .before .before .before .before in

@@ -1,22 +1,15 @@
-use Rattle.hash.specs.Window.{At}
-use Rattle.hash.proofs.Schedule.{turned}
+-- `hash::round` meets its contract: a step with the word of the schedule. Assumes nothing.
 use borrow.Author.Needs.{needs}
+use Rattle.hash.proofs.Schedule.{turned}
 use Rattle.hash.proofs.round.Statement.{statement}
 use Rattle.hash.proofs.round.Tie as tie
-use Rattle.hash.proofs.round.Reads as reads
-use Rattle.hash.proofs.round.Lts as lts
-use Rattle.hash.proofs.step.Reads as step-reads
-use Rattle.hash.proofs.word_of.Reads as word-of-reads
 
--- src/lib.rt:89:9
 word-of-requires : tie.Need-word-of-requires
 word-of-requires c κs = search needs
 
--- src/lib.rt:90:5
 step-requires : tie.Need-step-requires
 step-requires c κs = search needs
 
--- src/lib.rt:85:1
 returns : tie.Need-returns
 returns c = λ h m a.
     let z = c .before .before .before .args in

@@ -1,6 +1,7 @@
-use mathlib.Core.Path.{_≡_, refl, sym, _∙_}
+-- `hash_words::tail` meets its contract. The loop's invariant: the first i bytes are the message's, the others zero. Assumes nothing.
 use mathlib.Core.List.{_++_}
 use mathlib.Core.Logic.{⊎-elim}
+use mathlib.Core.Path.{_≡_, refl, sym, _∙_}
 use Prim.Native.Nat.{ℕ, _+_, _-_, _*_, _/_, _%_, _≤_}
 use native.Mathlib.Omega.{arith}
 use lib.ListN.{length, take, drop, replicate, length-drop, length-set}
@@ -9,9 +10,6 @@ use Rattle.hash_words.proofs.Copying.{copy-next, copy-done}
 use Rattle.hash_words.proofs.Padding.{tail-right}
 use Rattle.hash_words.proofs.tail.Statement.{statement}
 use Rattle.hash_words.proofs.tail.Tie as tie
-use Rattle.hash_words.proofs.tail.Reads as reads
-use Rattle.hash_words.proofs.tail.Lts as lts
-use Rattle.hash_words.proofs.put_length.Reads as put-length-reads
 
 abbrev Inv-loop : tie.InvT-loop
 Inv-loop rest whole n part from t₀ i₀ t i = (i ≤ part) × (length t ≡ 128) × (t ≡ take i (drop from rest) ++ drop i (replicate 128 0))
@@ -19,35 +17,27 @@ Inv-loop rest whole n part from t₀ i₀ t i = (i ≤ part) × (length t ≡ 12
 abbrev μ-loop : tie.MeasureT-loop
 μ-loop rest whole n part from t₀ i₀ t i = part - i
 
--- src/lib.rt:100:16
 sub-from : tie.Need-sub-from Inv-loop μ-loop
 sub-from c = omega arith
 
--- src/lib.rt:103:5
 loop-holds : tie.Need-loop-holds Inv-loop μ-loop
 loop-holds c = (omega arith, refl, refl)
 
--- src/lib.rt:104:21
 add-t : tie.Need-add-t Inv-loop μ-loop
 add-t c = omega arith
 
--- src/lib.rt:104:16
 shared-slice-read-t : tie.Need-shared-slice-read-t Inv-loop μ-loop
 shared-slice-read-t c = omega arith
 
--- src/lib.rt:104:9
 array-write-t : tie.Need-array-write-t Inv-loop μ-loop
 array-write-t c = omega arith
 
--- src/lib.rt:105:9
 add-i : tie.Need-add-i Inv-loop μ-loop
 add-i c = omega arith
 
--- src/lib.rt:103:5
 loop-less : tie.Need-loop-less Inv-loop μ-loop
 loop-less c = omega arith
 
--- src/lib.rt:103:5
 loop-again : tie.Need-loop-again Inv-loop μ-loop
 loop-again c =
     let m = c .before .before .before .before .args .rest .now in
@@ -58,15 +48,12 @@ loop-again c =
       copy-next (replicate 128 0) (drop from m) (l .t) (l .i) (l .inv .2) _ (sym (getD-drop from m (l .i) 0)) (omega arith) (omega (arith, length-drop from m)),
     )
 
--- src/lib.rt:107:5
 array-write-t-2 : tie.Need-array-write-t-2 Inv-loop μ-loop
 array-write-t-2 c = omega arith
 
--- src/lib.rt:109:5
 put-length-requires : tie.Need-put-length-requires Inv-loop μ-loop
 put-length-requires c κs = ⊎-elim (λ w. omega arith) (λ w. omega arith) (c .before .if1 .came)
 
--- src/lib.rt:95:1
 returns : tie.Need-returns Inv-loop μ-loop
 returns c =
     let z = c .before .before .before .before .before .before .args in

@@ -1,69 +1,52 @@
+-- `hash_words::word` meets its contract: the shifted bytes have no bit in common, so nothing is lost and their sum is the word. Assumes nothing.
 use native.Mathlib.Omega.{arith}
-use Rattle.hash_words.specs.Words.{be32}
 use borrow.Author.Needs.{needs}
+use Rattle.hash_words.specs.Words.{be32}
 use Rattle.hash_words.proofs.word.Statement.{statement}
 use Rattle.hash_words.proofs.word.Tie as tie
-use Rattle.hash_words.proofs.word.Reads as reads
-use Rattle.hash_words.proofs.word.Lts as lts
-use Rattle.hash_words.proofs.wide.Reads as wide-reads
 
--- src/lib.rt:49:11
 shared-slice-read-wide : tie.Need-shared-slice-read-wide
 shared-slice-read-wide c = search needs
 
--- src/lib.rt:49:6
 wide-requires : tie.Need-wide-requires
 wide-requires c κs = search needs
 
--- src/lib.rt:49:35
 add-wide : tie.Need-add-wide
 add-wide c = search needs
 
--- src/lib.rt:49:33
 shared-slice-read-wide-2 : tie.Need-shared-slice-read-wide-2
 shared-slice-read-wide-2 c = search needs
 
--- src/lib.rt:49:28
 wide-requires-2 : tie.Need-wide-requires-2
 wide-requires-2 c κs = search needs
 
--- src/lib.rt:49:5
 add-result : tie.Need-add-result
 add-result c = search needs
 
--- src/lib.rt:49:61
 add-wide-2 : tie.Need-add-wide-2
 add-wide-2 c = search needs
 
--- src/lib.rt:49:59
 shared-slice-read-wide-3 : tie.Need-shared-slice-read-wide-3
 shared-slice-read-wide-3 c = search needs
 
--- src/lib.rt:49:54
 wide-requires-3 : tie.Need-wide-requires-3
 wide-requires-3 c κs = search needs
 
--- src/lib.rt:49:5
 add-result-2 : tie.Need-add-result-2
 add-result-2 c = search needs
 
--- src/lib.rt:49:85
 add-wide-3 : tie.Need-add-wide-3
 add-wide-3 c = search needs
 
--- src/lib.rt:49:83
 shared-slice-read-wide-4 : tie.Need-shared-slice-read-wide-4
 shared-slice-read-wide-4 c = search needs
 
--- src/lib.rt:49:78
 wide-requires-4 : tie.Need-wide-requires-4
 wide-requires-4 c κs = search needs
 
--- src/lib.rt:49:5
 add-result-3 : tie.Need-add-result-3
 add-result-3 c = search needs
 
--- src/lib.rt:45:1
 returns : tie.Need-returns
 unfolding be32
 returns c = omega arith
