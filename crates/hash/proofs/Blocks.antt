@@ -52,7 +52,6 @@ pub finished : (h g s : State) (m t u r : List ℕ) (n : ℕ) → g ≡ absorb h
     → s ≡ absorb g u (length u / 64) → r ≡ digest s → r ≡ finish h m n
 unfolding finish ending
 finished h g s m t u r n eg tl eu es er =
-    let p = padded n m in
     let lp = length-padded n m in
     let le = length-ending n m in
     let count : length (padded n m) / 64 ≡ length m / 64 + length (ending n m) / 64 = omega arith in

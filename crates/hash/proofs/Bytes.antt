@@ -3,7 +3,7 @@ use mathlib.Core.List.{List}
 use mathlib.Core.Path.{_≡_, refl}
 use Prim.Native.Nat.{ℕ, _<_}
 use lib.ListN.{length, getD}
-use Rattle.hash_words.proofs.Words.{Bytes, bytes-append, bytes4-bytes}
+use Rattle.hash_words.proofs.Words.{Bytes, bytes4-then, bytes4-bytes}
 use Rattle.hash_words.specs.Words.{bytes4}
 use Rattle.hash.specs.Sha1.{digest, sha1}
 use Rattle.hash.specs.declared.State.{State}
@@ -14,9 +14,7 @@ length-digest h = refl
 
 digest-bytes : (h : State) → Bytes (digest h)
 unfolding digest
-digest-bytes h =
-    bytes-append (bytes4 (h .a)) (bytes4-bytes (h .a))
-    (bytes-append (bytes4 (h .b)) (bytes4-bytes (h .b)) (bytes-append (bytes4 (h .c)) (bytes4-bytes (h .c)) (bytes-append (bytes4 (h .d)) (bytes4-bytes (h .d)) (bytes4-bytes (h .e)))))
+digest-bytes h = bytes4-then (h .a) (bytes4-then (h .b) (bytes4-then (h .c) (bytes4-then (h .d) (bytes4-bytes (h .e)))))
 
 pub length-sha1 : (m : List ℕ) → length (sha1 m) ≡ 20
 unfolding sha1

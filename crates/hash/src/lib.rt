@@ -9,11 +9,12 @@ use hash_words::tail;
 ghost use mathlib.Core.Path.{_≡_};
 ghost use mathlib.Core.List.{List};
 ghost use Prim.Native.Nat.{ℕ, _+_, _/_, _<_, _≤_};
-ghost use lib.ListN.{length as size, getD};
+ghost use lib.ListN.{length, getD};
 ghost use Rattle.hash_words.specs.Words.{words};
 ghost use Rattle.hash.specs.Sha1 as F;
 ghost use Rattle.hash.specs.Window.{Holds, At};
 
+// The hash value H_0 .. H_4 between blocks, and the working variables a .. e within one.
 pub struct State {
     pub a: u32,
     pub b: u32,
@@ -22,6 +23,7 @@ pub struct State {
     pub e: u32,
 }
 
+// The bitwise sum of three words (4.1.1).
 fn parity(x: u32, y: u32, z: u32) -> u32
     ensures { λ r. ⌜ r ≡ F.parity x y z ⌝ }
 {
@@ -96,6 +98,7 @@ fn step(s: State, t: usize, x: u32) -> State
     }
 }
 
+// Round t with its own word: one contract for every round. m is the block, h the state before it.
 fn round(s: State, w: &mut [u32; 16], t: usize) -> State
     requires { ⌜ t < 80 ⌝ }
     ensures { λ r. ⌜ ((h : State) (m : List ℕ) → At h m t (now (w .entry)) s → At h m (t + 1) (now (w .exit)) r) ⌝ }
@@ -104,6 +107,7 @@ fn round(s: State, w: &mut [u32; 16], t: usize) -> State
     step(s, t, x)
 }
 
+// Five rounds, from round t on.
 fn five(s: State, w: &mut [u32; 16], t: usize) -> State
     requires { ⌜ t + 5 ≤ 80 ⌝ }
     ensures { λ r. ⌜ ((h : State) (m : List ℕ) → At h m t (now (w .entry)) s → At h m (t + 5) (now (w .exit)) r) ⌝ }
@@ -130,7 +134,7 @@ fn chain(h: State, s: State) -> State
 
 // The block at a byte (6.1.2). Straight-line code, so that every round's number is a constant once the calls are inlined.
 fn block(h: State, p: &[u8], at: usize) -> State
-    requires { ⌜ at + 64 ≤ size (now p) ⌝ }
+    requires { ⌜ at + 64 ≤ length (now p) ⌝ }
     ensures { λ r. ⌜ r ≡ F.block h (words (now (p .entry)) at 16) ⌝ }
 {
     let mut w = load(p, at);
@@ -153,6 +157,7 @@ fn block(h: State, p: &[u8], at: usize) -> State
     chain(h, s80)
 }
 
+// The bytes of the five words (6.1.2).
 fn digest(h: State) -> [u8; 20]
     ensures { λ r. ⌜ r ≡ F.digest h ⌝ }
 {
@@ -178,9 +183,9 @@ pub fn start() -> State
     }
 }
 
-// The state after every whole block of a piece. What is left of the piece is not read: a piece that others follow has none.
+// The state after every whole block of a piece. Bytes after the last whole block are not read.
 pub fn absorb(h: State, bytes: &[u8]) -> State
-    ensures { λ r. ⌜ r ≡ F.absorb h (now (bytes .entry)) (size (now (bytes .entry)) / 64) ⌝ }
+    ensures { λ r. ⌜ r ≡ F.absorb h (now (bytes .entry)) (length (now (bytes .entry)) / 64) ⌝ }
 {
     let full = bytes.len() / 64;
     let mut s = h;
@@ -192,16 +197,14 @@ pub fn absorb(h: State, bytes: &[u8]) -> State
     s
 }
 
-// The digest of a message of length bytes whose last piece is rest, from the state after the pieces before it.
+// The digest of a message of length bytes whose last piece is rest, from the state after the whole blocks before it.
 pub fn finish(h: State, rest: &[u8], length: u64) -> [u8; 20]
     ensures { λ r. ⌜ r ≡ F.finish h (now (rest .entry)) length ⌝ }
 {
     let g = absorb(h, rest);
     let t = tail(rest, length);
-    if rest.len() % 64 < 56 {
-        return digest(absorb(g, &t[..64]));
-    }
-    digest(absorb(g, &t))
+    let end: usize = if rest.len() % 64 < 56 { 64 } else { 128 };
+    digest(absorb(g, &t[..end]))
 }
 
 // The SHA-1 of a message.

@@ -1,5 +1,5 @@
 -- The words of a block, and the bytes of a word. Assumes nothing.
-use mathlib.Core.List.{List, [], _∷_, _++_}
+use mathlib.Core.List.{List, [], _∷_, _++_, append-nil}
 use mathlib.Core.Path.{_≡_, refl, ap, ap₂}
 use Prim.Native.Nat.{ℕ, zero, suc, _+_, _*_, _/_, _%_, _^_, _<_}
 use native.Mathlib.Nat.{add-assoc, add-zero}
@@ -41,15 +41,12 @@ pub record Bytes (s : List ℕ) : Type 0 where
 bytes-cons : (x : ℕ) {s : List ℕ} → x < 256 → Bytes s → Bytes (x ∷ s)
 bytes-cons x h b = record { below = λ i. elim i [ zero ↦ h | suc k ↦ b .below k ] }
 
-pub bytes-append : (s : List ℕ) {t : List ℕ} → Bytes s → Bytes t → Bytes (s ++ t)
-bytes-append [] a b = b
-bytes-append (x ∷ s) a b = bytes-cons x (a .below 0) (bytes-append s (record { below = λ i. a .below (suc i) }) b)
+pub bytes4-then : (x : ℕ) {t : List ℕ} → Bytes t → Bytes (bytes4 x ++ t)
+unfolding bytes4
+bytes4-then x b = bytes-cons _ (omega arith) (bytes-cons _ (omega arith) (bytes-cons _ (omega arith) (bytes-cons _ (omega arith) b)))
 
 pub bytes4-bytes : (x : ℕ) → Bytes (bytes4 x)
-unfolding bytes4
-bytes4-bytes x =
-    bytes-cons _ (omega arith)
-    (bytes-cons _ (omega arith) (bytes-cons _ (omega arith) (bytes-cons _ (omega arith) (record { below = λ i. omega arith }))))
+bytes4-bytes x = rw append-nil at (bytes4-then x {t = []} (record { below = λ i. omega arith }))
 
 -- a word's bytes are those of its low 32 bits
 pub bytes4-low : (x : ℕ) → bytes4 (x % 2 ^ 32) ≡ bytes4 x

@@ -1,8 +1,10 @@
 -- `hash::finish` meets its contract: the ending is the first 64 bytes of the tail, or all 128. Assumes nothing.
-use mathlib.Core.Path.{_≡_, sym}
+use mathlib.Core.Logic.{⊎-elim}
+use mathlib.Core.Path.{_≡_}
+use Prim.Native.Nat.{_≤_}
 use native.Mathlib.Omega.{arith}
 use lib.ListN.{length, take}
-use lib.Seq.{take-all, length-take-le}
+use lib.Seq.{length-take-le}
 use borrow.Author.Needs.{needs}
 use Rattle.hash_words.proofs.Padding.{length-ending}
 use Rattle.hash_words.specs.Padding.{ending}
@@ -17,12 +19,14 @@ tail-requires : tie.Need-tail-requires
 tail-requires c κs = search needs
 
 array-share-prefix-t : tie.Need-array-share-prefix-t
-array-share-prefix-t c = search needs
+array-share-prefix-t c = ⊎-elim (λ w. omega arith) (λ w. omega arith) (c .if1 .came)
 
 slice-aggregate-absorb : tie.Need-slice-aggregate-absorb
 slice-aggregate-absorb c =
     let t = c .before .before .tail in
-    let e : length (take 64 (t .result)) ≡ 64 = length-take-le 64 (t .result) (omega (arith, t .ensures .long)) in
+    let end = c .before .if1 .end in
+    let fits : end ≤ 128 = ⊎-elim (λ w. omega arith) (λ w. omega arith) (c .before .if1 .came) in
+    let e : length (take end (t .result)) ≡ end = length-take-le end (t .result) (omega (arith, t .ensures .long)) in
     search needs
 
 absorb-requires-2 : tie.Need-absorb-requires-2
@@ -33,34 +37,15 @@ digest-requires c κs = search needs
 
 returns : tie.Need-returns
 returns c =
-    let c2 = c .before .before .before .before in
-    let t = c2 .tail in
-    let z = c2 .before .before .before .args in
+    let join = c .before .before .before in
+    let end = join .if1 .end in
+    let t = join .before .tail in
+    let z = join .before .before .before .before .args in
     let m = z .rest .now in
-    let n = length-ending (z .length) m in
-    let e : 64 ≡ length (ending (z .length) m) = omega arith in
-    finished (z .h) _ _ m (t .result) (take 64 (t .result)) _ (z .length) (c2 .before .absorb .ensures) (t .ensures) (rw e)
+    let le = length-ending (z .length) m in
+    let e : end ≡ length (ending (z .length) m) = ⊎-elim (λ w. omega arith) (λ w. omega arith) (join .if1 .came) in
+    finished (z .h) _ _ m (t .result) (take end (t .result)) _ (z .length) (join .before .before .absorb .ensures) (t .ensures) (rw e)
     (c .before .absorb2 .ensures) (c .digest .ensures)
-
-slice-aggregate-absorb-2 : tie.Need-slice-aggregate-absorb-2
-slice-aggregate-absorb-2 c = search needs
-
-absorb-requires-3 : tie.Need-absorb-requires-3
-absorb-requires-3 c κs = search needs
-
-digest-requires-2 : tie.Need-digest-requires-2
-digest-requires-2 c κs = search needs
-
-returns-2 : tie.Need-returns-2
-returns-2 c =
-    let c2 = c .before .before .before .before in
-    let t = c2 .tail in
-    let z = c2 .before .before .before .args in
-    let m = z .rest .now in
-    let n = length-ending (z .length) m in
-    let e : length (ending (z .length) m) ≡ 128 = omega arith in
-    finished (z .h) _ _ m (t .result) (t .result) _ (z .length) (c2 .before .absorb .ensures) (t .ensures)
-    (rw e (sym (take-all 128 (t .result) (omega (arith, t .ensures .long))))) (c .before .absorb3 .ensures) (c .digest2 .ensures)
 
 pub finish-spec : {M : Type 1} → statement M
 finish-spec =
@@ -72,8 +57,4 @@ finish-spec =
     slice-aggregate-absorb
     absorb-requires-2
     digest-requires
-    returns
-    slice-aggregate-absorb-2
-    absorb-requires-3
-    digest-requires-2
-    returns-2)
+    returns)
