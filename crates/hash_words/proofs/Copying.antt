@@ -1,0 +1,33 @@
+-- Runs of stores into a list. Assumes nothing.
+use mathlib.Core.List.{List, [], _∷_, _++_, append-assoc}
+use mathlib.Core.Path.{_≡_, _∙_}
+use Prim.Native.Nat.{ℕ, zero, suc, _+_, _-_, _≤_, _<_}
+use native.Mathlib.Nat.{zero-add, add-zero, sub-zero}
+use native.Mathlib.Numerals.{add-one}
+use native.Mathlib.Omega.{arith}
+use lib.ListN.{length, getD, set, take, drop, replicate}
+use lib.Seq.{sets, sets-eq, take-all, take-at, paste-suc}
+
+-- a loop that copies s over the start of d, with w after i turns: one more turn, and the end
+module _ (d s w : List ℕ) (i : ℕ) (now : w ≡ take i s ++ drop i d) where
+  pub copy-next : (v : ℕ) → v ≡ getD s i 0 → i < length d → i < length s → set w i v ≡ take (i + 1) s ++ drop (i + 1) d
+  copy-next v e a b = rw (now, e, add-one) (simp zero-add at (paste-suc d 0 s i 0 (rw zero-add a) b))
+
+  pub copy-done : length s ≤ i → w ≡ s ++ drop i d
+  copy-done h = now ∙ rw (take-all i s h)
+
+pub drop-replicate : (k n : ℕ) → drop k (replicate n 0) ≡ replicate {A = ℕ} (n - k) 0
+drop-replicate zero n = rw sub-zero
+drop-replicate (suc k) zero = let e : 0 - suc k ≡ 0 = omega arith in rw e
+drop-replicate (suc k) (suc n) = let e : suc n - suc k ≡ n - k = omega arith in rw e (drop-replicate k n)
+
+-- two runs, the second where the first ends, are one
+pub sets-append : (s t l : List ℕ) (i : ℕ) → sets (sets l i s) (i + length s) t ≡ sets l i (s ++ t)
+sets-append [] t l i = rw add-zero
+sets-append (a ∷ s) t l i =
+    let e : i + suc (length s) ≡ suc i + length s = omega arith in
+    rw e (sets-append s t (set l i a) (suc i))
+
+-- a run that starts where p ends
+pub sets-after : (p q s : List ℕ) (i : ℕ) → length p ≡ i → i + length s ≤ length (p ++ q) → sets (p ++ q) i s ≡ p ++ (s ++ drop (i + length s) (p ++ q))
+sets-after p q s i e h = sets-eq s (p ++ q) i h ∙ rw (take-at p q i e) (append-assoc p s (drop (i + length s) (p ++ q)))
