@@ -4,4 +4,3 @@ pub mod Schedule
 pub mod Blocks
 pub mod Bytes
 pub mod Pieces
-pub mod Vectors
