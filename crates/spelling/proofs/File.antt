@@ -69,7 +69,7 @@ first-only none l e = rw e refl
 first-only (some a) l e = rw e refl
 
 -- what a body that is spelled is read as
-abbrev contentsOf : {w : ℕ} {r : Records} {b : List ℕ} → Body w r b → Contents
+abbrev pub contentsOf : {w : ℕ} {r : Records} {b : List ℕ} → Body w r b → Contents
 contentsOf {r = r} h = record { version = h .version; end = 12 + length (h .entryBytes); records = r }
 
 read-body : (w : ℕ) (r : Records) (b : List ℕ) (h : Body w r b) → readBody w (h .version) b ≡ good (contentsOf h) (length b)
@@ -175,37 +175,36 @@ module _ (w : ℕ) (hash : List ℕ → List ℕ) (width : (b : List ℕ) → le
 -- ---- a cut file. Nothing of the hash is used
 
 -- what stands at the beginning of a list that begins with a spelled body
-record Begins (w : ℕ) (es : List Entry) (f : List ℕ) : Type 0 where
-  version : ℕ
-  version-is : be32 f 4 ≡ version
+record Begins (w v : ℕ) (es : List Entry) (f : List ℕ) : Type 0 where
+  version-is : be32 f 4 ≡ v
   count-is : be32 f 8 ≡ length es
   taken : ℕ
-  entries-are : readEntries w version (length es) start 12 (drop 12 f) ≡ good es taken
+  entries-are : readEntries w v (length es) start 12 (drop 12 f) ≡ good es taken
 
-begins : (w : ℕ) (r : Records) (b rest f : List ℕ) → Body w r b → f ≡ b ++ rest → Begins w (r .entries) f
+begins : (w : ℕ) (r : Records) (b rest f : List ℕ) (h : Body w r b) → f ≡ b ++ rest → Begins w (h .version) (r .entries) f
 begins w r b rest f h e =
     let n = length (r .entries) in
     let s : List ℕ = h .entryBytes ++ (h .extensionBytes ++ rest) in
     let whole : f ≡ headed (h .version) n s = e ∙ ap (λ (x : List ℕ). x ++ rest) (h .bytes) ∙ simp append-assoc in
     let small : h .version < 4294967296 = omega (arith, h .two-to-four .1) in
     rw whole (record {
-      version = h .version;
       version-is = headed-version (h .version) n s small;
       count-is = headed-count (h .version) n s (h .few);
       taken = length (h .entryBytes);
       entries-are = rw (headed-rest (h .version) n s) (read-entries w (h .version) 12 (h .extensionBytes ++ rest) (h .entries-are));
     })
 
-same-entries : (w : ℕ) (es fs : List Entry) (f : List ℕ) → Begins w es f → Begins w fs f → es ≡ fs
-same-entries w es fs f h k =
-    let v : h .version ≡ k .version = sym (h .version-is) ∙ k .version-is in
-    let n : length es ≡ length fs = sym (h .count-is) ∙ k .count-is in
-    let again : readEntries w (k .version) (length fs) start 12 (drop 12 f) ≡ good es (h .taken) = rw (← v, ← n) (h .entries-are) in
-    good-inv _ _ _ _ (sym again ∙ k .entries-are) λ same _. same
+same : (w v u : ℕ) (es fs : List Entry) (f : List ℕ) → Begins w v es f → Begins w u fs f → (v ≡ u) × (es ≡ fs)
+same w v u es fs f h k =
+    let version : v ≡ u = sym (h .version-is) ∙ k .version-is in
+    let count : length es ≡ length fs = sym (h .count-is) ∙ k .count-is in
+    let again : readEntries w u (length fs) start 12 (drop 12 f) ≡ good es (h .taken) = rw (← version, ← count) (h .entries-are) in
+    (version, good-inv _ _ _ _ (sym again ∙ k .entries-are) λ e _. e)
 
--- a file and a beginning of it, both spelled, have the same entries
-pub cut : (w : ℕ) (hash : List ℕ → List ℕ) (r q : Records) (f : List ℕ) (c : ℕ) → Spells w hash r f → Spells w hash q (take c f) → r .entries ≡ q .entries
+-- a file and a beginning of it, both spelled, have the same version and the same entries
+pub cut : (w : ℕ) (hash : List ℕ → List ℕ) (r q : Records) (f : List ℕ) (c : ℕ) (h : Spells w hash r f) (k : Spells w hash q (take c f))
+    → (h .body-is .version ≡ k .body-is .version) × (r .entries ≡ q .entries)
 cut w hash r q f c h k =
-    same-entries w (r .entries) (q .entries) f (begins w r (h .body) (hash (h .body)) f (h .body-is) (h .file-is))
+    same w _ _ (r .entries) (q .entries) f (begins w r (h .body) (hash (h .body)) f (h .body-is) (h .file-is))
     (begins w q (k .body) (hash (k .body) ++ drop c f) f (k .body-is)
     (sym (take-append-drop c f) ∙ ap (λ (x : List ℕ). x ++ drop c f) (k .file-is) ∙ append-assoc (k .body) (hash (k .body)) (drop c f)))

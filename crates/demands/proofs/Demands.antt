@@ -1,0 +1,26 @@
+-- Demand 3 holds: of every width and hash of that width, and so of SHA-1. Each line names the theorem that proves it.
+use mathlib.Core.List.{List}
+use mathlib.Core.Bool.{false}
+use mathlib.Core.Path.{_≡_, refl}
+use Prim.Native.Nat.{ℕ}
+use lib.ListN.{length}
+use Rattle.file.specs.Answers.{tooSmall}
+use Rattle.hash.specs.Sha1.{sha1}
+use Rattle.hash.proofs.Bytes.{length-sha1}
+use Rattle.spelling.proofs.File.{one}
+use Rattle.demands.proofs.Statements.{Demand3}
+use Rattle.demands.proofs.Proved.{checked, entry-shown, node-shown, undo-shown, accepted-spelled, cut-rule}
+
+pub demand3 : (w : ℕ) (hash : List ℕ → List ℕ) (work : List ℕ) → ((b : List ℕ) → length (hash b) ≡ w) → tooSmall work ≡ false → Demand3 w hash work
+demand3 w hash work width room = record {
+  exact = λ f bytes. ((λ a. accepted-spelled w hash work width room f (a .0) bytes (a .1)), (λ p. (_, checked w hash work width room f (p .0) (p .1))));
+  one = λ f r q. one w hash width r q f;
+  counts = λ f r h. (_, checked w hash work width room f r h, refl, refl, refl);
+  entries = λ f r k h. (_, checked w hash work width room f r h, entry-shown w hash work width room f r h k);
+  nodes = λ f r k h. node-shown w hash work width room f r h k;
+  undos = λ f r k h. undo-shown w hash work width room f r h k;
+  cuts = λ f c s bytes _ e. cut-rule w hash work width room f c s bytes e;
+}
+
+pub sha1-demand3 : (work : List ℕ) → tooSmall work ≡ false → Demand3 20 sha1 work
+sha1-demand3 work room = demand3 20 sha1 work length-sha1 room

@@ -1,0 +1,4 @@
+-- The demands: Statements states them, Proved has the proofs, Demands joins the two.
+pub mod Statements
+pub mod Proved
+pub mod Demands

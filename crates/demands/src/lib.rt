@@ -1,0 +1,1 @@
+// The demands on the library, stated and proved in proofs/.

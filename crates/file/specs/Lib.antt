@@ -1,0 +1,2 @@
+-- What the calls answer, from what the file says.
+pub mod Answers
