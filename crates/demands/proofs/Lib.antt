@@ -2,3 +2,4 @@
 pub mod Statements
 pub mod Proved
 pub mod Demands
+pub mod Witness

@@ -73,8 +73,7 @@ module _ (w : ℕ) (hash : List ℕ → List ℕ) (work : List ℕ) (width : (b 
       let s-is : Accepted s ≡ Accepted (summaryOf (contentsOf (h .body-is))) = sym e ∙ checked f r h in
       let t-is : Accepted t ≡ Accepted (summaryOf (contentsOf (k .body-is))) = sym d ∙ checked (take c f) q k in
       let s-count : s .entries ≡ length (r .entries) = ap entriesOf s-is in
-      let t-count : t .entries ≡ length (q .entries) = ap entriesOf t-is in
-      (
+      let t-count : t .entries ≡ length (q .entries) = ap entriesOf t-is in (
         t-count ∙ ap length (sym same) ∙ sym s-count,
         λ i. entry-shown (take c f) q k i ∙ rw (← version, ← same) (sym (entry-shown f r h i)),
       )
@@ -86,12 +85,12 @@ module _ (w : ℕ) (hash : List ℕ → List ℕ) (work : List ℕ) (width : (b 
   pub cut-rule : (f : List ℕ) (c : ℕ) (s : Summary) → Bytes f → check w hash work f ≡ Accepted s
       → ((n p : ℕ) × (check w hash work (take c f) ≡ Refused n p))
       ⊎ ((t : Summary) × (check w hash work (take c f) ≡ Accepted t) × (t .entries ≡ s .entries)
-        × ((k : ℕ) → k < s .entries → entry w hash work k (take c f) ≡ entry w hash work k f))
+      × ((k : ℕ) → k < s .entries → entry w hash work k (take c f) ≡ entry w hash work k f))
   cut-rule f c s bytes e = go (check w hash work (take c f)) refl
     where
       go : (a : Checked) → check w hash work (take c f) ≡ a
-        → ((n p : ℕ) × (check w hash work (take c f) ≡ Refused n p))
-        ⊎ ((t : Summary) × (check w hash work (take c f) ≡ Accepted t) × (t .entries ≡ s .entries)
+          → ((n p : ℕ) × (check w hash work (take c f) ≡ Refused n p))
+          ⊎ ((t : Summary) × (check w hash work (take c f) ≡ Accepted t) × (t .entries ≡ s .entries)
           × ((k : ℕ) → k < s .entries → entry w hash work k (take c f) ≡ entry w hash work k f))
       go (Refused n p) d = inl (n, p, d)
       go (Accepted t) d = let (count, shown) = same-entries f c s t bytes e d in inr (t, d, count, λ k _. shown k)

@@ -37,20 +37,20 @@ module _ (w : ℕ) (hash : List ℕ → List ℕ) (work : List ℕ) where
     pub one : (f : List ℕ) (r q : Records) → Spells w hash r f → Spells w hash q f → r ≡ q
     -- check's counts are those of the set that spells it
     pub counts :
-      (f : List ℕ) (r : Records) → Spells w hash r f →
-      (s : Summary) × (check f ≡ Accepted s)
-      × (s .entries ≡ length (r .entries))
-      × (s .nodes ≡ treeCount (r .cacheTree))
-      × (s .records ≡ undoCount (r .resolveUndo))
+        (f : List ℕ) (r : Records) → Spells w hash r f →
+        (s : Summary) × (check f ≡ Accepted s)
+        × (s .entries ≡ length (r .entries))
+        × (s .nodes ≡ treeCount (r .cacheTree))
+        × (s .records ≡ undoCount (r .resolveUndo))
     -- entry k, tree node k and resolve-undo record k show item k of its lists
     pub entries :
-      (f : List ℕ) (r : Records) (k : ℕ) → Spells w hash r f →
-      (s : Summary) × (check f ≡ Accepted s) × (entry k f ≡ pick (eqb (s .version) 4) (getElem? (r .entries) k))
+        (f : List ℕ) (r : Records) (k : ℕ) → Spells w hash r f →
+        (s : Summary) × (check f ≡ Accepted s) × (entry k f ≡ pick (eqb (s .version) 4) (getElem? (r .entries) k))
     pub nodes : (f : List ℕ) (r : Records) (k : ℕ) → Spells w hash r f → node k f ≡ listed (itemsOf (r .cacheTree)) k
     pub undos : (f : List ℕ) (r : Records) (k : ℕ) → Spells w hash r f → undo k f ≡ listed (r .resolveUndo) k
     -- whichever shorter length an accepted file is cut to, check refuses it, or accepts it with the same entry count, and then entry k of both
     -- is equal in every field
     pub cuts :
-      (f : List ℕ) (c : ℕ) (s : Summary) → Bytes f → c < length f → check f ≡ Accepted s →
-      ((n p : ℕ) × (check (take c f) ≡ Refused n p))
-      ⊎ ((t : Summary) × (check (take c f) ≡ Accepted t) × (t .entries ≡ s .entries) × ((k : ℕ) → k < s .entries → entry k (take c f) ≡ entry k f))
+        (f : List ℕ) (c : ℕ) (s : Summary) → Bytes f → c < length f → check f ≡ Accepted s →
+        ((n p : ℕ) × (check (take c f) ≡ Refused n p))
+        ⊎ ((t : Summary) × (check (take c f) ≡ Accepted t) × (t .entries ≡ s .entries) × ((k : ℕ) → k < s .entries → entry k (take c f) ≡ entry k f))

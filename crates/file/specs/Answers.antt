@@ -132,8 +132,8 @@ viewOf (S.InWorkspace n) a = inWorkspace a
 abbrev pub entryWith : Fields → List ℕ → F.Entry
 entryWith x name = record {
   numbers =
-    x .«ctime_seconds» ∷ x .«ctime_nanoseconds» ∷ x .«mtime_seconds» ∷ x .«mtime_nanoseconds» ∷ x .dev ∷ x .ino ∷ x .mode ∷ x .uid ∷ x .gid ∷ x .size
-    ∷ [];
+      x .«ctime_seconds» ∷ x .«ctime_nanoseconds» ∷ x .«mtime_seconds» ∷ x .«mtime_nanoseconds» ∷ x .dev ∷ x .ino ∷ x .mode ∷ x .uid ∷ x .gid ∷ x .size
+      ∷ [];
   object = x .object;
   assumeValid = x .«assume_valid»;
   stage = x .stage;
