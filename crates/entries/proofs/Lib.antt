@@ -1,2 +1,4 @@
 -- What the functions of this crate lean on.
-pub mod Laws
+pub mod Reading
+pub mod Before
+pub mod Names

@@ -11,6 +11,10 @@ use Rattle.format.specs.Reader.{isSet, okWord}
 use Rattle.entries.specs.declared.Head.{Head}
 use Rattle.entries.specs.declared.Fixed.{Fixed}
 use Rattle.entries.specs.declared.Fixed.the-variants as F
+use Rattle.entries.specs.declared.Text.{Text}
+use Rattle.entries.specs.declared.Text.the-variants as T
+use Rattle.entries.specs.declared.Number.{Number}
+use Rattle.entries.specs.declared.Number.the-variants as N
 
 -- what readEntry reads before the name
 unfoldable pub readHead : ℕ → ℕ → ℕ → List ℕ → Read Head
@@ -32,3 +36,28 @@ fixedOf (good h m) = F.Good h
 abbrev pub headLength : Fixed → ℕ
 headLength (F.Bad n) = 0
 headLength (F.Good h) = h .length
+
+-- a name by its length, with the bytes taken
+unfoldable pub textOf : Read (List ℕ) → Text
+textOf (bad n p) = T.Bad n
+textOf (good name m) = T.Good (length name) m
+
+abbrev pub textLength : Text → ℕ
+textLength (T.Bad n) = 0
+textLength (T.Good n m) = n
+
+abbrev pub textTaken : Text → ℕ
+textTaken (T.Bad n) = 0
+textTaken (T.Good n m) = m
+
+unfoldable pub numberOf : Read ℕ → Number
+numberOf (bad n p) = N.Bad n
+numberOf (good n m) = N.Good n m
+
+abbrev pub numberValue : Number → ℕ
+numberValue (N.Bad n) = 0
+numberValue (N.Good n m) = n
+
+abbrev pub numberTaken : Number → ℕ
+numberTaken (N.Bad n) = 0
+numberTaken (N.Good n m) = m

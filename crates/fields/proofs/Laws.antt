@@ -1,13 +1,13 @@
 -- Laws of numbers, texts and names at a place of a list.
 use mathlib.Core.Path.{_≡_, refl, sym, ap, _∙_}
 use mathlib.Core.List.{List, [], _∷_, _++_, append-assoc}
-use mathlib.Core.Bool.{Bool, true, false, cond, _&&_}
+use mathlib.Core.Bool.{Bool, true, false, cond, _&&_, false≢true}
 use Prim.Native.Nat.{ℕ, suc, _+_, _-_, _≤_, _<_}
 use native.Mathlib.Nat.{add-assoc, sub-self}
 use native.Mathlib.Numerals.{add-one}
 use native.Mathlib.Omega.{arith}
 use lib.ListN.{length, getD, take, drop, set, replicate, length-drop, drop-of-length-le, take-append-drop, length-replicate, getD-replicate}
-use lib.Seq.{length-take-le, drop-cons, take-suc, getD-drop, take-all, take-length, paste, paste-zero, paste-suc}
+use lib.Seq.{length-take-le, drop-cons, take-suc, getD-drop, drop-drop, take-add, drop-at, take-all, take-length, paste, paste-zero, paste-suc}
 use lib.Dec.{eqb, leb}
 use borrow.Author.Tests.{eq-eqb, eqb-true, ne-eqb, leb-true, leb-false, le-leb, lt-leb, lt-ltb, le-ltb}
 use Rattle.format.specs.declared.Order.the-variants.{Below, Same, Above}
@@ -40,6 +40,18 @@ part-cons s i e h l =
     let n : e - i ≡ suc (e - (i + 1)) = omega arith in
     let d : i < length s = omega arith in
     rw (n, drop-cons s i 0 d, add-one)
+
+-- a part of a part
+pub part-inside : (s : List ℕ) (a n m : ℕ) → n ≤ m → a + n ≤ length s → take (a + m - (a + n)) (drop (a + n) s) ≡ drop n (take m (drop a s))
+part-inside s a n m h l =
+    let k : a + m - (a + n) ≡ m - n = omega arith in
+    let e : n + (m - n) ≡ m = omega arith in
+    let d : n ≤ length (drop a s) = simp length-drop (omega arith) in
+    let front : List ℕ = take n (drop a s) in
+    let back : List ℕ = take (m - n) (drop n (drop a s)) in
+    rw
+    (k, ← drop-drop)
+    (sym (ap (λ (i : ℕ). drop n (take i (drop a s))) (sym e) ∙ ap (drop n) (take-add n (m - n) (drop a s)) ∙ drop-at front back n (length-take-le n (drop a s) d)))
 
 -- ---- texts, from a place on
 
@@ -233,6 +245,14 @@ and-true : (b : Bool) → (b && true) ≡ b
 and-true true = refl
 and-true false = refl
 
+and-left : (a b : Bool) → (a && b) ≡ true → a ≡ true
+and-left true b e = refl
+and-left false b e = e
+
+and-right : (a b : Bool) → (a && b) ≡ true → b ≡ true
+and-right true b e = e
+and-right false b e = absurd (false≢true e)
+
 and-swap : (a b c : Bool) → (a && (b && c)) ≡ (b && (a && c))
 and-swap true b c = refl
 and-swap false true c = refl
@@ -265,3 +285,11 @@ okName-in (x ∷ s) h = let some : 1 ≤ length (x ∷ s) = omega arith in rw (l
 pub okName-over : (s : List ℕ) → 8192 < length s → okName s ≡ false
 unfolding okName
 okName-over s h = let some : 1 ≤ length s = omega arith in rw (le-leb _ _ some, lt-leb _ _ h)
+
+pub okName-length : (s : List ℕ) → okName s ≡ true → (1 ≤ length s) × (length s ≤ 8192)
+unfolding okName
+okName-length s e =
+    let some : Bool = leb 1 (length s) in
+    let few : Bool = leb (length s) 8192 in
+    let sound : Bool = lacks 0 s && okComponents (components s) in
+    (leb-true _ _ (and-left some (few && sound) e), leb-true _ _ (and-left few sound (and-right some (few && sound) e)))

@@ -2,7 +2,7 @@
 use mathlib.Core.Path.{sym, _∙_}
 use native.Mathlib.Omega.{arith}
 use borrow.Author.Needs.{needs}
-use Rattle.entries.proofs.Laws.{Flagged, fixed-cut, fixed-mode, fixed-plain, fixed-version, fixed-cut-word, fixed-word, fixed-bad-word}
+use Rattle.entries.proofs.Before.{Flagged, fixed-cut, fixed-mode, fixed-plain, fixed-version, fixed-cut-word, fixed-word, fixed-bad-word}
 use Rattle.entries.proofs.read_fixed.Statement.{statement}
 use Rattle.entries.proofs.read_fixed.Tie as tie
 

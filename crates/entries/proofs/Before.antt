@@ -1,14 +1,13 @@
--- Laws of the readers at a place of a body.
+-- Laws of what stands before an entry's name.
 use mathlib.Core.Path.{_≡_, refl, sym, ap, _∙_}
 use mathlib.Core.List.{List}
 use mathlib.Core.Bool.{Bool, true, false, cond, not, _&&_}
 use Prim.Native.Nat.{ℕ, _+_, _-_, _/_, _%_, _≤_, _<_}
-use native.Mathlib.Omega.{arith}
-use lib.ListN.{length, drop, length-drop}
+use lib.ListN.{length, drop}
 use lib.Dec.{eqb, leb}
-use borrow.Author.Tests.{eq-eqb, ne-eqb, le-leb, lt-leb}
+use borrow.Author.Tests.{eq-eqb, ne-eqb}
 use Rattle.format.specs.Bytes.{be16, be32}
-use Rattle.format.specs.Records.{Entry, Key}
+use Rattle.format.specs.Records.{Key}
 use Rattle.format.specs.Layout.{okMode, fixedLength}
 use Rattle.format.specs.Reading.{Read, bad, good, need, shift, bind}
 use Rattle.format.specs.Reader.{isSet, okWord, readEntry, readFixed, readTail}
@@ -17,33 +16,7 @@ use Rattle.entries.specs.declared.Head.{Head}
 use Rattle.entries.specs.declared.Fixed.{Fixed}
 use Rattle.entries.specs.declared.Fixed.the-variants as F
 use Rattle.entries.specs.Answers.{readHead, fixedOf}
-
--- ---- tests before a part
-
-pub bind-need : {A B : Type 0} (t : Bool) (n p : ℕ) (r : Read A) (k : A → ℕ → Read B) → bind (need t n p r) k ≡ need t n p (bind r k)
-unfolding need bind
-bind-need true n p r k = refl
-bind-need false n p r k = refl
-
-pub bind-cond : {A B : Type 0} (t : Bool) (r q : Read A) (k : A → ℕ → Read B) → bind (cond t r q) k ≡ cond t (bind r k) (bind q k)
-bind-cond true r q k = refl
-bind-cond false r q k = refl
-
--- an answer r that can be had again from what the code says of it
-pub record Kept {A X : Type 0} (say : Read A → X) (again : X → Read A) (r : Read A) : Type 0 where
-  pub same : r ≡ again (say r)
-
-module _ {A X : Type 0} {say : Read A → X} {again : X → Read A} where
-  kept-need : (t : Bool) {n p : ℕ} {r : Read A} → Kept say again (bad n p) → Kept say again r → Kept say again (need t n p r)
-  unfolding need
-  kept-need true e h = h
-  kept-need false e h = e
-
-  kept-cond : (t : Bool) {r q : Read A} → Kept say again r → Kept say again q → Kept say again (cond t r q)
-  kept-cond true e h = e
-  kept-cond false e h = h
-
--- ---- before the name
+use Rattle.entries.proofs.Reading.{bind-need, bind-cond, Kept, kept-need, kept-cond, enough, cut}
 
 -- an entry is what stands before its name, and the rest
 pub readEntry-head : (w v : ℕ) (k : Key) (p : ℕ) (s : List ℕ)
@@ -90,22 +63,16 @@ pub record Flagged (b : List ℕ) (at m x : ℕ) : Type 0 where
 
 -- what the code answers there
 module _ (b : List ℕ) (at v p : ℕ) where
-  enough : (n : ℕ) → n ≤ length b - at → leb n (length (drop at b)) ≡ true
-  enough n h = let l : n ≤ length (drop at b) = simp length-drop h in le-leb _ _ l
-
-  cut : (n : ℕ) → length b - at < n → leb n (length (drop at b)) ≡ false
-  cut n h = let l : length (drop at b) < n = simp length-drop h in lt-leb _ _ l
-
   mode-is : (m : ℕ) → m ≡ be32 b (at + 24) → {t : Bool} → okMode m ≡ t → okMode (be32 (drop at b) 24) ≡ t
   mode-is m h e = ap okMode (sym (h ∙ be32-drop b at 24)) ∙ e
 
   pub fixed-cut : length b - at < 62 → F.Bad 6 ≡ fixedOf (readHead 20 v p (drop at b))
   unfolding readHead fixedLength need fixedOf
-  fixed-cut h = rw (cut 62 h)
+  fixed-cut h = rw (cut b at 62 h)
 
   pub fixed-mode : (m : ℕ) → 62 ≤ length b - at → m ≡ be32 b (at + 24) → okMode m ≡ false → F.Bad 7 ≡ fixedOf (readHead 20 v p (drop at b))
   unfolding readHead fixedLength need fixedOf
-  fixed-mode m h i e = rw (enough 62 h, mode-is m i e)
+  fixed-mode m h i e = rw (enough b at 62 h, mode-is m i e)
 
   module _ (m x : ℕ) (f : Flagged b at m x) where
     flags-are : be16 (drop at b) 60 ≡ x
@@ -117,7 +84,7 @@ module _ (b : List ℕ) (at v p : ℕ) where
         (need (okWord (be16 (drop at b) 62)) 8 p (good (record { length = 64; flags = x; word = be16 (drop at b) 62 }) 64)))
         (good (record { length = 62; flags = x; word = 0 }) 62))
     unfolding readHead fixedLength need
-    after-mode = rw (enough 62 (f .long), mode-is m (f .is-m) (f .mode), flags-are)
+    after-mode = rw (enough b at 62 (f .long), mode-is m (f .is-m) (f .mode), flags-are)
 
     pub fixed-plain : (x / 16384 % 2 ≡ 1 → ⊥) → F.Good (record { length = 62; flags = x; word = 0 }) ≡ fixedOf (readHead 20 v p (drop at b))
     unfolding need isSet fixedOf
@@ -131,7 +98,7 @@ module _ (b : List ℕ) (at v p : ℕ) where
       module _ (later : v ≡ 2 → ⊥) where
         pub fixed-cut-word : length b - at < 64 → F.Bad 6 ≡ fixedOf (readHead 20 v p (drop at b))
         unfolding need isSet fixedOf
-        fixed-cut-word h = rw (after-mode, eq-eqb _ _ extended, ne-eqb _ _ later, cut 64 h)
+        fixed-cut-word h = rw (after-mode, eq-eqb _ _ extended, ne-eqb _ _ later, cut b at 64 h)
 
         module _ (y : ℕ) (longer : 64 ≤ length b - at) (is-y : y ≡ be16 b (at + 62)) where
           word-is : be16 (drop at b) 62 ≡ y
@@ -139,8 +106,8 @@ module _ (b : List ℕ) (at v p : ℕ) where
 
           pub fixed-word : okWord y ≡ true → F.Good (record { length = 64; flags = x; word = y }) ≡ fixedOf (readHead 20 v p (drop at b))
           unfolding need isSet fixedOf
-          fixed-word e = rw (after-mode, eq-eqb _ _ extended, ne-eqb _ _ later, enough 64 longer, word-is, e)
+          fixed-word e = rw (after-mode, eq-eqb _ _ extended, ne-eqb _ _ later, enough b at 64 longer, word-is, e)
 
           pub fixed-bad-word : okWord y ≡ false → F.Bad 8 ≡ fixedOf (readHead 20 v p (drop at b))
           unfolding need isSet fixedOf
-          fixed-bad-word e = rw (after-mode, eq-eqb _ _ extended, ne-eqb _ _ later, enough 64 longer, word-is, e)
+          fixed-bad-word e = rw (after-mode, eq-eqb _ _ extended, ne-eqb _ _ later, enough b at 64 longer, word-is, e)
