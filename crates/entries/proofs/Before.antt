@@ -1,0 +1,113 @@
+-- Laws of what stands before an entry's name.
+use mathlib.Core.Path.{_≡_, refl, sym, ap, _∙_}
+use mathlib.Core.List.{List}
+use mathlib.Core.Bool.{Bool, true, false, cond, not, _&&_}
+use Prim.Native.Nat.{ℕ, _+_, _-_, _/_, _%_, _≤_, _<_}
+use lib.ListN.{length, drop}
+use lib.Dec.{eqb, leb}
+use borrow.Author.Tests.{eq-eqb, ne-eqb}
+use Rattle.format.specs.Bytes.{be16, be32}
+use Rattle.format.specs.Records.{Key}
+use Rattle.format.specs.Layout.{okMode, fixedLength}
+use Rattle.format.specs.Reading.{Read, bad, good, need, shift, bind}
+use Rattle.format.specs.Reader.{isSet, okWord, readEntry, readFixed, readTail}
+use Rattle.fields.proofs.Laws.{be16-drop, be32-drop}
+use Rattle.entries.specs.declared.Head.{Head}
+use Rattle.entries.specs.declared.Fixed.{Fixed}
+use Rattle.entries.specs.declared.Fixed.the-variants as F
+use Rattle.entries.specs.Answers.{readHead, fixedOf}
+use Rattle.entries.proofs.Reading.{bind-need, bind-cond, Kept, kept-need, kept-cond, enough, cut}
+
+-- an entry is what stands before its name, and the rest
+pub readEntry-head : (w v : ℕ) (k : Key) (p : ℕ) (s : List ℕ)
+    → readEntry w v k p s ≡ bind (readHead w v p s) (λ h m. readTail w v k p (h .length) (h .flags) (h .word) s)
+unfolding readEntry readFixed readHead bind
+readEntry-head w v k p s = simp (bind-need, bind-cond, bind)
+
+headRead : ℕ → Fixed → Read Head
+headRead p (F.Bad n) = bad n p
+headRead p (F.Good h) = good h (h .length)
+
+head-bad : (n p : ℕ) → Kept fixedOf (headRead p) (bad n p)
+unfolding fixedOf headRead
+head-bad n p = record { same = refl }
+
+head-good : (p : ℕ) (h : Head) → Kept fixedOf (headRead p) (good h (h .length))
+unfolding fixedOf headRead
+head-good p h = record { same = refl }
+
+head-kept : (w v p : ℕ) (s : List ℕ) → Kept fixedOf (headRead p) (readHead w v p s)
+unfolding readHead
+head-kept w v p s =
+    kept-need _ (head-bad 6 p)
+    (kept-need _ (head-bad 7 p)
+    (kept-need _ (head-bad 8 p)
+    (kept-cond (isSet 16384 (be16 s (40 + w))) (kept-need _ (head-bad 6 p) (kept-need _ (head-bad 8 p) (head-good p _))) (head-good p _))))
+
+module _ (w v : ℕ) (k : Key) (p : ℕ) (s : List ℕ) where
+  pub readEntry-bad : (n : ℕ) → fixedOf (readHead w v p s) ≡ F.Bad n → readEntry w v k p s ≡ bad n p
+  unfolding headRead bind
+  readEntry-bad n e = rw (readEntry-head w v k p s, head-kept w v p s .same, e)
+
+  pub readEntry-good : (h : Head) → fixedOf (readHead w v p s) ≡ F.Good h
+      → readEntry w v k p s ≡ shift (h .length) (readTail w v k p (h .length) (h .flags) (h .word) s)
+  unfolding headRead bind
+  readEntry-good h e = rw (readEntry-head w v k p s, head-kept w v p s .same, e)
+
+-- at a place of the body b: the fixed part is there, its mode m is right, its flags are x
+pub record Flagged (b : List ℕ) (at m x : ℕ) : Type 0 where
+  pub long : 62 ≤ length b - at
+  pub is-m : m ≡ be32 b (at + 24)
+  pub mode : okMode m ≡ true
+  pub is-x : x ≡ be16 b (at + 60)
+
+-- what the code answers there
+module _ (b : List ℕ) (at v p : ℕ) where
+  mode-is : (m : ℕ) → m ≡ be32 b (at + 24) → {t : Bool} → okMode m ≡ t → okMode (be32 (drop at b) 24) ≡ t
+  mode-is m h e = ap okMode (sym (h ∙ be32-drop b at 24)) ∙ e
+
+  pub fixed-cut : length b - at < 62 → F.Bad 6 ≡ fixedOf (readHead 20 v p (drop at b))
+  unfolding readHead fixedLength need fixedOf
+  fixed-cut h = rw (cut b at 62 h)
+
+  pub fixed-mode : (m : ℕ) → 62 ≤ length b - at → m ≡ be32 b (at + 24) → okMode m ≡ false → F.Bad 7 ≡ fixedOf (readHead 20 v p (drop at b))
+  unfolding readHead fixedLength need fixedOf
+  fixed-mode m h i e = rw (enough b at 62 h, mode-is m i e)
+
+  module _ (m x : ℕ) (f : Flagged b at m x) where
+    flags-are : be16 (drop at b) 60 ≡ x
+    flags-are = sym (f .is-x ∙ be16-drop b at 60)
+
+    after-mode : readHead 20 v p (drop at b) ≡ need (not (isSet 16384 x && eqb v 2)) 8 p
+        (cond (isSet 16384 x)
+        (need (leb 64 (length (drop at b))) 6 p
+        (need (okWord (be16 (drop at b) 62)) 8 p (good (record { length = 64; flags = x; word = be16 (drop at b) 62 }) 64)))
+        (good (record { length = 62; flags = x; word = 0 }) 62))
+    unfolding readHead fixedLength need
+    after-mode = rw (enough b at 62 (f .long), mode-is m (f .is-m) (f .mode), flags-are)
+
+    pub fixed-plain : (x / 16384 % 2 ≡ 1 → ⊥) → F.Good (record { length = 62; flags = x; word = 0 }) ≡ fixedOf (readHead 20 v p (drop at b))
+    unfolding need isSet fixedOf
+    fixed-plain e = rw (after-mode, ne-eqb _ _ e)
+
+    module _ (extended : x / 16384 % 2 ≡ 1) where
+      pub fixed-version : v ≡ 2 → F.Bad 8 ≡ fixedOf (readHead 20 v p (drop at b))
+      unfolding need isSet fixedOf
+      fixed-version e = rw (after-mode, eq-eqb _ _ extended, eq-eqb _ _ e)
+
+      module _ (later : v ≡ 2 → ⊥) where
+        pub fixed-cut-word : length b - at < 64 → F.Bad 6 ≡ fixedOf (readHead 20 v p (drop at b))
+        unfolding need isSet fixedOf
+        fixed-cut-word h = rw (after-mode, eq-eqb _ _ extended, ne-eqb _ _ later, cut b at 64 h)
+
+        module _ (y : ℕ) (longer : 64 ≤ length b - at) (is-y : y ≡ be16 b (at + 62)) where
+          word-is : be16 (drop at b) 62 ≡ y
+          word-is = sym (is-y ∙ be16-drop b at 62)
+
+          pub fixed-word : okWord y ≡ true → F.Good (record { length = 64; flags = x; word = y }) ≡ fixedOf (readHead 20 v p (drop at b))
+          unfolding need isSet fixedOf
+          fixed-word e = rw (after-mode, eq-eqb _ _ extended, ne-eqb _ _ later, enough b at 64 longer, word-is, e)
+
+          pub fixed-bad-word : okWord y ≡ false → F.Bad 8 ≡ fixedOf (readHead 20 v p (drop at b))
+          unfolding need isSet fixedOf
+          fixed-bad-word e = rw (after-mode, eq-eqb _ _ extended, ne-eqb _ _ later, enough b at 64 longer, word-is, e)

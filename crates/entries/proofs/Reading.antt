@@ -1,0 +1,40 @@
+-- Laws of the parts that readers are made of.
+use mathlib.Core.Path.{_≡_, refl}
+use mathlib.Core.List.{List}
+use mathlib.Core.Bool.{Bool, true, false, cond}
+use Prim.Native.Nat.{ℕ, _-_, _≤_, _<_}
+use lib.ListN.{length, drop, length-drop}
+use lib.Dec.{leb}
+use borrow.Author.Tests.{le-leb, lt-leb}
+use Rattle.format.specs.Reading.{Read, bad, need, bind}
+
+pub bind-need : {A B : Type 0} (t : Bool) (n p : ℕ) (r : Read A) (k : A → ℕ → Read B) → bind (need t n p r) k ≡ need t n p (bind r k)
+unfolding need bind
+bind-need true n p r k = refl
+bind-need false n p r k = refl
+
+pub bind-cond : {A B : Type 0} (t : Bool) (r q : Read A) (k : A → ℕ → Read B) → bind (cond t r q) k ≡ cond t (bind r k) (bind q k)
+bind-cond true r q k = refl
+bind-cond false r q k = refl
+
+-- an answer r that can be had again from what the code says of it
+pub record Kept {A X : Type 0} (say : Read A → X) (again : X → Read A) (r : Read A) : Type 0 where
+  pub same : r ≡ again (say r)
+
+module _ {A X : Type 0} {say : Read A → X} {again : X → Read A} where
+  pub kept-need : (t : Bool) {n p : ℕ} {r : Read A} → Kept say again (bad n p) → Kept say again r → Kept say again (need t n p r)
+  unfolding need
+  kept-need true e h = h
+  kept-need false e h = e
+
+  pub kept-cond : (t : Bool) {r q : Read A} → Kept say again r → Kept say again q → Kept say again (cond t r q)
+  kept-cond true e h = e
+  kept-cond false e h = h
+
+-- whether n bytes are there from the place at on
+module _ (b : List ℕ) (at n : ℕ) where
+  pub enough : n ≤ length b - at → leb n (length (drop at b)) ≡ true
+  enough h = let l : n ≤ length (drop at b) = simp length-drop h in le-leb _ _ l
+
+  pub cut : length b - at < n → leb n (length (drop at b)) ≡ false
+  cut h = let l : length (drop at b) < n = simp length-drop h in lt-leb _ _ l

@@ -1,0 +1,63 @@
+-- What stands before the name of an entry, and how answers of code stand to answers of readers.
+use mathlib.Core.List.{List}
+use mathlib.Core.Bool.{true, false, cond, not, _&&_}
+use Prim.Native.Nat.{ℕ, _+_}
+use lib.ListN.{length}
+use lib.Dec.{eqb, leb}
+use Rattle.format.specs.Bytes.{be16, be32}
+use Rattle.format.specs.Layout.{okMode, fixedLength}
+use Rattle.format.specs.Reading.{Read, bad, good, need}
+use Rattle.format.specs.Reader.{isSet, okWord}
+use Rattle.entries.specs.declared.Head.{Head}
+use Rattle.entries.specs.declared.Fixed.{Fixed}
+use Rattle.entries.specs.declared.Fixed.the-variants as F
+use Rattle.entries.specs.declared.Text.{Text}
+use Rattle.entries.specs.declared.Text.the-variants as T
+use Rattle.entries.specs.declared.Number.{Number}
+use Rattle.entries.specs.declared.Number.the-variants as N
+
+-- what readEntry reads before the name
+unfoldable pub readHead : ℕ → ℕ → ℕ → List ℕ → Read Head
+readHead w v p s =
+    need (leb (fixedLength w false) (length s)) 6 p
+    (need (okMode (be32 s 24)) 7 p
+    (need (not (isSet 16384 (be16 s (40 + w)) && eqb v 2)) 8 p
+    (cond (isSet 16384 (be16 s (40 + w)))
+    (need (leb (fixedLength w true) (length s)) 6 p
+    (need (okWord (be16 s (42 + w))) 8 p
+    (good (record { length = fixedLength w true; flags = be16 s (40 + w); word = be16 s (42 + w) }) (fixedLength w true))))
+    (good (record { length = fixedLength w false; flags = be16 s (40 + w); word = 0 }) (fixedLength w false)))))
+
+unfoldable pub fixedOf : Read Head → Fixed
+fixedOf (bad n p) = F.Bad n
+fixedOf (good h m) = F.Good h
+
+-- the length, 0 of a refusal
+abbrev pub headLength : Fixed → ℕ
+headLength (F.Bad n) = 0
+headLength (F.Good h) = h .length
+
+-- a name by its length, with the bytes taken
+unfoldable pub textOf : Read (List ℕ) → Text
+textOf (bad n p) = T.Bad n
+textOf (good name m) = T.Good (length name) m
+
+abbrev pub textLength : Text → ℕ
+textLength (T.Bad n) = 0
+textLength (T.Good n m) = n
+
+abbrev pub textTaken : Text → ℕ
+textTaken (T.Bad n) = 0
+textTaken (T.Good n m) = m
+
+unfoldable pub numberOf : Read ℕ → Number
+numberOf (bad n p) = N.Bad n
+numberOf (good n m) = N.Good n m
+
+abbrev pub numberValue : Number → ℕ
+numberValue (N.Bad n) = 0
+numberValue (N.Good n m) = n
+
+abbrev pub numberTaken : Number → ℕ
+numberTaken (N.Bad n) = 0
+numberTaken (N.Good n m) = m

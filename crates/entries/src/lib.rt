@@ -1,0 +1,176 @@
+// The entries of a body, read.
+ghost use mathlib.Core.Path.{_≡_};
+ghost use Prim.Native.Nat.{ℕ, _+_, _<_, _≤_};
+ghost use lib.ListN.{length, drop, getD};
+ghost use Rattle.format.specs.Layout.{okMode, entryLength};
+ghost use Rattle.format.specs.Reader.{okWord, plainLength, readPlain, readN};
+ghost use Rattle.entries.specs.Answers.{readHead, fixedOf, headLength, textOf, textLength, textTaken, numberOf, numberValue, numberTaken};
+
+// The bytes before the name: how many, the flags, and the extended word or 0.
+pub struct Head {
+    pub length: usize,
+    pub flags: u32,
+    pub word: u32,
+}
+
+// A refusal's number, or the bytes before the name.
+pub enum Fixed {
+    Bad(u32),
+    Good(Head),
+}
+
+// A refusal's number, or the length of a name and how many bytes were taken.
+pub enum Text {
+    Bad(u32),
+    Good(usize, usize),
+}
+
+// A refusal's number, or the number N of version 4 and how many bytes were taken.
+pub enum Number {
+    Bad(u32),
+    Good(usize, usize),
+}
+
+// Whether an entry may have the mode m.
+pub fn mode_ok(m: u32) -> bool
+    ensures { λ r. ⌜ r ≡ okMode m ⌝ }
+{
+    if m == 0x81A4 {
+        return true;
+    }
+    if m == 0x81ED {
+        return true;
+    }
+    if m == 0xA000 {
+        return true;
+    }
+    m == 0xE000
+}
+
+// Whether x may be an extended word.
+pub fn word_ok(x: u32) -> bool
+    ensures { λ r. ⌜ r ≡ okWord x ⌝ }
+{
+    if x < 32768 {
+        return x % 8192 == 0;
+    }
+    false
+}
+
+// What stands before the name of the entry of version v at a place.
+pub fn read_fixed(b: &[u8], at: usize, v: u32) -> Fixed
+    requires { ⌜ (at ≤ length (now b)) × (length (now b) ≤ 16777216) ⌝ }
+    ensures { λ r. ⌜ ((p : ℕ) → r ≡ fixedOf (readHead 20 v p (drop at (now (b .entry))))) × (at + headLength r ≤ length (now (b .entry))) ⌝ }
+{
+    if b.len() - at < 62 {
+        return Fixed::Bad(6);
+    }
+    let m = fields::read32(b, at + 24);
+    if mode_ok(m) {
+        let x = fields::read16(b, at + 60);
+        if x / 16384 % 2 == 1 {
+            if v == 2 {
+                return Fixed::Bad(8);
+            }
+            if b.len() - at < 64 {
+                return Fixed::Bad(6);
+            }
+            let y = fields::read16(b, at + 62);
+            if word_ok(y) {
+                return Fixed::Good(Head {
+                    length: 64,
+                    flags: x,
+                    word: y,
+                });
+            }
+            return Fixed::Bad(8);
+        }
+        return Fixed::Good(Head {
+            length: 62,
+            flags: x,
+            word: 0,
+        });
+    }
+    Fixed::Bad(7)
+}
+
+fn byte_at(b: &[u8], at: usize) -> usize
+    requires { ⌜ at < length (now b) ⌝ }
+    ensures { λ r. ⌜ (r ≡ getD (now (b .entry)) at 0) × (r < 256) ⌝ }
+{
+    b[at] as usize
+}
+
+// The number N of version 4 at a place, where the previous name has most bytes.
+pub fn read_n(b: &[u8], at: usize, most: usize) -> Number
+    requires { ⌜ (at ≤ length (now b)) × (length (now b) ≤ 16777216) ⌝ }
+    ensures { λ r. ⌜ ((p : ℕ) → r ≡ numberOf (readN p most (drop at (now (b .entry))))) × (numberValue r ≤ most) × (at + numberTaken r ≤ length (now (b .entry))) ⌝ }
+{
+    if b.len() - at < 1 {
+        return Number::Bad(6);
+    }
+    let x = byte_at(b, at);
+    if x < 128 {
+        if x <= most {
+            return Number::Good(x, 1);
+        }
+        return Number::Bad(10);
+    }
+    if b.len() - at < 2 {
+        return Number::Bad(6);
+    }
+    let y = byte_at(b, at + 1);
+    if y < 128 {
+        let n = (x - 128 + 1) * 128 + y;
+        if n <= most {
+            return Number::Good(n, 2);
+        }
+        return Number::Bad(10);
+    }
+    Number::Bad(10)
+}
+
+// The length of the name at a place, as the length field says it.
+fn plain_length(b: &[u8], at: usize, field: u32) -> usize
+    requires { ⌜ at ≤ length (now b) ⌝ }
+    ensures { λ r. ⌜ (r ≡ plainLength field (drop at (now (b .entry)))) × (r < length (now (b .entry)) + 4095) ⌝ }
+{
+    if field < 4095 {
+        return field as usize;
+    }
+    fields::find(b, at, 0) - at
+}
+
+// The length of an entry with f bytes before a name of n.
+pub fn entry_length(f: usize, n: usize) -> usize
+    requires { ⌜ (f ≤ 64) × (n ≤ 16777216) ⌝ }
+    ensures { λ r. ⌜ (r ≡ entryLength f n) × (f + n < r) × (r ≤ f + n + 8) ⌝ }
+{
+    8 * ((f + n) / 8) + 8
+}
+
+// The name of versions 2 and 3 at a place, with the NULs after it; f bytes of its entry stand before it.
+pub fn read_plain(b: &[u8], at: usize, f: usize, field: u32) -> Text
+    requires { ⌜ (at ≤ length (now b)) × (length (now b) ≤ 16777216) × (f ≤ 64) ⌝ }
+    ensures { λ r. ⌜ ((p : ℕ) → r ≡ textOf (readPlain f p field (drop at (now (b .entry))))) × (textLength r ≤ textTaken r) × (at + textTaken r ≤ length (now (b .entry))) ⌝ }
+{
+    let n = plain_length(b, at, field);
+    if b.len() - at <= n {
+        return Text::Bad(6);
+    }
+    let e = at + n;
+    if fields::name_ok(&b[at..e]) {
+        if field == fields::length_field(n) {
+            let m = entry_length(f, n) - f;
+            if b.len() - at < m {
+                return Text::Bad(6);
+            }
+            if fields::all_zero(b, e, at + m) {
+                return Text::Good(n, m);
+            }
+            return Text::Bad(10);
+        }
+        return Text::Bad(9);
+    }
+    Text::Bad(9)
+}
