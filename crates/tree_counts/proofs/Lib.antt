@@ -1,0 +1,5 @@
+-- The laws of the counts of a cache tree. Read in this order.
+pub mod Tests
+pub mod Names
+pub mod Siblings
+pub mod Counts

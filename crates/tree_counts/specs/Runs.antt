@@ -1,0 +1,33 @@
+-- Names in order, and those of them that stand in one directory.
+use mathlib.Core.List.{List, [], _∷_}
+use mathlib.Core.Bool.{Bool, true, false, cond, not, _&&_}
+use Prim.Native.Nat.{ℕ}
+use lib.Dec.{eqb}
+use Rattle.format.specs.declared.Order.{Order}
+use Rattle.format.specs.declared.Order.the-variants.{Below, Same, Above}
+use Rattle.format.specs.Names.{compare}
+
+abbrev pub notAbove : Order → Bool
+notAbove Below = true
+notAbove Same = true
+notAbove Above = false
+
+-- each name is the same as the one before or above it; the first is held to p
+unfoldable pub sortedFrom : List ℕ → List (List ℕ) → Bool
+sortedFrom p [] = true
+sortedFrom p (s ∷ ss) = notAbove (compare p s) && sortedFrom s ss
+
+-- whether s begins with q
+unfoldable pub begins : List ℕ → List ℕ → Bool
+begins [] s = true
+begins (x ∷ q) [] = false
+begins (x ∷ q) (y ∷ s) = cond (eqb x y) (begins q s) false
+
+-- whether every name passes a test, and whether none does
+unfoldable pub every : (List ℕ → Bool) → List (List ℕ) → Bool
+every p [] = true
+every p (s ∷ ss) = p s && every p ss
+
+unfoldable pub never : (List ℕ → Bool) → List (List ℕ) → Bool
+never p [] = true
+never p (s ∷ ss) = not (p s) && never p ss
