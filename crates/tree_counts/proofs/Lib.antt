@@ -3,3 +3,4 @@ pub mod Tests
 pub mod Names
 pub mod Siblings
 pub mod Counts
+pub mod Walk

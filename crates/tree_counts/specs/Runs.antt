@@ -1,11 +1,15 @@
 -- Names in order, and those of them that stand in one directory.
+use mathlib.Core.Path.{_≡_}
 use mathlib.Core.List.{List, [], _∷_}
 use mathlib.Core.Bool.{Bool, true, false, cond, not, _&&_}
-use Prim.Native.Nat.{ℕ}
+use Prim.Native.Nat.{ℕ, _≤_}
+use lib.ListN.{length}
 use lib.Dec.{eqb}
+use Rattle.format.specs.Bytes.{lacks}
 use Rattle.format.specs.declared.Order.{Order}
 use Rattle.format.specs.declared.Order.the-variants.{Below, Same, Above}
 use Rattle.format.specs.Names.{compare}
+use Rattle.format.specs.Layout.{under}
 
 abbrev pub notAbove : Order → Bool
 notAbove Below = true
@@ -31,3 +35,10 @@ every p (s ∷ ss) = p s && every p ss
 unfoldable pub never : (List ℕ → Bool) → List (List ℕ) → Bool
 never p [] = true
 never p (s ∷ ss) = not (p s) && never p ss
+
+-- of the names in a directory, done have been passed, and run are those that follow under the component c
+pub record Run (c : List ℕ) (done run : List (List ℕ)) : Type 0 where
+  pub component : lacks 47 c ≡ true
+  pub new : never (under c) done ≡ true
+  pub all : every (under c) run ≡ true
+  pub some : 1 ≤ length run
