@@ -4,3 +4,4 @@ pub mod Names
 pub mod Siblings
 pub mod Counts
 pub mod Walk
+pub mod Order

@@ -27,7 +27,11 @@ begins [] s = true
 begins (x ∷ q) [] = false
 begins (x ∷ q) (y ∷ s) = cond (eqb x y) (begins q s) false
 
--- whether every name passes a test, and whether none does
+-- whether the first name passes a test, whether every one does, and whether none does
+unfoldable pub leads : (List ℕ → Bool) → List (List ℕ) → Bool
+leads p [] = false
+leads p (s ∷ ss) = p s
+
 unfoldable pub every : (List ℕ → Bool) → List (List ℕ) → Bool
 every p [] = true
 every p (s ∷ ss) = p s && every p ss
