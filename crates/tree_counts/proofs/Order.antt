@@ -15,7 +15,7 @@ use Rattle.format.specs.declared.Order.the-variants.{Below, Same, Above}
 use Rattle.format.specs.Bytes.{lacks, eqList}
 use Rattle.format.specs.Names.{compare, common}
 use Rattle.format.specs.Layout.{under, inside}
-use Rattle.tree_counts.specs.Runs.{notAbove, sortedFrom, begins, leads, every, never}
+use Rattle.tree_counts.specs.Runs.{notAbove, sortedFrom, begins, leads, trails, every, never}
 use Rattle.tree_counts.proofs.Tests.{false-true, clash, by-test, and-inv, head-inv, eqb-swap}
 use Rattle.tree_counts.proofs.Names.{eqList-true, under-slash, under-one}
 
@@ -108,7 +108,7 @@ under-common d s t u =
 -- ---- names that rise
 
 -- those after the first, and those from any on
-sorted-skip : (a s : List ℕ) (ss : List (List ℕ)) → sortedFrom a (s ∷ ss) ≡ true → sortedFrom a ss ≡ true
+pub sorted-skip : (a s : List ℕ) (ss : List (List ℕ)) → sortedFrom a (s ∷ ss) ≡ true → sortedFrom a ss ≡ true
 unfolding sortedFrom
 sorted-skip a s [] h = refl
 sorted-skip a s (t ∷ ss) h =
@@ -162,25 +162,16 @@ module _ (p : List ℕ → Bool) (convex : Convex p) where
       let j = and-inv (notAbove (compare s t)) (sortedFrom t (run ++ rest)) h in
       rest-clear t run rest (i .0) (i .1) n (j .1)
 
-  -- up to one that fails before one that passes, none passes
-  pub done-clear : (a : List ℕ) (done : List (List ℕ)) (s t : List ℕ) (ss : List (List ℕ)) → sortedFrom a (done ++ (s ∷ (t ∷ ss))) ≡ true
-      → p s ≡ false → p t ≡ true → never p (done ++ (s ∷ [])) ≡ true
-  unfolding sortedFrom never Convex
-  done-clear a [] s t ss h n y = rw n
-  done-clear a (d ∷ done) s t ss h n y =
-      let i = and-inv (notAbove (compare a d)) (sortedFrom d (done ++ (s ∷ (t ∷ ss)))) h in
-      let j = sorted-at d done s (t ∷ ss) (i .1) in
-      let k = and-inv (notAbove (compare s t)) (sortedFrom t ss) (j .1) in
+  -- where one that passes follows one that fails, none before passes
+  pub done-clear : (a : List ℕ) (done : List (List ℕ)) (t : List ℕ) (ss : List (List ℕ)) → sortedFrom a (done ++ (t ∷ ss)) ≡ true
+      → trails p done ≡ false → p t ≡ true → never p done ≡ true
+  unfolding sortedFrom trails never Convex
+  done-clear a [] t ss h n y = refl
+  done-clear a (d ∷ []) t ss h n y = rw n
+  done-clear a (d ∷ e ∷ done) t ss h n y =
+      let i = and-inv (notAbove (compare a d)) (sortedFrom d (e ∷ (done ++ (t ∷ ss)))) h in
+      let j = and-inv (notAbove (compare d e)) (sortedFrom e (done ++ (t ∷ ss))) (i .1) in
+      let later = done-clear d (e ∷ done) t ss (i .1) n y in
       by-test (p d)
-      (λ e. clash (convex d s t e y (j .0) (k .0)) n)
-      (λ e. rw (e, done-clear d done s t ss (i .1) n y))
-
--- the name before a run is not under its component: it has no "/", or it is under another, which the run's first name is not
-pub file-before : (c s : List ℕ) → lacks 47 s ≡ true → under c s ≡ false
-file-before c s e = by-test (under c s) (λ u. clash e (under-slash c s u)) (λ u. u)
-
-pub run-before : (b c s t : List ℕ) → lacks 47 b ≡ true → lacks 47 c ≡ true → under b s ≡ true → under b t ≡ false → under c t ≡ true → under c s ≡ false
-run-before b c s t lb lc p n y =
-    by-test (under c s)
-    (λ u. clash y (rw (eqList-true b c (under-one b c s lb lc p u)) at n))
-    (λ u. u)
+      (λ q. clash (convex d e t q y (j .0) (sorted-at e done t ss (j .1) .0)) (not-true (p e) (and-inv (not (p e)) (never p done) later .0)))
+      (λ q. rw q later)

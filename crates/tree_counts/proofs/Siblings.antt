@@ -8,16 +8,10 @@ use lib.Dec.{leb}
 use borrow.Author.Tests.{not-true}
 use Rattle.format.specs.Bytes.{eqList, lacks}
 use Rattle.format.specs.Records.{Node, Forest, nil, tree}
-use Rattle.format.specs.Layout.{okNodeName, Siblings, siblings-end, siblings-more, has, distinct, under}
+use Rattle.format.specs.Layout.{okNodeName, has, distinct, under}
 use Rattle.tree_counts.specs.Judge.{plain, reached}
 use Rattle.tree_counts.proofs.Tests.{clash, by-test, and-inv, and-inv₃, or-false-inv}
 use Rattle.tree_counts.proofs.Names.{under-slash, under-one}
-
--- what is spelled has such names
-pub siblings-plain : {w levels : ℕ} {f : Forest} {a : List ℕ} → Siblings w levels f a → plain f ≡ true
-unfolding plain
-siblings-plain siblings-end = refl
-siblings-plain (siblings-more ok here kids after) = rw (ok, siblings-plain kids, siblings-plain after)
 
 -- what holds of a list of siblings holds of its parts
 pub record Sound (f : Forest) : Type 0 where

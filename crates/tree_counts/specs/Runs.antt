@@ -27,10 +27,15 @@ begins [] s = true
 begins (x ∷ q) [] = false
 begins (x ∷ q) (y ∷ s) = cond (eqb x y) (begins q s) false
 
--- whether the first name passes a test, whether every one does, and whether none does
+-- whether the first name passes a test, whether the last does, whether every one does, and whether none does
 unfoldable pub leads : (List ℕ → Bool) → List (List ℕ) → Bool
 leads p [] = false
 leads p (s ∷ ss) = p s
+
+unfoldable pub trails : (List ℕ → Bool) → List (List ℕ) → Bool
+trails p [] = false
+trails p (s ∷ []) = p s
+trails p (s ∷ t ∷ ss) = trails p (t ∷ ss)
 
 unfoldable pub every : (List ℕ → Bool) → List (List ℕ) → Bool
 every p [] = true
@@ -40,9 +45,22 @@ unfoldable pub never : (List ℕ → Bool) → List (List ℕ) → Bool
 never p [] = true
 never p (s ∷ ss) = not (p s) && never p ss
 
+-- the names up to the first that fails a test, and those from it on
+unfoldable pub span : (List ℕ → Bool) → List (List ℕ) → List (List ℕ)
+span p [] = []
+span p (s ∷ ss) = cond (p s) (s ∷ span p ss) []
+
+unfoldable pub beyond : (List ℕ → Bool) → List (List ℕ) → List (List ℕ)
+beyond p [] = []
+beyond p (s ∷ ss) = cond (p s) (beyond p ss) (s ∷ ss)
+
 -- of the names in a directory, done have been passed, and run are those that follow under the component c
 pub record Run (c : List ℕ) (done run : List (List ℕ)) : Type 0 where
   pub component : lacks 47 c ≡ true
   pub new : never (under c) done ≡ true
   pub all : every (under c) run ≡ true
   pub some : 1 ≤ length run
+
+-- no component has both the last name of done and the first of rest under it
+pub record Boundary (done rest : List (List ℕ)) : Type 0 where
+  pub apart : (c : List ℕ) → lacks 47 c ≡ true → leads (under c) rest ≡ true → trails (under c) done ≡ false
