@@ -5,14 +5,14 @@ use mathlib.Core.Bool.{Bool, true, false, cond, not, _&&_, _||_, and-assoc, and-
 use Prim.Native.Nat.{ℕ, zero, suc, _+_, _≤_}
 use native.Mathlib.Nat.{zero-add}
 use native.Mathlib.Omega.{arith}
-use lib.ListN.{length, drop}
+use lib.ListN.{length}
 use lib.Dec.{eqb, leb}
-use borrow.Author.Tests.{eqb-true, eqb-false, eq-eqb, ne-eqb, le-leb, lt-leb, not-true}
-use Rattle.format.specs.Bytes.{eqList, lacks}
+use borrow.Author.Tests.{eqb-true, eqb-false, eq-eqb, ne-eqb, le-leb}
+use Rattle.format.specs.Bytes.{lacks}
 use Rattle.format.specs.Records.{Count, valid, invalid, Node, Forest, nil, tree, Tree}
-use Rattle.format.specs.Layout.{bit, okNodeName, has, distinct, under, inside, files, allValid, sum, okCount, okCounts, okTreeCounts}
-use Rattle.tree_counts.specs.Judge.{isValid, says, weight, plain, tidy, positive, reached, covered, counted, hit, judgeEach, judge, matched, countsAll}
-use Rattle.tree_counts.proofs.Tests.{false-true, clash, by-test, and-inv, and-inv₃, or-false-inv, and-when, and-left-comm, sums-equal}
+use Rattle.format.specs.Layout.{bit, distinct, under, inside, files, allValid, sum, okCount, okCounts, okTreeCounts}
+use Rattle.tree_counts.specs.Judge.{isValid, weight, plain, tidy, positive, reached, covered, counted, hit, judgeEach, judge, matched, countsAll}
+use Rattle.tree_counts.proofs.Tests.{false-true, by-test, and-inv, and-inv₃, and-when, and-left-comm, sums-equal}
 use Rattle.tree_counts.proofs.Siblings.{Sound, sound-name, sound-new, sound-kids, sound-after, unreached, file-unreached}
 
 -- ---- how many names are under the siblings

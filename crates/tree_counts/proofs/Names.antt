@@ -1,14 +1,13 @@
 -- Laws of names under a directory: which, and how many.
-use mathlib.Core.Path.{_≡_, refl, sym, ap, _∙_}
+use mathlib.Core.Path.{_≡_, refl, sym, _∙_}
 use mathlib.Core.List.{List, [], _∷_}
 use mathlib.Core.Bool.{Bool, true, false, cond}
 use Prim.Native.Nat.{ℕ}
-use native.Mathlib.Omega.{arith}
 use lib.Dec.{eqb}
-use borrow.Author.Tests.{eqb-true, eqb-false, eq-eqb, ne-eqb}
+use borrow.Author.Tests.{eqb-true, eq-eqb}
 use Rattle.format.specs.Bytes.{eqList, lacks}
 use Rattle.format.specs.Layout.{under}
-use Rattle.tree_counts.proofs.Tests.{false-true, clash, by-test, head-inv, cond-inv}
+use Rattle.tree_counts.proofs.Tests.{false-true, clash, by-test, head-inv}
 
 cons-path : {x y : ℕ} {s t : List ℕ} → x ≡ y → s ≡ t → (x ∷ s) ≡ (y ∷ t)
 cons-path e f = cc

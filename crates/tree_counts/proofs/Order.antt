@@ -1,23 +1,19 @@
 -- In a list of names that rises, those that begin alike stand together.
 use mathlib.Core.Path.{_≡_, refl, sym, ap, _∙_}
 use mathlib.Core.List.{List, [], _∷_, _++_}
-use mathlib.Core.Bool.{Bool, true, false, cond, not, _&&_}
-use mathlib.Core.Logic.{_⊎_, inl, inr, ⊎-elim}
-use Prim.Native.Nat.{ℕ, zero, suc, _+_, _≤_, _<_}
-use native.Mathlib.Numerals.{add-one}
+use mathlib.Core.Bool.{Bool, true, false, cond, not}
+use Prim.Native.Nat.{ℕ, _+_, _≤_, _<_}
 use native.Mathlib.Nat.{zero-add, suc-add}
 use native.Mathlib.Omega.{arith}
-use lib.ListN.{length, drop, length-append}
+use lib.ListN.{length, length-append}
 use lib.Dec.{eqb, ltb, leb, leb·zero, leb·suc-zero, leb·suc-suc}
-use borrow.Author.Tests.{ltb-true, ltb-false, lt-ltb, le-ltb, eq-eqb, ne-eqb, eqb-true, not-true}
+use borrow.Author.Tests.{ltb-true, ltb-false, lt-ltb, le-ltb, eq-eqb, not-true}
 use Rattle.format.specs.declared.Order.{Order}
-use Rattle.format.specs.declared.Order.the-variants.{Below, Same, Above}
-use Rattle.format.specs.Bytes.{lacks, eqList}
+use Rattle.format.specs.declared.Order.the-variants.{Below, Above}
 use Rattle.format.specs.Names.{compare, common}
-use Rattle.format.specs.Layout.{under, inside}
+use Rattle.format.specs.Layout.{under}
 use Rattle.tree_counts.specs.Runs.{notAbove, sortedFrom, begins, leads, trails, every, never}
 use Rattle.tree_counts.proofs.Tests.{false-true, clash, by-test, and-inv, head-inv, eqb-swap}
-use Rattle.tree_counts.proofs.Names.{eqList-true, under-slash, under-one}
 
 -- ---- the order of names
 

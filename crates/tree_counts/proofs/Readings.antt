@@ -5,8 +5,8 @@ use mathlib.Core.Bool.{Bool, true, false}
 use Prim.Native.Nat.{ℕ, zero, suc}
 use lib.ListN.{drop, length}
 use lib.Dec.{eqb}
-use Rattle.format.specs.Records.{Node, Forest, nil, tree, Tree}
-use Rattle.format.specs.Layout.{okNodeName, Siblings, siblings-end, siblings-more, IsTree}
+use Rattle.format.specs.Records.{Node, Forest, tree, Tree}
+use Rattle.format.specs.Layout.{okNodeName, Siblings, siblings-end, siblings-more}
 use Rattle.format.specs.Reading.{Read, bad, good, need, shift, bind}
 use Rattle.format.specs.Reader.{readNode, readSiblings, readForest, readNodes}
 use Rattle.tree_counts.specs.Judge.{plain}

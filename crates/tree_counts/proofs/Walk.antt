@@ -2,20 +2,20 @@
 use mathlib.Core.Path.{_≡_, refl, sym, ap, ap₂, _∙_}
 use mathlib.Core.List.{List, [], _∷_, _++_, append-nil}
 use mathlib.Core.Bool.{Bool, true, false, cond, not, _&&_, _||_, and-assoc, and-comm, and-true, and-false}
-use mathlib.Core.Option.{Option, none, some}
-use Prim.Native.Nat.{ℕ, zero, suc, _+_, _≤_}
-use native.Mathlib.Nat.{zero-add, add-zero, add-comm, add-assoc}
+use mathlib.Core.Option.{none, some}
+use Prim.Native.Nat.{ℕ, suc, _+_, _≤_}
+use native.Mathlib.Nat.{zero-add, add-comm, add-assoc}
 use native.Mathlib.Omega.{arith}
-use lib.ListN.{length, drop}
+use lib.ListN.{length}
 use borrow.Author.Tests.{not-true}
 use Rattle.format.specs.Bytes.{eqList, lacks}
-use Rattle.format.specs.Records.{Count, valid, invalid, Node, Forest, nil, tree, Tree}
-use Rattle.format.specs.Layout.{has, distinct, under, inside}
+use Rattle.format.specs.Records.{Count, Node, Forest, nil, tree, Tree}
+use Rattle.format.specs.Layout.{has, under, inside}
 use Rattle.tree_counts.specs.Judge.{isValid, says, weight, child, reached, covered, counted, hit, judgeEach, judge, matched}
 use Rattle.tree_counts.specs.Runs.{every, never, Run}
-use Rattle.tree_counts.proofs.Tests.{false-true, clash, by-test, and-inv, and-left-comm, or-false-inv}
+use Rattle.tree_counts.proofs.Tests.{clash, by-test, and-inv, or-false-inv}
 use Rattle.tree_counts.proofs.Names.{eqList-true, under-slash, under-one}
-use Rattle.tree_counts.proofs.Siblings.{Sound, sound-name, sound-new, sound-kids, sound-after, unreached, file-unreached}
+use Rattle.tree_counts.proofs.Siblings.{Sound, sound-name, sound-new, sound-kids, sound-after, unreached}
 
 -- ---- the names in a directory
 

@@ -6,7 +6,7 @@ use Prim.Native.Nat.{ℕ, _+_}
 use lib.ListN.{length}
 use lib.Dec.{eqb, leb}
 use Rattle.format.specs.Bytes.{eqList, lacks}
-use Rattle.format.specs.Records.{Count, valid, invalid, Node, Forest, nil, tree, Tree}
+use Rattle.format.specs.Records.{Count, valid, invalid, Forest, nil, tree, Tree}
 use Rattle.format.specs.Layout.{bit, okNodeName, under, inside, allValid}
 
 -- ---- one count
