@@ -7,3 +7,4 @@ pub mod Counts
 pub mod Walk
 pub mod Order
 pub mod Directory
+pub mod Runs

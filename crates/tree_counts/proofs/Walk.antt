@@ -13,9 +13,9 @@ use Rattle.format.specs.Records.{Count, Node, Forest, nil, tree, Tree}
 use Rattle.format.specs.Layout.{has, under, inside}
 use Rattle.tree_counts.specs.Judge.{isValid, says, weight, child, reached, covered, counted, hit, judgeEach, judge, matched}
 use Rattle.tree_counts.specs.Runs.{every, never, Run}
-use Rattle.tree_counts.proofs.Tests.{clash, by-test, and-inv, or-false-inv}
+use Rattle.tree_counts.proofs.Tests.{false-true, clash, by-test, and-inv, or-false-inv}
 use Rattle.tree_counts.proofs.Names.{eqList-true, under-slash, under-one}
-use Rattle.tree_counts.proofs.Siblings.{Sound, sound-name, sound-new, sound-kids, sound-after, unreached}
+use Rattle.tree_counts.proofs.Siblings.{Sound, sound-name, sound-new, sound-kids, sound-after, unreached, file-unreached}
 
 -- ---- the names in a directory
 
@@ -34,6 +34,10 @@ inside-never c [] h = refl
 inside-never c (s ∷ ss) h =
     let i = and-inv (not (under c s)) (never (under c) ss) h in
     rw (not-true (under c s) (i .0)) (inside-never c ss (i .1))
+
+inside-pass : (d : List ℕ) (done : List (List ℕ)) (s : List ℕ) → under d s ≡ false → inside d (done ++ (s ∷ [])) ≡ inside d done
+unfolding inside
+inside-pass d done s u = inside-append d done (s ∷ []) ∙ rw u (append-nil (inside d done))
 
 pub inside-length : (c : List ℕ) (ss : List (List ℕ)) → every (under c) ss ≡ true → length (inside c ss) ≡ length ss
 unfolding inside every
@@ -63,6 +67,10 @@ child-has c (tree n kids after) e =
     some-none : {t : Tree} → some t ≡ none → ⊥
     some-none e = let z : _≡_ {A = ℕ} 0 1 = cc in omega arith
 
+-- then a name under that component is under no sibling
+pub child-free : (c s : List ℕ) (f : Forest) → Sound f → lacks 47 c ≡ true → child c f ≡ none → under c s ≡ true → reached s f ≡ false
+child-free c s f h lc e u = unreached c s f lc u h (child-has c f e)
+
 -- it is the first sibling, or one after it
 child-inv : {X : Type 0} (c : List ℕ) (n : Node) (kids after : Forest) (t : Tree) → child c (tree n kids after) ≡ some t
     → (c ≡ n .name → record { root = n; subtrees = kids } ≡ t → X) → (eqList c (n .name) ≡ false → child c after ≡ some t → X) → X
@@ -84,14 +92,19 @@ child-sound c (tree n kids after) t h e =
     (λ q p. rw (← p) (sound-kids n kids after h))
     (λ q p. child-sound c after t (sound-after n kids after h) p)
 
+pub child-some : (c : List ℕ) (f : Forest) (t : Tree) → child c f ≡ some t → has c f ≡ true
+unfolding child has
+child-some c nil t e = child-nil c t e
+child-some c (tree n kids after) t e = by-test (eqList c (n .name)) (λ q. rw q) (λ q. rw q (child-some c after t (rw q at e)))
+
 -- a name under the component c is under a sibling where one has that name
-child-reached : (c s : List ℕ) (f : Forest) (t : Tree) → child c f ≡ some t → under c s ≡ true → reached s f ≡ true
-unfolding reached
-child-reached c s nil t e u = child-nil c t e
-child-reached c s (tree n kids after) t e u =
-    child-inv c n kids after t e
-    (λ q p. rw (← q, u))
-    (λ q p. rw (child-reached c s after t p u) (by-test (under (n .name) s) (λ v. rw v) (λ v. rw v)))
+pub has-reached : (c s : List ℕ) (f : Forest) → has c f ≡ true → under c s ≡ true → reached s f ≡ true
+unfolding has reached
+has-reached c s nil e u = false-true e
+has-reached c s (tree n kids after) e u =
+    by-test (eqList c (n .name))
+    (λ q. rw (rw (eqList-true c (n .name) q) at u))
+    (λ q. rw (has-reached c s after (rw q at e) u) (by-test (under (n .name) s) (λ v. rw v) (λ v. rw v)))
 
 -- ---- what is gathered over siblings from the names under each
 
@@ -100,10 +113,12 @@ module _ {A : Type 0} (op : A → A → A) (unit : A) (one : Count → List (Lis
   over names nil = unit
   over names (tree n kids after) = op (one (n .count) (inside (n .name) names) kids) (over names after)
 
-  over-same : (s t : List (List ℕ)) → ((d : List ℕ) → inside d s ≡ inside d t) → (f : Forest) → over s f ≡ over t f
-  unfolding over
-  over-same s t h nil = refl
-  over-same s t h (tree n kids after) = rw (h (n .name), over-same s t h after)
+  over-pass : (done : List (List ℕ)) (s : List ℕ) (f : Forest) → reached s f ≡ false → over (done ++ (s ∷ [])) f ≡ over done f
+  unfolding over reached
+  over-pass done s nil e = refl
+  over-pass done s (tree n kids after) e =
+      let i = or-false-inv (under (n .name) s) (reached s after) e in
+      rw (inside-pass (n .name) done s (i .0), over-pass done s after (i .1))
 
   module _ (nothing : (k : Count) (kids : Forest) → one k [] kids ≡ unit) (left : (x : A) → op unit x ≡ x)
       (comm : (x y : A) → op x y ≡ op y x) (assoc : (x y z : A) → op (op x y) z ≡ op x (op y z)) where
@@ -186,27 +201,32 @@ unfolding covered
 covered-append [] t f = refl
 covered-append (x ∷ s) t f = rw (covered-append s t f) (sym (and-assoc (lacks 47 x || reached x f) (covered s f) (covered t f)))
 
--- a name with no further "/"
-module _ (done : List (List ℕ)) (s : List ℕ) (file : lacks 47 s ≡ true) (f : Forest) where
-  file-inside : (d : List ℕ) → inside d (done ++ (s ∷ [])) ≡ inside d done
-  unfolding inside
-  file-inside d =
-      by-test (under d s)
-      (λ u. clash file (under-slash d s u))
-      (λ u. inside-append d done (s ∷ []) ∙ rw u (append-nil (inside d done)))
+-- a name that is under no sibling
+module _ (done : List (List ℕ)) (s : List ℕ) (f : Forest) (free : reached s f ≡ false) where
+  each-pass : judgeEach (done ++ (s ∷ [])) f ≡ judgeEach done f
+  each-pass = each-over (done ++ (s ∷ [])) f ∙ over-pass _&&_ true judgeOne done s f free ∙ sym (each-over done f)
 
-  file-covered : covered (done ++ (s ∷ [])) f ≡ covered done f
-  unfolding covered
-  file-covered = covered-append done (s ∷ []) f ∙ rw file (and-true (covered done f))
+  pub matched-pass : matched (done ++ (s ∷ [])) f ≡ matched done f
+  matched-pass = matched-over (done ++ (s ∷ [])) f ∙ over-pass _+_ 0 matchedOne done s f free ∙ sym (matched-over done f)
 
+  pub judge-pass : (v : Bool) → judge v (done ++ (s ∷ [])) f ≡ (judge v done f && (lacks 47 s || not v))
+  unfolding judge covered
+  judge-pass v = rw (covered-append done (s ∷ []) f, free, each-pass) (go v (lacks 47 s))
+    where
+      go : (v l : Bool)
+          → (cond v (covered done f && ((l || false) && true)) true && judgeEach done f) ≡ ((cond v (covered done f) true && judgeEach done f) && (l || not v))
+      go true true = rw (and-true (covered done f), and-true (covered done f && judgeEach done f))
+      go true false = rw (and-false (covered done f), and-false (covered done f && judgeEach done f))
+      go false true = sym (and-true (judgeEach done f))
+      go false false = sym (and-true (judgeEach done f))
+
+-- a name with no further "/" is one
+module _ (done : List (List ℕ)) (s : List ℕ) (f : Forest) (file : lacks 47 s ≡ true) where
   pub judge-file : (v : Bool) → judge v (done ++ (s ∷ [])) f ≡ judge v done f
-  unfolding judge
-  judge-file v =
-      rw (file-covered, each-over (done ++ (s ∷ [])) f, each-over done f, over-same _&&_ true judgeOne (done ++ (s ∷ [])) done file-inside f)
+  judge-file v = judge-pass done s f (file-unreached s f file) v ∙ rw file (and-true (judge v done f))
 
   pub matched-file : matched (done ++ (s ∷ [])) f ≡ matched done f
-  matched-file =
-      matched-over (done ++ (s ∷ [])) f ∙ over-same _+_ 0 matchedOne (done ++ (s ∷ [])) done file-inside f ∙ sym (matched-over done f)
+  matched-file = matched-pass done s f (file-unreached s f file)
 
 -- a run of names under one component, where a sibling has that name and where none has
 judgeOne-none : (k : Count) (kids : Forest) → judgeOne k [] kids ≡ true
@@ -233,7 +253,7 @@ unfolding every covered
 run-covered c [] f t h e = refl
 run-covered c (s ∷ ss) f t h e =
     let i = and-inv (under c s) (every (under c) ss) h in
-    rw (under-slash c s (i .0), child-reached c s f t e (i .0)) (run-covered c ss f t (i .1) e)
+    rw (under-slash c s (i .0), has-reached c s f (child-some c f t e) (i .0)) (run-covered c ss f t (i .1) e)
 
 run-uncovered : (c : List ℕ) (ss : List (List ℕ)) (f : Forest) → 1 ≤ length ss → every (under c) ss ≡ true → lacks 47 c ≡ true → Sound f → child c f ≡ none
     → covered ss f ≡ false
@@ -241,7 +261,7 @@ unfolding every covered
 run-uncovered c [] f l h lc d e = absurd (omega arith)
 run-uncovered c (s ∷ ss) f l h lc d e =
     let u = and-inv (under c s) (every (under c) ss) h .0 in
-    rw (under-slash c s u, unreached c s f lc u d (child-has c f e))
+    rw (under-slash c s u, child-free c s f d lc e u)
 
 module _ (c : List ℕ) (done run : List (List ℕ)) (f : Forest) (r : Run c done run) (h : Sound f) where
   some-inside : 1 ≤ length (inside c run)
