@@ -1,23 +1,20 @@
 -- Names and what is left of them in a directory: the first component, the cut after a prefix, and the order.
 use mathlib.Core.Path.{_≡_, refl, sym, ap, ap₂, _∙_}
-use mathlib.Core.List.{List, [], _∷_, _++_, map, append-nil}
-use mathlib.Core.Bool.{Bool, true, false, _&&_}
+use mathlib.Core.List.{List, [], _∷_, _++_}
+use mathlib.Core.Bool.{true, false, _&&_}
 use Prim.Native.Nat.{ℕ, _+_}
-use native.Mathlib.Omega.{arith}
 use lib.ListN.{length, take, drop, length-append}
 use lib.Dec.{eqb}
 use borrow.Author.Tests.{eq-eqb}
 use Rattle.format.specs.declared.Order.{Order}
 use Rattle.format.specs.declared.Order.the-variants.{Below, Same, Above}
-use Rattle.format.specs.Bytes.{eqList, before, lacks}
+use Rattle.format.specs.Bytes.{before, lacks}
 use Rattle.format.specs.Names.{compare, rises}
 use Rattle.format.specs.Records.{Entry, Key}
 use Rattle.format.specs.Layout.{under, inside, Entries, entries-end, entries-more, names}
-use Rattle.tree_counts.specs.Runs.{notAbove, sortedFrom, begins, leads, trails, every, never, span, beyond, Run, Boundary}
-use Rattle.tree_counts.proofs.Tests.{false-true, clash, by-test, and-inv, head-inv}
-use Rattle.tree_counts.proofs.Names.{eqList-true, under-slash, under-one}
-use Rattle.tree_counts.proofs.Walk.{inside-append, inside-never}
-use Rattle.tree_counts.proofs.Order.{compare-append, under-begins, under-convex, sorted-skip, sorted-at, rest-clear, done-clear}
+use Rattle.tree_counts.specs.Runs.{notAbove, sortedFrom, begins}
+use Rattle.tree_counts.proofs.Tests.{false-true, by-test, and-inv, head-inv}
+use Rattle.tree_counts.proofs.Order.{compare-append, under-begins, sorted-skip}
 
 -- ---- the first component
 

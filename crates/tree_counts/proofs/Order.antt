@@ -20,7 +20,13 @@ use Rattle.tree_counts.proofs.Tests.{false-true, clash, by-test, and-in
 -- the first bytes decide, or are the same
 order-inv {ℓ} : {X : Type ℓ} (x y : ℕ) (o : Order) → notAbove (cond (ltb x y) Below (cond (ltb y x) Above o)) ≡ true
     → (x < y → X) → (x ≡ y → notAbove o ≡ true → X) → X
-order-inv x y o e less same = by-test (ltb x y) (λ p. less (ltb-true x y p)) (λ p. by-test (ltb y x) (λ q. false-true (rw (p, q) at e)) (λ q. same (omega (arith, ltb-false x y p, ltb-false y x q)) (rw (p, q) at e)))
+order-inv x y o e less same =
+    by-test (ltb x y)
+    (λ p. less (ltb-true x y p))
+    (λ p.
+    by-test (ltb y x)
+    (λ q. false-true (rw (p, q) at e))
+    (λ q. same (omega (arith, ltb-false x y p, ltb-false y x q)) (rw (p, q) at e)))
 
 order-less : (x y : ℕ) (o : Order) → x < y → notAbove (cond (ltb x y) Below (cond (ltb y x) Above o)) ≡ true
 order-less x y o h = rw (lt-ltb x y h)
@@ -136,7 +142,7 @@ under-convex d s t u p r h k =
 
 module _ (p : List ℕ → Bool) (convex : Convex p) where
   -- behind one that fails after one that passes, none passes
-  ended : (s t : List ℕ) (ss : List (List ℕ)) → p s ≡ true → notAbove (compare s t) ≡ true → p t ≡ false → sortedFrom t ss ≡ true → never p ss ≡ true
+  pub ended : (s t : List ℕ) (ss : List (List ℕ)) → p s ≡ true → notAbove (compare s t) ≡ true → p t ≡ false → sortedFrom t ss ≡ true → never p ss ≡ true
   unfolding sortedFrom never Convex
   ended s t [] y o n h = refl
   ended s t (u ∷ ss) y o n h =
