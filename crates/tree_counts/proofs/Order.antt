@@ -128,22 +128,20 @@ sorted-at a (d ∷ done) s ss h =
     (order-trans a d s (i .0) (j .0), j .1)
 
 -- a test that passes between any two names that pass
-pub Convex : (List ℕ → Bool) → Type 0
+abbrev pub Convex : (List ℕ → Bool) → Type 0
 Convex p = (s t u : List ℕ) → p s ≡ true → p u ≡ true → notAbove (compare s t) ≡ true → notAbove (compare t u) ≡ true → p t ≡ true
 
 pub begins-convex : (q : List ℕ) → Convex (begins q)
-unfolding Convex
 begins-convex q = between q
 
 pub under-convex : (d : List ℕ) → Convex (under d)
-unfolding Convex
 under-convex d s t u p r h k =
     under-begins d t ∙ between (d ++ (47 ∷ [])) s t u (sym (under-begins d s) ∙ p) (sym (under-begins d u) ∙ r) h k
 
 module _ (p : List ℕ → Bool) (convex : Convex p) where
   -- behind one that fails after one that passes, none passes
   pub ended : (s t : List ℕ) (ss : List (List ℕ)) → p s ≡ true → notAbove (compare s t) ≡ true → p t ≡ false → sortedFrom t ss ≡ true → never p ss ≡ true
-  unfolding sortedFrom never Convex
+  unfolding sortedFrom never
   ended s t [] y o n h = refl
   ended s t (u ∷ ss) y o n h =
       let i = and-inv (notAbove (compare t u)) (sortedFrom u ss) h in
@@ -167,7 +165,7 @@ module _ (p : List ℕ → Bool) (convex : Convex p) where
   -- where one that passes follows one that fails, none before passes
   pub done-clear : (a : List ℕ) (done : List (List ℕ)) (t : List ℕ) (ss : List (List ℕ)) → sortedFrom a (done ++ (t ∷ ss)) ≡ true
       → trails p done ≡ false → p t ≡ true → never p done ≡ true
-  unfolding sortedFrom trails never Convex
+  unfolding sortedFrom trails never
   done-clear a [] t ss h n y = refl
   done-clear a (d ∷ []) t ss h n y = rw n
   done-clear a (d ∷ e ∷ done) t ss h n y =
