@@ -1,0 +1,275 @@
+-- Runs of names under one component, in a directory whose names rise, and a walk from one to the next.
+use mathlib.Core.Path.{_≡_, refl, sym, ap, ap₂, subst, _∙_}
+use mathlib.Core.List.{List, [], _∷_, _++_, map, append-nil, append-assoc}
+use mathlib.Core.Bool.{Bool, true, false, _&&_}
+use mathlib.Core.Option.{some}
+use Prim.Native.Nat.{ℕ, _+_, _≤_}
+use native.Mathlib.Omega.{arith}
+use lib.ListN.{length, drop, length-append}
+use lib.Seq.{drop-drop}
+use Rattle.format.specs.Bytes.{eqList, lacks}
+use Rattle.format.specs.Names.{compare}
+use Rattle.format.specs.Records.{Forest, Tree}
+use Rattle.format.specs.Layout.{has, under, inside}
+use Rattle.tree_counts.specs.Judge.{isValid, says, weight, child, reached, judge, matched}
+use Rattle.tree_counts.specs.Runs.{notAbove, sortedFrom, begins, leads, trails, every, never, span, beyond, Run, Boundary, within, enter, runIn, Passed}
+use Rattle.tree_counts.proofs.Tests.{clash, by-test, and-inv}
+use Rattle.tree_counts.proofs.Names.{eqList-true, under-one}
+use Rattle.tree_counts.proofs.Siblings.{Sound}
+use Rattle.tree_counts.proofs.Walk.{inside-append, inside-never, inside-length, has-reached, child-some, judge-found, matched-found}
+use Rattle.tree_counts.proofs.Order.{under-begins, under-convex, sorted-at, rest-clear, done-clear}
+use Rattle.tree_counts.proofs.Directory.{begins-append, compare-cut, first-least}
+
+-- ---- a run
+
+module _ (p : List ℕ → Bool) where
+  pub span-beyond : (ss : List (List ℕ)) → span p ss ++ beyond p ss ≡ ss
+  unfolding span beyond
+  span-beyond [] = refl
+  span-beyond (s ∷ ss) = by-test (p s) (λ e. rw e (ap (λ (l : List (List ℕ)). s ∷ l) (span-beyond ss))) (λ e. rw e)
+
+  pub span-every : (ss : List (List ℕ)) → every p (span p ss) ≡ true
+  unfolding span every
+  span-every [] = refl
+  span-every (s ∷ ss) = by-test (p s) (λ e. rw (e, e) (span-every ss)) (λ e. rw e)
+
+  pub beyond-leads : (ss : List (List ℕ)) → leads p (beyond p ss) ≡ false
+  unfolding beyond leads
+  beyond-leads [] = refl
+  beyond-leads (s ∷ ss) = by-test (p s) (λ e. rw e (beyond-leads ss)) (λ e. rw e e)
+
+-- what is left of the names of a run
+pub inside-run : (c : List ℕ) (run : List (List ℕ)) → every (under c) run ≡ true → inside c run ≡ map (λ (s : List ℕ). drop (length c + 1) s) run
+unfolding every inside
+inside-run c [] h = refl
+inside-run c (s ∷ run) h =
+    let i = and-inv (under c s) (every (under c) run) h in
+    rw (i .0) (ap (λ (l : List (List ℕ)). drop (length c + 1) s ∷ l) (inside-run c run (i .1)))
+
+-- ---- from one run to the next
+
+trails-append : (p : List ℕ → Bool) (done : List (List ℕ)) (s : List ℕ) (ss : List (List ℕ)) → trails p (done ++ (s ∷ ss)) ≡ trails p (s ∷ ss)
+unfolding trails
+trails-append p [] s ss = refl
+trails-append p (d ∷ []) s ss = refl
+trails-append p (d ∷ e ∷ done) s ss = trails-append p (e ∷ done) s ss
+
+trails-every : (b c s : List ℕ) (ss : List (List ℕ)) → lacks 47 b ≡ true → lacks 47 c ≡ true → eqList b c ≡ false → every (under b) (s ∷ ss) ≡ true
+    → trails (under c) (s ∷ ss) ≡ false
+unfolding trails every
+trails-every b c s [] lb lc n h =
+    by-test (under c s) (λ u. clash (under-one b c s lb lc (and-inv (under b s) true h .0) u) n) (λ u. u)
+trails-every b c s (t ∷ ss) lb lc n h = trails-every b c t ss lb lc n (and-inv (under b s) (under b t && every (under b) ss) h .1)
+
+pub boundary-start : (f : Forest) (rest : List (List ℕ)) → Boundary f [] rest
+unfolding trails
+boundary-start f rest = record { apart = λ c lc k h. refl }
+
+-- after a name that is under no sibling
+pub boundary-pass : (f : Forest) (done : List (List ℕ)) (s : List ℕ) (rest : List (List ℕ)) → reached s f ≡ false → Boundary f (done ++ (s ∷ [])) rest
+unfolding trails
+boundary-pass f done s rest free =
+    record { apart = λ c lc k h. trails-append (under c) done s [] ∙ by-test (under c s) (λ u. clash (has-reached c s f k u) free) (λ u. u) }
+
+-- after a run that is as long as can be
+pub boundary-run : (f : Forest) (b : List ℕ) (done run rest : List (List ℕ)) → Run b done run → leads (under b) rest ≡ false → Boundary f (done ++ run) rest
+boundary-run f b done [] rest r n = absurd (omega (arith, r .some))
+boundary-run f b done (s ∷ run) rest r n = record {
+  apart = λ c lc k h.
+      trails-append (under c) done s run
+      ∙ by-test (eqList b c)
+      (λ e. clash h (rw (eqList-true b c e) at n))
+      (λ e. trails-every b c s run (r .component) lc e (r .all));
+}
+
+-- where names rise, those under one component that follow a boundary are a run
+pub run-at : (f : Forest) (c a : List ℕ) (done run rest : List (List ℕ)) → lacks 47 c ≡ true → has c f ≡ true → sortedFrom a (done ++ (run ++ rest)) ≡ true
+    → 1 ≤ length run → every (under c) run ≡ true → Boundary f done (run ++ rest) → Run c done run
+unfolding every leads
+run-at f c a done [] rest lc k sorted l all h = absurd (omega arith)
+run-at f c a done (t ∷ run) rest lc k sorted l all h = record {
+  component = lc;
+  new = done-clear (under c) (under-convex c) a done t (run ++ rest) sorted (h .apart c lc k first) first;
+  all = all;
+  some = l;
+}
+  where
+    first : under c t ≡ true
+    first = and-inv (under c t) (every (under c) run) all .0
+
+-- and where the run is as long as can be, no later name is under the component
+pub run-ends : (c a : List ℕ) (done run rest : List (List ℕ)) → sortedFrom a (done ++ (run ++ rest)) ≡ true → Run c done run → leads (under c) rest ≡ false
+    → never (under c) rest ≡ true
+unfolding every
+run-ends c a done [] rest sorted r n = absurd (omega (arith, r .some))
+run-ends c a done (t ∷ run) rest sorted r n =
+    let i = and-inv (under c t) (every (under c) run) (r .all) in
+    rest-clear (under c) (under-convex c) t run rest (i .0) (i .1) n (sorted-at a done t (run ++ rest) sorted .1)
+
+-- all names under the component are then in the run
+pub inside-whole : (c : List ℕ) (done run rest : List (List ℕ)) → Run c done run → never (under c) rest ≡ true
+    → inside c (done ++ (run ++ rest)) ≡ inside c run
+inside-whole c done run rest r n =
+    inside-append c done (run ++ rest)
+    ∙ rw (inside-never c done (r .new), inside-append c run rest, inside-never c rest n) (append-nil (inside c run))
+
+-- ---- whole names
+
+pub within-top : (ss : List (List ℕ)) → within [] ss ≡ ss
+unfolding within span begins
+within-top [] = refl
+within-top (s ∷ ss) = ap (λ (l : List (List ℕ)). s ∷ l) (within-top ss)
+
+pub within-end : (q : List ℕ) (ss : List (List ℕ)) → leads (begins q) ss ≡ false → within q ss ≡ []
+unfolding within span leads
+within-end q [] e = refl
+within-end q (s ∷ ss) e = rw e
+
+module _ (q s : List ℕ) (ss : List (List ℕ)) (b : begins q s ≡ true) where
+  pub within-step : within q (s ∷ ss) ≡ drop (length q) s ∷ within q ss
+  unfolding within span
+  within-step = rw b
+
+  beyond-step : beyond (begins q) (s ∷ ss) ≡ beyond (begins q) ss
+  unfolding beyond
+  beyond-step = rw b
+
+within-after : (q s : List ℕ) (ss : List (List ℕ)) → begins q s ≡ true → sortedFrom s ss ≡ true → sortedFrom (drop (length q) s) (within q ss) ≡ true
+unfolding sortedFrom within span
+within-after q s [] b h = refl
+within-after q s (t ∷ ss) b h =
+    let i = and-inv (notAbove (compare s t)) (sortedFrom t ss) h in
+    by-test (begins q t)
+    (λ e. rw (e, compare-cut q s t b e, i .0) (within-after q t ss e (i .1)))
+    (λ e. rw e)
+
+pub within-sorted : (q a : List ℕ) (ss : List (List ℕ)) → sortedFrom a ss ≡ true → sortedFrom [] (within q ss) ≡ true
+unfolding sortedFrom within span
+within-sorted q a [] h = refl
+within-sorted q a (s ∷ ss) h =
+    let i = and-inv (notAbove (compare a s)) (sortedFrom s ss) h in
+    by-test (begins q s)
+    (λ e. rw (e, first-least (drop (length q) s)) (within-after q s ss e (i .1)))
+    (λ e. rw e)
+
+-- a run is of the names of the directory one further down
+enter-begins : (q c s : List ℕ) → begins (enter q c) s ≡ (begins q s && under c (drop (length q) s))
+enter-begins q c s = begins-append q (c ++ (47 ∷ [])) s ∙ rw (under-begins c (drop (length q) s))
+
+module _ (q c : List ℕ) where
+  pub runIn-every : (ss : List (List ℕ)) → every (under c) (runIn q c ss) ≡ true
+  unfolding runIn span every
+  runIn-every [] = refl
+  runIn-every (s ∷ ss) =
+      by-test (begins (enter q c) s)
+      (λ e. rw (e, and-inv (begins q s) (under c (drop (length q) s)) (sym (enter-begins q c s) ∙ e) .1) (runIn-every ss))
+      (λ e. rw e)
+
+  pub runIn-inside : (ss : List (List ℕ)) → inside c (runIn q c ss) ≡ within (enter q c) ss
+  unfolding runIn within span inside
+  runIn-inside [] = refl
+  runIn-inside (s ∷ ss) =
+      by-test (begins (enter q c) s)
+      (λ e.
+      rw (e, and-inv (begins q s) (under c (drop (length q) s)) (sym (enter-begins q c s) ∙ e) .1)
+      (ap₂ _∷_ (drop-drop (length c + 1) (length q) s ∙ ap (λ (n : ℕ). drop n s) further) (runIn-inside ss)))
+      (λ e. rw e)
+    where
+      further : length q + (length c + 1) ≡ length (enter q c)
+      further = omega (arith, length-append q (c ++ (47 ∷ [])), length-append c (47 ∷ []))
+
+  pub within-run : (ss : List (List ℕ)) → within q ss ≡ runIn q c ss ++ within q (beyond (begins (enter q c)) ss)
+  unfolding runIn within span beyond
+  within-run [] = refl
+  within-run (s ∷ ss) =
+      by-test (begins (enter q c) s)
+      (λ e.
+      rw (e, and-inv (begins q s) (under c (drop (length q) s)) (sym (enter-begins q c s) ∙ e) .0)
+      (ap (λ (l : List (List ℕ)). drop (length q) s ∷ l) (within-run ss)))
+      (λ e. rw e)
+
+  pub beyond-run : (ss : List (List ℕ)) → beyond (begins q) (beyond (begins (enter q c)) ss) ≡ beyond (begins q) ss
+  unfolding beyond
+  beyond-run [] = refl
+  beyond-run (s ∷ ss) =
+      by-test (begins (enter q c) s)
+      (λ e. rw (e, and-inv (begins q s) (under c (drop (length q) s)) (sym (enter-begins q c s) ∙ e) .0) (beyond-run ss))
+      (λ e. rw e)
+
+  pub within-leads : (ss : List (List ℕ)) → leads (under c) (within q ss) ≡ leads (begins (enter q c)) ss
+  unfolding within span leads
+  within-leads [] = refl
+  within-leads (s ∷ ss) = rw (enter-begins q c s) (by-test (begins q s) (λ e. rw e) (λ e. rw e))
+
+-- ---- a walk over the names in a directory
+
+pub passed-start : (f : Forest) (q : List ℕ) (ss : List (List ℕ)) → Passed f q ss [] ss
+passed-start f q ss = record { joined = refl; left = refl; edge = boundary-start f (within q ss) }
+
+-- past a name that is under no sibling
+pub passed-name : (f : Forest) (q : List ℕ) (whole done : List (List ℕ)) (s : List ℕ) (ss : List (List ℕ)) → begins q s ≡ true
+    → reached (drop (length q) s) f ≡ false → Passed f q whole done (s ∷ ss) → Passed f q whole (done ++ (drop (length q) s ∷ [])) ss
+passed-name f q whole done s ss b free h = record {
+  joined =
+      append-assoc done (drop (length q) s ∷ []) (within q ss)
+      ∙ ap (λ (l : List (List ℕ)). done ++ l) (sym (within-step q s ss b))
+      ∙ h .joined;
+  left = sym (beyond-step q s ss b) ∙ h .left;
+  edge = boundary-pass f done (drop (length q) s) (within q ss) free;
+}
+
+-- past the run of a sibling's names, which is what is left of the names in its directory
+runIn-some : (q c s : List ℕ) (ss : List (List ℕ)) → begins (enter q c) s ≡ true → 1 ≤ length (runIn q c (s ∷ ss))
+unfolding runIn span
+runIn-some q c s ss b = rw b (omega arith)
+
+module _ (f : Forest) (q c a : List ℕ) (whole done : List (List ℕ)) (s : List ℕ) (ss : List (List ℕ)) (t : Tree) (lc : lacks 47 c ≡ true)
+    (found : child c f ≡ some t) (sorted : sortedFrom a whole ≡ true) (b : begins (enter q c) s ≡ true) (h : Passed f q whole done (s ∷ ss)) where
+  sorted-here : sortedFrom [] (done ++ (runIn q c (s ∷ ss) ++ within q (beyond (begins (enter q c)) (s ∷ ss)))) ≡ true
+  sorted-here =
+      ap (λ (l : List (List ℕ)). sortedFrom [] (done ++ l)) (sym (within-run q c (s ∷ ss)))
+      ∙ ap (sortedFrom []) (h .joined)
+      ∙ within-sorted q a whole sorted
+
+  run-here : Run c done (runIn q c (s ∷ ss))
+  run-here =
+      run-at f c [] done (runIn q c (s ∷ ss)) (within q (beyond (begins (enter q c)) (s ∷ ss))) lc (child-some c f t found) sorted-here
+      (runIn-some q c s ss b) (runIn-every q c (s ∷ ss)) (subst (Boundary f done) (within-run q c (s ∷ ss)) (h .edge))
+
+  pub passed-run : Passed f q whole (done ++ runIn q c (s ∷ ss)) (beyond (begins (enter q c)) (s ∷ ss))
+  passed-run = record {
+    joined =
+        append-assoc done (runIn q c (s ∷ ss)) (within q (beyond (begins (enter q c)) (s ∷ ss)))
+        ∙ ap (λ (l : List (List ℕ)). done ++ l) (sym (within-run q c (s ∷ ss)))
+        ∙ h .joined;
+    left = beyond-run q c (s ∷ ss) ∙ h .left;
+    edge =
+        boundary-run f c done (runIn q c (s ∷ ss)) (within q (beyond (begins (enter q c)) (s ∷ ss))) run-here
+        (within-leads q c (beyond (begins (enter q c)) (s ∷ ss)) ∙ beyond-leads (begins (enter q c)) (s ∷ ss));
+  }
+
+  run-length : length (runIn q c (s ∷ ss)) ≡ length (within (enter q c) (s ∷ ss))
+  run-length = sym (inside-length c (runIn q c (s ∷ ss)) (runIn-every q c (s ∷ ss))) ∙ ap length (runIn-inside q c (s ∷ ss))
+
+  pub judge-run : Sound f → (v : Bool)
+      → judge v (done ++ runIn q c (s ∷ ss)) f
+      ≡ (judge v done f
+      && (says (t .root .count) (length (within (enter q c) (s ∷ ss))) && judge (isValid (t .root .count)) (within (enter q c) (s ∷ ss)) (t .subtrees)))
+  judge-run d v = judge-found c done (runIn q c (s ∷ ss)) f run-here d v t found ∙ rw (run-length, runIn-inside q c (s ∷ ss))
+
+  pub matched-run : Sound f
+      → matched (done ++ runIn q c (s ∷ ss)) f ≡ matched done f + (weight (t .root .count) + matched (within (enter q c) (s ∷ ss)) (t .subtrees))
+  matched-run d = matched-found c done (runIn q c (s ∷ ss)) f run-here d t found ∙ rw (runIn-inside q c (s ∷ ss))
+
+-- where the next name is outside the directory, or there is none, all of its names have been passed
+beyond-end : (p : List ℕ → Bool) (ss : List (List ℕ)) → leads p ss ≡ false → beyond p ss ≡ ss
+unfolding leads beyond
+beyond-end p [] e = refl
+beyond-end p (s ∷ ss) e = rw e
+
+pub passed-end : (f : Forest) (q : List ℕ) (whole done ss : List (List ℕ)) → leads (begins q) ss ≡ false → Passed f q whole done ss
+    → (done ≡ within q whole) × (ss ≡ beyond (begins q) whole)
+passed-end f q whole done ss e h = (
+  sym (append-nil done) ∙ ap (λ (l : List (List ℕ)). done ++ l) (sym (within-end q ss e)) ∙ h .joined,
+  sym (beyond-end (begins q) ss e) ∙ h .left,
+)
