@@ -1,0 +1,137 @@
+-- Texts that a byte ends, decimals and entry counts: what is spelled is read, and what is read was spelled.
+use mathlib.Core.Path.{_≡_, refl, ap, _∙_}
+use mathlib.Core.List.{List, [], _∷_, _++_, append-assoc}
+use mathlib.Core.Bool.{true, false, not, _&&_}
+use mathlib.Core.Option.{Option, none, some}
+use Prim.Native.Nat.{ℕ, _+_, _≤_, _<_}
+use native.Mathlib.Omega.{arith}
+use lib.ListN.{length, take, drop, length-append, length-drop}
+use lib.Seq.{take-append-seam, take-add}
+use lib.Dec.{eqb, leb, ltb}
+use borrow.Author.Tests.{ltb-true, lt-ltb, leb-true, le-leb, eqb-true, ne-eqb}
+use Rattle.format.specs.Bytes.{before, lacks, digits, decimal, value}
+use Rattle.format.specs.Records.{Count, valid, invalid}
+use Rattle.format.specs.Layout.{CountText}
+use Rattle.format.specs.Reading.{Read, bad, good, need, shift, bind}
+use Rattle.format.specs.Reader.{readText, countIn, needSome}
+use Rattle.spelling_entries.proofs.Reading.{false-true, and-inv, cond-inv, bad-good, good-inv, need-inv}
+use Rattle.spelling_entries.proofs.Bytes.{before-at, lacks-before, take-before}
+
+-- ---- answers
+
+pub same-size : {A : Type 0} {a : A} {m n : ℕ} → m ≡ n → good a m ≡ good a n
+same-size {a = a} e = ap (λ x. good a x) e
+
+-- what comes next may be told what the first part answered
+pub bind-same : {A B : Type 0} (r : Read A) (k l : A → ℕ → Read B) → ((a : A) (m : ℕ) → r ≡ good a m → k a m ≡ l a m) → bind r k ≡ bind r l
+unfolding bind
+bind-same (bad n p) k l h = refl
+bind-same (good a m) k l h = ap (λ x. shift m x) (h a m refl)
+
+pub none-some {ℓ} : {A : Type 0} {X : Type ℓ} {a : A} → none ≡ some a → X
+none-some e = let z : _≡_ {A = ℕ} 0 1 = cc in absurd (omega arith)
+
+pub needSome-inv {ℓ} : {A B : Type 0} {X : Type ℓ} (o : Option A) (n p : ℕ) (k : A → Read B) (b : B) (m : ℕ) → needSome o n p k ≡ good b m
+    → ((a : A) → o ≡ some a → k a ≡ good b m → X) → X
+unfolding needSome
+needSome-inv none n p k b m e f = bad-good n p b m e
+needSome-inv (some a) n p k b m e f = f a refl e
+
+-- ---- a text that the byte b ends
+
+pub read-text : (b n p : ℕ) (t rest : List ℕ) → lacks b t ≡ true → readText b n p (t ++ (b ∷ rest)) ≡ good t (length t + 1)
+unfolding readText need
+read-text b n p t rest e =
+    let l = length-append t (b ∷ rest) in
+    let fits : ltb (length t) (length (t ++ (b ∷ rest))) ≡ true = lt-ltb (length t) (length (t ++ (b ∷ rest))) (omega arith) in
+    simp (before-at b t rest e, fits, take-append-seam)
+
+pub text-read : (b n p : ℕ) (s t : List ℕ) (m : ℕ) → readText b n p s ≡ good t m → (m ≤ length s) × (take m s ≡ t ++ (b ∷ [])) × (lacks b t ≡ true)
+unfolding readText
+text-read b n p s t m q =
+    need-inv _ _ _ _ _ _ q λ fits q₁.
+    good-inv _ _ _ _ q₁ λ is size.
+    let l : before b s < length s = ltb-true _ _ fits in
+    rw (← is, ← size) (omega arith, take-before b s l, lacks-before b s)
+
+-- two parts, one after the other, that were taken from s
+pub parts-fit : (m n : ℕ) (s : List ℕ) → m ≤ length s → n ≤ length (drop m s) → m + n ≤ length s
+parts-fit m n s h k = let l = length-drop m s in omega arith
+
+pub text-then : (m n : ℕ) (s t u : List ℕ) (b : ℕ) → take m s ≡ t ++ (b ∷ []) → take n (drop m s) ≡ u → take (m + n) s ≡ t ++ (b ∷ u)
+text-then m n s t u b p q = take-add m n s ∙ rw (p, q) (append-assoc t (b ∷ []) u)
+
+-- ---- decimals
+
+digits-lack : (b : ℕ) (t : List ℕ) → b < 48 → digits t ≡ true → lacks b t ≡ true
+unfolding digits lacks
+digits-lack b [] h e = refl
+digits-lack b (d ∷ t) h e =
+    let f = and-inv (leb 48 d) _ e in
+    let g = and-inv (leb d 57) _ (f .1) in
+    let low : 48 ≤ d = leb-true 48 d (f .0) in
+    rw (ne-eqb d b (λ z. omega arith)) (digits-lack b t h (g .1))
+
+decimal-digits : (t : List ℕ) → decimal t ≡ true → digits t ≡ true
+unfolding decimal digits
+decimal-digits [] e = refl
+decimal-digits (d ∷ []) e = e
+decimal-digits (d ∷ x ∷ t) e = and-inv (not (eqb d 48)) _ e .1
+
+not-empty {ℓ} : {X : Type ℓ} → decimal [] ≡ true → X
+unfolding decimal
+not-empty e = false-true e
+
+-- no byte below '0'
+pub decimal-lacks : (b : ℕ) (t : List ℕ) → b < 48 → decimal t ≡ true → lacks b t ≡ true
+decimal-lacks b t h e = digits-lack b t h (decimal-digits t e)
+
+-- ---- entry counts
+
+minus-lacks : (b : ℕ) (u : List ℕ) → b < 45 → decimal u ≡ true → lacks b (45 ∷ u) ≡ true
+unfolding lacks
+minus-lacks b u h e = rw (ne-eqb 45 b (λ z. omega arith)) (decimal-lacks b u (omega arith) e)
+
+-- no byte below '-'
+pub count-lacks : (b : ℕ) (c : Count) (t : List ℕ) → b < 45 → CountText c t → lacks b t ≡ true
+count-lacks b (valid n) t h e = decimal-lacks b t (omega arith) (e .0)
+count-lacks b invalid t h e = rw (e .1) (minus-lacks b (e .0) h (e .2))
+
+no-minus : (d : ℕ) (t : List ℕ) → decimal (d ∷ t) ≡ true → eqb d 45 ≡ false
+unfolding digits
+no-minus d t e =
+    let low : 48 ≤ d = leb-true 48 d (and-inv (leb 48 d) _ (decimal-digits (d ∷ t) e) .0) in
+    ne-eqb d 45 (λ z. omega arith)
+
+read-minus : (u : List ℕ) → decimal u ≡ true → 1 ≤ value u → value u ≤ 2147483648 → countIn (45 ∷ u) ≡ some invalid
+unfolding countIn
+read-minus u e low high = rw (e, le-leb 1 (value u) low, le-leb (value u) 2147483648 high) refl
+
+pub read-count-text : (c : Count) (t : List ℕ) → CountText c t → countIn t ≡ some c
+unfolding countIn
+read-count-text (valid n) [] e = not-empty (e .0)
+read-count-text (valid n) (d ∷ t) e =
+    let small : leb n 2147483647 ≡ true = le-leb n 2147483647 (e .2) in
+    rw (no-minus d t (e .0), e .0, e .1, small) refl
+read-count-text invalid t e = rw (e .1) (read-minus (e .0) (e .2) (e .3) (e .4))
+
+pub count-text-read : (t : List ℕ) (c : Count) → countIn t ≡ some c → CountText c t
+unfolding countIn
+count-text-read [] c q = none-some q
+count-text-read (d ∷ t) c q =
+    cond-inv (eqb d 45) _ _ _ q
+    (λ minus q₁.
+    cond-inv (decimal t && (leb 1 (value t) && leb (value t) 2147483648)) _ _ _ q₁
+    (λ e q₂.
+    let f = and-inv (decimal t) _ e in
+    let g = and-inv (leb 1 (value t)) _ (f .1) in
+    let is : invalid ≡ c = cc in
+    rw (← is, eqb-true d 45 minus) (t, refl, f .0, leb-true _ _ (g .0), leb-true _ _ (g .1)))
+    λ e q₂. none-some q₂)
+    λ digit q₁.
+    cond-inv (decimal (d ∷ t) && leb (value (d ∷ t)) 2147483647) _ _ _ q₁
+    (λ e q₂.
+    let f = and-inv (decimal (d ∷ t)) _ e in
+    let is : valid (value (d ∷ t)) ≡ c = cc in
+    rw (← is) (f .0, refl, leb-true _ _ (f .1)))
+    λ e q₂. none-some q₂
