@@ -1,17 +1,28 @@
 -- Laws of the reader's steps at a place of the data.
 use mathlib.Core.Path.{_≡_, refl, sym, ap, _∙_}
 use mathlib.Core.List.{List, [], _∷_}
+use mathlib.Core.Bool.{Bool, true, false, cond, not, _&&_, _||_}
 use mathlib.Core.Option.{Option, none, some}
 use Prim.Native.Nat.{ℕ, _+_, _-_, _≤_, _<_}
 use native.Mathlib.Omega.{arith}
+use native.Mathlib.Nat.{add-assoc}
 use lib.ListN.{length, take, drop, length-drop}
-use borrow.Author.Tests.{lt-ltb, le-ltb}
+use lib.Seq.{drop-drop}
+use lib.Dec.{eqb, ltb}
+use borrow.Author.Tests.{ltb-true, lt-ltb, le-ltb, eq-eqb, ne-eqb, eqb-true, leb-true, le-leb}
 use Rattle.format.specs.Bytes.{before}
+use Rattle.format.specs.Names.{okName, compare, isBelow}
+use Rattle.format.specs.Records.{Stage, Undo}
+use Rattle.format.specs.Layout.{someStage}
 use Rattle.format.specs.Reading.{Read, bad, good, need, shift, bind}
-use Rattle.format.specs.Reader.{readText, needSome, modeIn, readMode}
+use Rattle.format.specs.Reader.{readText, needSome, modeIn, readMode, readStage, readStages, readUndo}
+use Rattle.spelling_entries.proofs.Reading.{false-true, by-test, cond-inv, good-inv, need-inv, bind-inv, need-good, bind-good}
+use Rattle.spelling_extensions.proofs.Texts.{same-size}
 use Rattle.resolve_undo.specs.declared.ModeFound.the-variants as F
+use Rattle.resolve_undo.specs.declared.ModeRead.{ModeRead}
 use Rattle.resolve_undo.specs.declared.ModeRead.the-variants as M
-use Rattle.resolve_undo.specs.Answers.{modeFound, modeRead}
+use Rattle.resolve_undo.specs.declared.RecordRead.the-variants as R
+use Rattle.resolve_undo.specs.Answers.{modeFound, modeRead, ModeWithin, objectLength, objectsLength, objectIn, readRest, recordRead}
 
 -- ---- a text from at that the byte b at e ends
 
@@ -61,3 +72,213 @@ module _ (at e : ℕ) (d : List ℕ) (is : e ≡ at + before 0 (drop at d)) (ins
     mode-good m h =
         let l : at + (e + 1 - at) ≡ e + 1 = omega arith in
         rw (text-some 0 17 p at e d is inside more) (some-good p at (e + 1 - at) _ m h ∙ rw l)
+
+-- ---- answers
+
+-- a record that is read after k bytes more
+record-shift : (at k : ℕ) (r : Read Undo) → recordRead at (shift k r) ≡ recordRead (at + k) r
+unfolding shift
+record-shift at k (bad n p) = refl
+record-shift at k (good u m) = rw (add-assoc at k m)
+
+-- what is never read is refused
+refused : (at : ℕ) (r : Read Undo) → ((u : Undo) (k : ℕ) → r ≡ good u k → ⊥) → recordRead at r ≡ R.Bad
+refused at (bad n p) h = refl
+refused at (good u k) h = absurd (h u k refl)
+
+-- a mode and what comes next
+module _ (at next m : ℕ) (d : List ℕ) (k : ℕ → List ℕ → Read Undo) where
+  pub then-bad : (r : Read ℕ) → M.Bad ≡ modeRead at r → recordRead at (bind r (λ x n. k x (drop n (drop at d)))) ≡ R.Bad
+  unfolding bind
+  then-bad (bad n p) e = refl
+  then-bad (good x n) e = let z : _≡_ {A = ℕ} 0 1 = cc in absurd (omega arith)
+
+  pub then-good : (r : Read ℕ) → M.Good m next ≡ modeRead at r
+      → recordRead at (bind r (λ x n. k x (drop n (drop at d)))) ≡ recordRead next (k m (drop next d))
+  unfolding bind
+  then-good (bad n p) e = let z : _≡_ {A = ℕ} 0 1 = cc in absurd (omega arith)
+  then-good (good x n) e =
+      let mode : m ≡ x = cc in
+      let place : next ≡ at + n = cc in
+      record-shift at n (k x (drop n (drop at d))) ∙ rw (mode, place, drop-drop n at d)
+
+-- ---- stages
+
+pub missing-length : (w m : ℕ) → m ≡ 0 → objectLength w m ≡ 0
+unfolding objectLength
+missing-length w m h = rw (eq-eqb m 0 h)
+
+pub there-length : (w m : ℕ) → (m ≡ 0 → ⊥) → objectLength w m ≡ w
+unfolding objectLength
+there-length w m h = rw (ne-eqb m 0 h)
+
+-- the stage of a mode whose object name, where it is there, begins s
+abbrev stageIn : ℕ → ℕ → List ℕ → Stage
+stageIn w m s = record { mode = m; object = objectIn w m s }
+
+stage-good : (w p m : ℕ) (s : List ℕ) → objectLength w m ≤ length s → readStage w p m s ≡ good (stageIn w m s) (objectLength w m)
+unfolding readStage objectLength objectIn need
+stage-good w p m s h =
+    by-test (eqb m 0)
+    (λ missing. rw (missing, eqb-true m 0 missing))
+    λ there. let fits : w ≤ length s = rw there at h in rw (there, le-leb w (length s) fits)
+
+stage-read : (w p m : ℕ) (s : List ℕ) (x : Stage) (k : ℕ) → readStage w p m s ≡ good x k
+    → (x ≡ stageIn w m s) × (k ≡ objectLength w m) × (k ≤ length s)
+unfolding readStage objectLength objectIn
+stage-read w p m s x k q =
+    cond-inv (eqb m 0) _ _ _ q
+    (λ missing q₁.
+    good-inv _ _ _ _ q₁ λ is size.
+    rw (← is, ← size, missing, eqb-true m 0 missing) (refl, refl, omega arith))
+    λ there q₁.
+    need-inv _ _ _ _ _ _ q₁ λ test q₂.
+    good-inv _ _ _ _ q₂ λ is size.
+    rw (← is, ← size, there) (refl, refl, leb-true _ _ test)
+
+-- a stage is there just where the object names take bytes
+module _ (w : ℕ) (wide : 1 ≤ w) where
+  by-three : (x y z : Bool) → ltb 0 (cond x 0 w + cond y 0 w + cond z 0 w) ≡ (not x || (not y || not z))
+  by-three true true true = refl
+  by-three true true false = lt-ltb 0 (0 + 0 + w) (omega arith)
+  by-three true false z = lt-ltb 0 (0 + w + cond z 0 w) (omega arith)
+  by-three false y z = lt-ltb 0 (w + cond y 0 w + cond z 0 w) (omega arith)
+
+  module _ (a b c : ℕ) where
+    sum-some : 1 ≤ objectLength w a + objectLength w b + objectLength w c → (not (eqb a 0) || (not (eqb b 0) || not (eqb c 0))) ≡ true
+    unfolding objectLength
+    sum-some h = sym (by-three (eqb a 0) (eqb b 0) (eqb c 0)) ∙ lt-ltb _ _ h
+
+    some-sum : (not (eqb a 0) || (not (eqb b 0) || not (eqb c 0))) ≡ true → 1 ≤ objectLength w a + objectLength w b + objectLength w c
+    unfolding objectLength
+    some-sum h = ltb-true 0 _ (by-three (eqb a 0) (eqb b 0) (eqb c 0) ∙ h)
+
+module _ (w p : ℕ) (path : List ℕ) (a b c : ℕ) (s : List ℕ) (wide : 1 ≤ w) where
+  abbrev lengths : ℕ
+  lengths = objectLength w a + objectLength w b + objectLength w c
+
+  -- the record of these modes
+  abbrev undoIn : Undo
+  undoIn =
+      record {
+        path = path;
+        first = stageIn w a s;
+        second = stageIn w b (drop (objectLength w a) s);
+        third = stageIn w c (drop (objectLength w b) (drop (objectLength w a) s));
+      }
+
+  stages-read : (u : Undo) (k : ℕ) → readStages w p path a b c s ≡ good u k → (u ≡ undoIn) × (k ≡ lengths) × (1 ≤ lengths) × (lengths ≤ length s)
+  unfolding readStages someStage
+  stages-read u k q =
+      bind-inv _ _ _ _ q λ x i₀ j₀ xq q₁ size₀.
+      bind-inv _ _ _ _ q₁ λ y i₁ j₁ yq q₂ size₁.
+      bind-inv _ _ _ _ q₂ λ z i₂ j₂ zq q₃ size₂.
+      need-inv _ _ _ _ _ _ q₃ λ test q₄.
+      good-inv _ _ _ _ q₄ λ is none.
+      let hx = stage-read w p a s x i₀ xq in
+      let hy = stage-read w p b (drop i₀ s) y i₁ yq in
+      let hz = stage-read w p c (drop i₁ (drop i₀ s)) z i₂ zq in
+      let l₀ = length-drop i₀ s in
+      let l₁ = length-drop i₁ (drop i₀ s) in
+      (
+        sym is ∙ rw (hx .0, hy .0, hz .0, hx .1, hy .1),
+        omega arith,
+        some-sum w wide a b c (rw (hx .0, hy .0, hz .0) at test),
+        omega arith,
+      )
+
+  stages-good : 1 ≤ lengths → lengths ≤ length s → readStages w p path a b c s ≡ good undoIn lengths
+  unfolding readStages someStage
+  stages-good one fits =
+      let l₀ = length-drop (objectLength w a) s in
+      let l₁ = length-drop (objectLength w b) (drop (objectLength w a) s) in
+      let sum : objectLength w a + (objectLength w b + (objectLength w c + 0)) ≡ lengths = omega arith in
+      bind-good _ _ _ _ undoIn _ (stage-good w p a s (omega arith))
+      (bind-good _ _ _ _ undoIn _ (stage-good w p b _ (omega arith))
+      (bind-good _ _ _ _ undoIn _ (stage-good w p c _ (omega arith)) (need-good _ 17 p _ undoIn 0 (sum-some w wide a b c one) refl)))
+      ∙ same-size sum
+
+module _ (p at : ℕ) (path : List ℕ) (a b c n : ℕ) (d : List ℕ) (is : n ≡ objectLength 20 a + objectLength 20 b + objectLength 20 c) where
+  pub stages-none : n ≡ 0 → recordRead at (readStages 20 p path a b c (drop at d)) ≡ R.Bad
+  stages-none e = refused at _ λ u k q. let h = stages-read 20 p path a b c (drop at d) (omega arith) u k q in omega arith
+
+  pub stages-cut : length d - at < n → recordRead at (readStages 20 p path a b c (drop at d)) ≡ R.Bad
+  stages-cut e =
+      refused at _ λ u k q.
+      let h = stages-read 20 p path a b c (drop at d) (omega arith) u k q in
+      let l = length-drop at d in omega arith
+
+  pub stages-some : (n ≡ 0 → ⊥) → n ≤ length d - at → (size : ℕ) → length path ≡ size
+      → recordRead at (readStages 20 p path a b c (drop at d))
+      ≡ R.Good (record { path = size; first = a; second = b; third = c; objects = at; next = at + n })
+  unfolding objectsLength
+  stages-some e fits size long =
+      let l = length-drop at d in
+      let place : at + n - n ≡ at = omega arith in
+      rw (stages-good 20 p path a b c (drop at d) (omega arith) (omega arith) (omega arith), ← is, long, place)
+
+-- ---- the modes and the stages
+
+pub mode-within : (at end m next : ℕ) (r : ModeRead) → ModeWithin at end r → r ≡ M.Good m next → (at < next) × (next ≤ end)
+mode-within at end m next r h e = rw e at h
+
+module _ (w p : ℕ) (path d : List ℕ) where
+  -- what comes after the second mode, and after the first
+  afterSecond : ℕ → ℕ → List ℕ → Read Undo
+  afterSecond a b s = bind (readMode p s) λ c q. readStages w p path a b c (drop q s)
+
+  afterFirst : ℕ → List ℕ → Read Undo
+  afterFirst a s = bind (readMode p s) λ b o. afterSecond a b (drop o s)
+
+  module _ (at : ℕ) where
+    pub rest-first : M.Bad ≡ modeRead at (readMode p (drop at d)) → recordRead at (readRest w p path (drop at d)) ≡ R.Bad
+    unfolding readRest
+    rest-first e = then-bad at 0 0 d afterFirst _ e
+
+    module _ (a i : ℕ) (first : M.Good a i ≡ modeRead at (readMode p (drop at d))) where
+      one : recordRead at (readRest w p path (drop at d)) ≡ recordRead i (afterFirst a (drop i d))
+      unfolding readRest
+      one = then-good at i a d afterFirst _ first
+
+      pub rest-second : M.Bad ≡ modeRead i (readMode p (drop i d)) → recordRead at (readRest w p path (drop at d)) ≡ R.Bad
+      rest-second e = one ∙ then-bad i 0 0 d (afterSecond a) _ e
+
+      module _ (b j : ℕ) (second : M.Good b j ≡ modeRead i (readMode p (drop i d))) where
+        two : recordRead at (readRest w p path (drop at d)) ≡ recordRead j (afterSecond a b (drop j d))
+        two = one ∙ then-good i j b d (afterSecond a) _ second
+
+        pub rest-third : M.Bad ≡ modeRead j (readMode p (drop j d)) → recordRead at (readRest w p path (drop at d)) ≡ R.Bad
+        rest-third e = two ∙ then-bad j 0 0 d (readStages w p path a b) _ e
+
+        pub rest-stages : (c k : ℕ) → M.Good c k ≡ modeRead j (readMode p (drop j d))
+            → recordRead at (readRest w p path (drop at d)) ≡ recordRead k (readStages w p path a b c (drop k d))
+        rest-stages c k third = two ∙ then-good j k c d (readStages w p path a b) _ third
+
+-- ---- one record
+
+undo-is : (w p : ℕ) (previous s : List ℕ)
+    → readUndo w p previous s
+    ≡ bind (readText 0 17 p s) (λ path m. need (okName path && isBelow (compare previous path)) 17 p (readRest w p path (drop m s)))
+unfolding readUndo readRest
+undo-is w p previous s = refl
+
+module _ (w at e : ℕ) (d previous : List ℕ) (is : e ≡ at + before 0 (drop at d)) (inside : at ≤ length d) (p : ℕ) where
+  pub undo-none : e ≡ length d → recordRead at (readUndo w p previous (drop at d)) ≡ R.Bad
+  unfolding readUndo bind
+  undo-none end = rw (text-none 0 17 p at e d is inside end)
+
+  module _ (more : e < length d) where
+    abbrev path : List ℕ
+    path = take (e - at) (drop at d)
+
+    pub undo-path : (okName path && isBelow (compare previous path)) ≡ false → recordRead at (readUndo w p previous (drop at d)) ≡ R.Bad
+    unfolding bind need shift
+    undo-path h = rw (undo-is, text-some 0 17 p at e d is inside more, h)
+
+    pub undo-rest : (okName path && isBelow (compare previous path)) ≡ true
+        → recordRead at (readUndo w p previous (drop at d)) ≡ recordRead (e + 1) (readRest w p path (drop (e + 1) d))
+    unfolding bind need
+    undo-rest h =
+        let place : at + (e + 1 - at) ≡ e + 1 = omega arith in
+        rw (undo-is, text-some 0 17 p at e d is inside more, h)
+        (record-shift at (e + 1 - at) (readRest w p path (drop (e + 1 - at) (drop at d))) ∙ rw (drop-drop (e + 1 - at) at d, place))

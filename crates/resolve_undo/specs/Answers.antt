@@ -6,8 +6,8 @@ use Prim.Native.Nat.{ℕ, zero, suc, _+_, _-_, _≤_, _<_}
 use lib.ListN.{length, take, drop, replicate}
 use lib.Dec.{eqb, ltb}
 use Rattle.format.specs.Records.{Undo}
-use Rattle.format.specs.Reading.{Read, bad, good}
-use Rattle.format.specs.Reader.{readUndo}
+use Rattle.format.specs.Reading.{Read, bad, good, bind}
+use Rattle.format.specs.Reader.{readMode, readStages, readUndo}
 use Rattle.resolve_undo.specs.declared.ModeFound.{ModeFound}
 use Rattle.resolve_undo.specs.declared.ModeFound.the-variants as F
 use Rattle.resolve_undo.specs.declared.ModeRead.{ModeRead}
@@ -36,6 +36,13 @@ ModeWithin at end M.Bad = Unit
 ModeWithin at end (M.Good m next) = (at < next) × (next ≤ end)
 
 -- ---- one record
+
+-- a record after its path: three modes and the stages
+unfoldable pub readRest : ℕ → ℕ → List ℕ → List ℕ → Read Undo
+readRest w p path s =
+    bind (readMode p s) λ a n.
+    bind (readMode p (drop n s)) λ b o.
+    bind (readMode p (drop o (drop n s))) λ c q. readStages w p path a b c (drop q (drop o (drop n s)))
 
 -- how many bytes an object name takes in the data: none where the stage is missing
 unfoldable pub objectLength : ℕ → ℕ → ℕ

@@ -1,13 +1,13 @@
 // The resolve-undo records of an index: the data of its REUC extension, read.
 ghost use mathlib.Core.Path.{_≡_};
-ghost use mathlib.Core.List.{[]};
+ghost use mathlib.Core.List.{List, []};
 ghost use mathlib.Core.Bool.{cond, _&&_};
 ghost use Prim.Native.Nat.{ℕ, _+_, _≤_, _<_};
 ghost use lib.ListN.{length, take, drop};
 ghost use lib.Dec.{eqb};
 ghost use Rattle.format.specs.Names as Names;
-ghost use Rattle.format.specs.Reader.{modeIn, readMode, readUndo, readUndos};
-ghost use Rattle.resolve_undo.specs.Answers.{modeFound, modeRead, ModeWithin, objectLength, objectIn, recordRead, RecordWithin, placeOf, recordsRead, undoAt, shown};
+ghost use Rattle.format.specs.Reader.{modeIn, readMode, readStages, readUndo, readUndos};
+ghost use Rattle.resolve_undo.specs.Answers.{modeFound, modeRead, ModeWithin, objectLength, objectIn, readRest, recordRead, RecordWithin, placeOf, recordsRead, undoAt, shown};
 use format::Order;
 
 // The mode that a text says.
@@ -92,4 +92,95 @@ pub fn read_mode(d: &[u8], at: usize) -> ModeRead
         ModeFound::Bad => ModeRead::Bad,
         ModeFound::Good(x) => ModeRead::Good(x, e + 1),
     }
+}
+
+fn is_below(o: Order) -> bool
+    ensures { λ r. ⌜ r ≡ Names.isBelow o ⌝ }
+{
+    match o {
+        Order::Below => true,
+        Order::Same => false,
+        Order::Above => false,
+    }
+}
+
+// Whether a path is sound and comes after the previous one.
+fn path_ok(path: &[u8], previous: &[u8]) -> bool
+    ensures { λ r. ⌜ r ≡ (Names.okName (now (path .entry)) && Names.isBelow (Names.compare (now (previous .entry)) (now (path .entry)))) ⌝ }
+{
+    if fields::name_ok(path) {
+        return is_below(fields::compare(previous, path));
+    }
+    false
+}
+
+// How many bytes the object name of a stage takes.
+fn object_length(mode: u32) -> usize
+    ensures { λ r. ⌜ (r ≡ objectLength 20 mode) × (r ≤ 20) ⌝ }
+{
+    if mode == 0 {
+        return 0;
+    }
+    20
+}
+
+// The stages of a record, their object names at a place, after a path of so many bytes.
+fn read_stages(d: &[u8], at: usize, path: usize, first: u32, second: u32, third: u32) -> RecordRead
+    requires { ⌜ at ≤ length (now d) ⌝ }
+    ensures { λ r. ⌜ ((p : ℕ) (s : List ℕ) → length s ≡ path → r ≡ recordRead at (readStages 20 p s first second third (drop at (now (d .entry))))) × RecordWithin at (length (now (d .entry))) r ⌝ }
+{
+    let n = object_length(first) + object_length(second) + object_length(third);
+    if n == 0 {
+        return RecordRead::Bad;
+    }
+    if d.len() - at < n {
+        return RecordRead::Bad;
+    }
+    RecordRead::Good(Record {
+        path: path,
+        first: first,
+        second: second,
+        third: third,
+        objects: at,
+        next: at + n,
+    })
+}
+
+// The modes at a place, and the stages, after a path of so many bytes.
+fn read_rest(d: &[u8], at: usize, path: usize) -> RecordRead
+    requires { ⌜ at ≤ length (now d) ⌝ }
+    ensures { λ r. ⌜ ((p : ℕ) (s : List ℕ) → length s ≡ path → r ≡ recordRead at (readRest 20 p s (drop at (now (d .entry))))) × RecordWithin at (length (now (d .entry))) r ⌝ }
+{
+    let a = read_mode(d, at);
+    match a {
+        ModeRead::Bad => RecordRead::Bad,
+        ModeRead::Good(first, i) => {
+            let b = read_mode(d, i);
+            match b {
+                ModeRead::Bad => RecordRead::Bad,
+                ModeRead::Good(second, j) => {
+                    let c = read_mode(d, j);
+                    match c {
+                        ModeRead::Bad => RecordRead::Bad,
+                        ModeRead::Good(third, k) => read_stages(d, k, path, first, second, third),
+                    }
+                }
+            }
+        }
+    }
+}
+
+// The record at a place; the path of the one before it is the size bytes at prior.
+pub fn read_undo(d: &[u8], at: usize, prior: usize, size: usize) -> RecordRead
+    requires { ⌜ (at ≤ length (now d)) × (prior + size ≤ length (now d)) ⌝ }
+    ensures { λ r. ⌜ ((p : ℕ) → r ≡ recordRead at (readUndo 20 p (take size (drop prior (now (d .entry)))) (drop at (now (d .entry))))) × RecordWithin at (length (now (d .entry))) r ⌝ }
+{
+    let e = fields::find(d, at, 0);
+    if e == d.len() {
+        return RecordRead::Bad;
+    }
+    if path_ok(&d[at..e], &d[prior..prior + size]) {
+        return read_rest(d, e + 1, e - at);
+    }
+    RecordRead::Bad
 }
