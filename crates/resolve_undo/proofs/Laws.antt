@@ -7,7 +7,7 @@ use Prim.Native.Nat.{ℕ, _+_, _-_, _≤_, _<_}
 use native.Mathlib.Omega.{arith}
 use native.Mathlib.Nat.{add-assoc}
 use lib.ListN.{length, take, drop, length-drop}
-use lib.Seq.{drop-drop}
+use lib.Seq.{drop-drop, length-take-le}
 use lib.Dec.{eqb, ltb}
 use borrow.Author.Tests.{ltb-true, lt-ltb, le-ltb, eq-eqb, ne-eqb, eqb-true, leb-true, le-leb}
 use Rattle.format.specs.Bytes.{before}
@@ -21,8 +21,9 @@ use Rattle.spelling_extensions.proofs.Texts.{same-size}
 use Rattle.resolve_undo.specs.declared.ModeFound.the-variants as F
 use Rattle.resolve_undo.specs.declared.ModeRead.{ModeRead}
 use Rattle.resolve_undo.specs.declared.ModeRead.the-variants as M
+use Rattle.resolve_undo.specs.declared.RecordRead.{RecordRead}
 use Rattle.resolve_undo.specs.declared.RecordRead.the-variants as R
-use Rattle.resolve_undo.specs.Answers.{modeFound, modeRead, ModeWithin, objectLength, objectsLength, objectIn, readRest, recordRead}
+use Rattle.resolve_undo.specs.Answers.{modeFound, modeRead, ModeWithin, objectLength, objectsLength, objectIn, readRest, recordRead, RecordWithin}
 
 -- ---- a text from at that the byte b at e ends
 
@@ -222,37 +223,42 @@ module _ (p at : ℕ) (path : List ℕ) (a b c n : ℕ) (d : List ℕ) (is : n �
 pub mode-within : (at end m next : ℕ) (r : ModeRead) → ModeWithin at end r → r ≡ M.Good m next → (at < next) × (next ≤ end)
 mode-within at end m next r h e = rw e at h
 
+-- what is in the data after a place is in it after an earlier one
+pub record-within : (at i end : ℕ) (r : RecordRead) → at ≤ i → RecordWithin i end r → RecordWithin at end r
+record-within at i end R.Bad h w = tt
+record-within at i end (R.Good r) h w = omega arith
+
 module _ (w p : ℕ) (path d : List ℕ) where
   -- what comes after the second mode, and after the first
-  afterSecond : ℕ → ℕ → List ℕ → Read Undo
+  abbrev afterSecond : ℕ → ℕ → List ℕ → Read Undo
   afterSecond a b s = bind (readMode p s) λ c q. readStages w p path a b c (drop q s)
 
-  afterFirst : ℕ → List ℕ → Read Undo
+  abbrev afterFirst : ℕ → List ℕ → Read Undo
   afterFirst a s = bind (readMode p s) λ b o. afterSecond a b (drop o s)
 
   module _ (at : ℕ) where
     pub rest-first : M.Bad ≡ modeRead at (readMode p (drop at d)) → recordRead at (readRest w p path (drop at d)) ≡ R.Bad
     unfolding readRest
-    rest-first e = then-bad at 0 0 d afterFirst _ e
+    rest-first e = then-bad at 0 0 d afterFirst (readMode p (drop at d)) e
 
     module _ (a i : ℕ) (first : M.Good a i ≡ modeRead at (readMode p (drop at d))) where
       one : recordRead at (readRest w p path (drop at d)) ≡ recordRead i (afterFirst a (drop i d))
       unfolding readRest
-      one = then-good at i a d afterFirst _ first
+      one = then-good at i a d afterFirst (readMode p (drop at d)) first
 
       pub rest-second : M.Bad ≡ modeRead i (readMode p (drop i d)) → recordRead at (readRest w p path (drop at d)) ≡ R.Bad
-      rest-second e = one ∙ then-bad i 0 0 d (afterSecond a) _ e
+      rest-second e = one ∙ then-bad i 0 0 d (afterSecond a) (readMode p (drop i d)) e
 
       module _ (b j : ℕ) (second : M.Good b j ≡ modeRead i (readMode p (drop i d))) where
         two : recordRead at (readRest w p path (drop at d)) ≡ recordRead j (afterSecond a b (drop j d))
-        two = one ∙ then-good i j b d (afterSecond a) _ second
+        two = one ∙ then-good i j b d (afterSecond a) (readMode p (drop i d)) second
 
         pub rest-third : M.Bad ≡ modeRead j (readMode p (drop j d)) → recordRead at (readRest w p path (drop at d)) ≡ R.Bad
-        rest-third e = two ∙ then-bad j 0 0 d (readStages w p path a b) _ e
+        rest-third e = two ∙ then-bad j 0 0 d (readStages w p path a b) (readMode p (drop j d)) e
 
         pub rest-stages : (c k : ℕ) → M.Good c k ≡ modeRead j (readMode p (drop j d))
             → recordRead at (readRest w p path (drop at d)) ≡ recordRead k (readStages w p path a b c (drop k d))
-        rest-stages c k third = two ∙ then-good j k c d (readStages w p path a b) _ third
+        rest-stages c k third = two ∙ then-good j k c d (readStages w p path a b) (readMode p (drop j d)) third
 
 -- ---- one record
 
@@ -261,6 +267,9 @@ undo-is : (w p : ℕ) (previous s : List ℕ)
     ≡ bind (readText 0 17 p s) (λ path m. need (okName path && isBelow (compare previous path)) 17 p (readRest w p path (drop m s)))
 unfolding readUndo readRest
 undo-is w p previous s = refl
+
+pub path-size : (at e : ℕ) (d : List ℕ) → e < length d → length (take (e - at) (drop at d)) ≡ e - at
+path-size at e d h = let l : e - at ≤ length (drop at d) = simp length-drop (omega arith) in length-take-le (e - at) (drop at d) l
 
 module _ (w at e : ℕ) (d previous : List ℕ) (is : e ≡ at + before 0 (drop at d)) (inside : at ≤ length d) (p : ℕ) where
   pub undo-none : e ≡ length d → recordRead at (readUndo w p previous (drop at d)) ≡ R.Bad

@@ -1,71 +1,89 @@
+-- The proof that `read_undo` meets its contract.
+use mathlib.Core.Path.{_≡_, sym, _∙_}
+use mathlib.Core.Bool.{_&&_}
+use Prim.Native.Nat.{_+_, _-_, _<_}
+use native.Mathlib.Omega.{arith}
+use lib.ListN.{length, take, drop}
 use borrow.Author.Needs.{needs}
+use Rattle.format.specs.Names.{okName, compare, isBelow}
+use Rattle.resolve_undo.proofs.Laws.{record-within, undo-none, undo-path, undo-rest, path-size}
 use Rattle.resolve_undo.proofs.read_undo.Statement.{statement}
 use Rattle.resolve_undo.proofs.read_undo.Tie as tie
-use Rattle.resolve_undo.proofs.read_undo.Reads as reads
-use Rattle.resolve_undo.proofs.read_undo.Lts as lts
-use Rattle.fields.proofs.find.Reads as find-reads
-use Rattle.resolve_undo.proofs.path_ok.Reads as path-ok-reads
-use Rattle.resolve_undo.proofs.read_rest.Reads as read-rest-reads
 
--- src/lib.rt:178:9
+-- what `path_ok` answers, of the path and of the path before it
+path-is : (c : tie.After-path-ok) →
+    let f = c .before .before .before .before in
+    let a = f .before .before .args in
+    let path = take (f .find .result - a .at) (drop (a .at) (a .d .now)) in
+    (okName path && isBelow (compare (take (a .size) (drop (a .prior) (a .d .now))) path)) ≡ c .path-ok .result
+path-is c =
+    let a = c .before .before .before .before .before .before .args in
+    let size : a .prior + a .size - a .prior ≡ a .size = omega arith in
+    sym (rw size at (c .path-ok .ensures))
+
 find-requires : tie.Need-find-requires
 find-requires c κs = search needs
 
--- src/lib.rt:180:9
 returns : tie.Need-returns
-returns c = ?
+returns c =
+    let f = c .before in
+    let a = f .before .before .args in
+    (λ p. sym (undo-none 20 (a .at) _ (a .d .now) _ (f .find .ensures .0) (f .before .before .pre .0) p (c .if1 .taken)), tt)
 
--- src/lib.rt:182:16
 sub-path-ok : tie.Need-sub-path-ok
 sub-path-ok c = search needs
 
--- src/lib.rt:182:16
 part-path-ok-start : tie.Need-part-path-ok-start
 part-path-ok-start c = search needs
 
--- src/lib.rt:182:16
 part-path-ok-end : tie.Need-part-path-ok-end
 part-path-ok-end c = search needs
 
--- src/lib.rt:182:37
 add-path-ok : tie.Need-add-path-ok
 add-path-ok c = search needs
 
--- src/lib.rt:182:27
 sub-path-ok-2 : tie.Need-sub-path-ok-2
 sub-path-ok-2 c = search needs
 
--- src/lib.rt:182:27
 part-path-ok-start-2 : tie.Need-part-path-ok-start-2
 part-path-ok-start-2 c = search needs
 
--- src/lib.rt:182:27
 part-path-ok-end-2 : tie.Need-part-path-ok-end-2
 part-path-ok-end-2 c = search needs
 
--- src/lib.rt:182:8
 path-ok-requires : tie.Need-path-ok-requires
 path-ok-requires c κs = search needs
 
--- src/lib.rt:183:29
 add-read-rest : tie.Need-add-read-rest
 add-read-rest c = search needs
 
--- src/lib.rt:183:36
 sub-read-rest : tie.Need-sub-read-rest
 sub-read-rest c = search needs
 
--- src/lib.rt:183:9
 read-rest-requires : tie.Need-read-rest-requires
 read-rest-requires c κs = search needs
 
--- src/lib.rt:183:9
 returns-2 : tie.Need-returns-2
-returns-2 c = ?
+returns-2 c =
+    let o = c .before .before in
+    let f = o .before .before .before .before in
+    let a = f .before .before .args in
+    let more : f .find .result < length (a .d .now) = omega arith in
+    (
+      λ p.
+      sym
+      (undo-rest 20 (a .at) _ (a .d .now) _ (f .find .ensures .0) (f .before .before .pre .0) p more (path-is o ∙ c .before .if2 .taken)
+      ∙ sym (c .read-rest .ensures .0 p _ (path-size (a .at) (f .find .result) (a .d .now) more))),
+      record-within (a .at) (f .find .result + 1) (length (a .d .now)) (c .read-rest .result) (omega arith) (c .read-rest .ensures .1),
+    )
 
--- src/lib.rt:174:1
 returns-3 : tie.Need-returns-3
-returns-3 c = ?
+returns-3 c =
+    let o = c .before in
+    let f = o .before .before .before .before in
+    let a = f .before .before .args in
+    let more : f .find .result < length (a .d .now) = omega arith in
+    (λ p. sym (undo-path 20 (a .at) _ (a .d .now) _ (f .find .ensures .0) (f .before .before .pre .0) p more (path-is o ∙ c .if2 .left)), tt)
 
 pub read-undo-spec : {M : Type 1} → statement M
 read-undo-spec =
