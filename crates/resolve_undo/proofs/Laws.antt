@@ -21,6 +21,7 @@ use Rattle.spelling_extensions.proofs.Texts.{same-size}
 use Rattle.resolve_undo.specs.declared.ModeFound.the-variants as F
 use Rattle.resolve_undo.specs.declared.ModeRead.{ModeRead}
 use Rattle.resolve_undo.specs.declared.ModeRead.the-variants as M
+use Rattle.resolve_undo.specs.declared.Record.{Record}
 use Rattle.resolve_undo.specs.declared.RecordRead.{RecordRead}
 use Rattle.resolve_undo.specs.declared.RecordRead.the-variants as R
 use Rattle.resolve_undo.specs.Answers.{modeFound, modeRead, ModeWithin, objectLength, objectsLength, objectIn, readRest, recordRead, RecordWithin}
@@ -114,7 +115,7 @@ unfolding objectLength
 there-length w m h = rw (ne-eqb m 0 h)
 
 -- the stage of a mode whose object name, where it is there, begins s
-abbrev stageIn : ℕ → ℕ → List ℕ → Stage
+abbrev pub stageIn : ℕ → ℕ → List ℕ → Stage
 stageIn w m s = record { mode = m; object = objectIn w m s }
 
 stage-good : (w p m : ℕ) (s : List ℕ) → objectLength w m ≤ length s → readStage w p m s ≡ good (stageIn w m s) (objectLength w m)
@@ -155,11 +156,11 @@ module _ (w : ℕ) (wide : 1 ≤ w) where
     some-sum h = ltb-true 0 _ (by-three (eqb a 0) (eqb b 0) (eqb c 0) ∙ h)
 
 module _ (w p : ℕ) (path : List ℕ) (a b c : ℕ) (s : List ℕ) (wide : 1 ≤ w) where
-  abbrev lengths : ℕ
+  abbrev pub lengths : ℕ
   lengths = objectLength w a + objectLength w b + objectLength w c
 
   -- the record of these modes
-  abbrev undoIn : Undo
+  abbrev pub undoIn : Undo
   undoIn =
       record {
         path = path;
@@ -168,7 +169,7 @@ module _ (w p : ℕ) (path : List ℕ) (a b c : ℕ) (s : List ℕ) (wide : 1 �
         third = stageIn w c (drop (objectLength w b) (drop (objectLength w a) s));
       }
 
-  stages-read : (u : Undo) (k : ℕ) → readStages w p path a b c s ≡ good u k → (u ≡ undoIn) × (k ≡ lengths) × (1 ≤ lengths) × (lengths ≤ length s)
+  pub stages-read : (u : Undo) (k : ℕ) → readStages w p path a b c s ≡ good u k → (u ≡ undoIn) × (k ≡ lengths) × (1 ≤ lengths) × (lengths ≤ length s)
   unfolding readStages someStage
   stages-read u k q =
       bind-inv _ _ _ _ q λ x i₀ j₀ xq q₁ size₀.
@@ -228,6 +229,9 @@ pub record-within : (at i end : ℕ) (r : RecordRead) → at ≤ i → RecordWit
 record-within at i end R.Bad h w = tt
 record-within at i end (R.Good r) h w = omega arith
 
+pub record-bounds : (at end : ℕ) (g : Record) (r : RecordRead) → RecordWithin at end r → r ≡ R.Good g → (at < g .next) × (g .next ≤ end)
+record-bounds at end g r h e = rw e at h
+
 module _ (w p : ℕ) (path d : List ℕ) where
   -- what comes after the second mode, and after the first
   abbrev afterSecond : ℕ → ℕ → List ℕ → Read Undo
@@ -262,7 +266,7 @@ module _ (w p : ℕ) (path d : List ℕ) where
 
 -- ---- one record
 
-undo-is : (w p : ℕ) (previous s : List ℕ)
+pub undo-is : (w p : ℕ) (previous s : List ℕ)
     → readUndo w p previous s
     ≡ bind (readText 0 17 p s) (λ path m. need (okName path && isBelow (compare previous path)) 17 p (readRest w p path (drop m s)))
 unfolding readUndo readRest

@@ -1,2 +1,3 @@
--- What the functions of this crate lean on, and the law of a shown record.
+-- What the functions of this crate lean on: Laws has the steps of one record, Records all of them and the law of a shown record.
 pub mod Laws
+pub mod Records

@@ -55,19 +55,21 @@ objectsLength w u = objectLength w (u .first .mode) + objectLength w (u .second 
 unfoldable pub objectIn : ℕ → ℕ → List ℕ → List ℕ
 objectIn w mode s = cond (eqb mode 0) (replicate w 0) (take w s)
 
--- a record that was read at the place at
-abbrev pub recordRead : ℕ → Read Undo → RecordRead
-recordRead at (bad n p) = R.Bad
-recordRead at (good u k) =
-    R.Good
-    (record {
+-- a record of k bytes that was read at the place at
+abbrev pub recordOf : ℕ → Undo → ℕ → Record
+recordOf at u k =
+    record {
       path = length (u .path);
       first = u .first .mode;
       second = u .second .mode;
       third = u .third .mode;
       objects = at + k - objectsLength 20 u;
       next = at + k;
-    })
+    }
+
+abbrev pub recordRead : ℕ → Read Undo → RecordRead
+recordRead at (bad n p) = R.Bad
+recordRead at (good u k) = R.Good (recordOf at u k)
 
 -- the place after a record is in the data
 abbrev pub RecordWithin : ℕ → ℕ → RecordRead → Type 0
@@ -104,8 +106,8 @@ valueOf (bad n p) = none
 valueOf (good u k) = some u
 
 -- the record that the bytes s begin with, whatever path stands before it
-unfoldable pub undoAt : ℕ → List ℕ → Option Undo
-undoAt w s = valueOf (readUndo w 0 [] s)
+unfoldable pub undoAt : ℕ → ℕ → List ℕ → Option Undo
+undoAt w p s = valueOf (readUndo w p [] s)
 
 -- a record at the place at, shown
 abbrev pub shown : ℕ → Option Undo → Shown

@@ -184,3 +184,41 @@ pub fn read_undo(d: &[u8], at: usize, prior: usize, size: usize) -> RecordRead
     }
     RecordRead::Bad
 }
+
+// The place at where the record in hand is the one asked for, else the place found before.
+fn pick(number: u32, want: u32, at: usize, place: usize) -> usize
+    ensures { λ r. ⌜ r ≡ cond (eqb number want) at place ⌝ }
+{
+    if number == want {
+        return at;
+    }
+    place
+}
+
+// The whole data: how many records there are, and where record number want begins.
+pub fn read_undos(d: &[u8], want: u32) -> RecordsRead
+    requires { ⌜ length (now d) ≤ 16777216 ⌝ }
+    ensures { λ r. ⌜ ((p : ℕ) → r ≡ recordsRead want (placeOf 20 p want [] (now (d .entry))) (readUndos 20 p (length (now (d .entry))) [] (now (d .entry)))) ⌝ }
+{
+    let mut at: usize = 0;
+    let mut prior: usize = 0;
+    let mut size: usize = 0;
+    let mut records: u32 = 0;
+    let mut place: usize = 0;
+    while at < d.len() {
+        let g = read_undo(d, at, prior, size);
+        match g {
+            RecordRead::Bad => {
+                return RecordsRead::Bad;
+            }
+            RecordRead::Good(r) => {
+                place = pick(records, want, at, place);
+                prior = at;
+                size = r.path;
+                at = r.next;
+            }
+        }
+        records += 1;
+    }
+    RecordsRead::Good(records, place)
+}
