@@ -1,12 +1,12 @@
 -- Laws of the reader's steps at a place of the data.
 use mathlib.Core.Path.{_≡_, refl, sym, ap, _∙_}
-use mathlib.Core.List.{List, [], _∷_}
+use mathlib.Core.List.{List, [], _∷_, _++_, append-nil}
 use mathlib.Core.Bool.{Bool, true, false, cond, not, _&&_, _||_}
 use mathlib.Core.Option.{Option, none, some}
 use Prim.Native.Nat.{ℕ, _+_, _-_, _≤_, _<_}
 use native.Mathlib.Omega.{arith}
 use native.Mathlib.Nat.{add-assoc}
-use lib.ListN.{length, take, drop, length-drop}
+use lib.ListN.{length, take, drop, replicate, length-drop, drop-of-length-le}
 use lib.Seq.{drop-drop, length-take-le}
 use lib.Dec.{eqb, ltb}
 use borrow.Author.Tests.{ltb-true, lt-ltb, le-ltb, eq-eqb, ne-eqb, eqb-true, leb-true, le-leb}
@@ -113,6 +113,23 @@ missing-length w m h = rw (eq-eqb m 0 h)
 pub there-length : (w m : ℕ) → (m ≡ 0 → ⊥) → objectLength w m ≡ w
 unfolding objectLength
 there-length w m h = rw (ne-eqb m 0 h)
+
+pub missing-object : (w m : ℕ) (s : List ℕ) → m ≡ 0 → objectIn w m s ≡ replicate w 0
+unfolding objectIn
+missing-object w m s h = rw (eq-eqb m 0 h)
+
+pub there-object : (w m : ℕ) (s : List ℕ) → (m ≡ 0 → ⊥) → objectIn w m s ≡ take w s
+unfolding objectIn
+there-object w m s h = rw (ne-eqb m 0 h)
+
+-- an array of w bytes, with w bytes of d copied over it
+pub copied-over : (w at e : ℕ) (d o : List ℕ) → length o ≡ w → e ≡ at + w → e ≤ length d
+    → take 0 o ++ (take (e - at) (drop at d) ++ drop (0 + length (take (e - at) (drop at d))) o) ≡ take w (drop at d)
+copied-over w at e d o wide is fits =
+    let size : e - at ≡ w = omega arith in
+    let long : length (take w (drop at d)) ≡ w = length-take-le w (drop at d) (simp length-drop (omega arith)) in
+    let all : length o ≤ 0 + w = omega arith in
+    rw (size, long, drop-of-length-le o all, append-nil)
 
 -- the stage of a mode whose object name, where it is there, begins s
 abbrev pub stageIn : ℕ → ℕ → List ℕ → Stage

@@ -21,7 +21,7 @@ use Rattle.resolve_undo.specs.declared.Record.{Record}
 use Rattle.resolve_undo.specs.declared.RecordRead.the-variants as R
 use Rattle.resolve_undo.specs.declared.RecordsRead.{RecordsRead}
 use Rattle.resolve_undo.specs.declared.RecordsRead.the-variants as S
-use Rattle.resolve_undo.specs.Answers.{readRest, recordOf, recordRead, placeAfter, placeOf, item, recordsRead, valueOf, undoAt}
+use Rattle.resolve_undo.specs.Answers.{objectLength, objectsLength, objectIn, readRest, recordOf, recordRead, placeAfter, placeOf, item, recordsRead, valueOf, undoAt, nothing, shown}
 use Rattle.resolve_undo.proofs.Laws.{stages-read, undo-is}
 
 -- ---- what one record says
@@ -100,10 +100,9 @@ module _ (at : ℕ) where
   bad-bind (bad n p) k want m place more e = refl
   bad-bind (good u n) k want m place more e = let z : _≡_ {A = ℕ} 0 1 = cc in absurd (omega arith)
 
-  pub record-inv {ℓ} : {X : Type ℓ} (r : Read Undo) (g : Record) → R.Good g ≡ recordRead at r
-      → ((u : Undo) (k : ℕ) → r ≡ good u k → g .path ≡ length (u .path) → g .next ≡ at + k → X) → X
+  record-inv {ℓ} : {X : Type ℓ} (r : Read Undo) (g : Record) → R.Good g ≡ recordRead at r → ((u : Undo) (k : ℕ) → r ≡ good u k → g ≡ recordOf at u k → X) → X
   record-inv (bad n p) g e f = let z : _≡_ {A = ℕ} 0 1 = cc in absurd (omega arith)
-  record-inv (good u k) g e f = let is : g ≡ recordOf at u k = cc in f u k refl (ap (λ (g : Record). g .path) is) (ap (λ (g : Record). g .next) is)
+  record-inv (good u k) g e f = let is : g ≡ recordOf at u k = cc in f u k refl is
 
 pub from-bad : (p want n place at : ℕ) (previous d : List ℕ) → at < length d → R.Bad ≡ recordRead at (readUndo 20 p previous (drop at d))
     → answerFrom p want n place at previous d ≡ S.Bad
@@ -161,17 +160,18 @@ still-none want n place at empty more = rw (ne-eqb n want (λ z. omega arith)) (
 module _ (p at : ℕ) (previous d : List ℕ) (g : Record) (inside : at < length d) (e : R.Good g ≡ recordRead at (readUndo 20 p previous (drop at d))) where
   pub path-fits : at + g .path ≤ length d
   path-fits =
-      record-inv at _ g e λ u k q path next.
+      record-inv at (readUndo 20 p previous (drop at d)) g e λ u k q is.
       let h = undo-begins 20 p previous (drop at d) u k (lit≤ tt) q in
-      let l = length-drop at d in omega arith
+      let l = length-drop at d in
+      rw is (omega arith)
 
   pub from-good : (want n place : ℕ)
       → answerFrom p want n place at previous d ≡ answerFrom p want (n + 1) (cond (eqb n want) at place) (g .next) (take (g .path) (drop at d)) d
   from-good want n place =
-      record-inv at _ g e λ u k q path next.
+      record-inv at (readUndo 20 p previous (drop at d)) g e λ u k q is.
       let some : 1 ≤ length (drop at d) = simp length-drop (omega arith) in
       let h = undo-begins 20 p previous (drop at d) u k (lit≤ tt) q in
-      rw (undos-after 20 p previous (drop at d) u k q some, path, next, h .0, ← (drop-drop k at d))
+      rw (undos-after 20 p previous (drop at d) u k q some, is, h .0, ← (drop-drop k at d))
       (more-from want n place at k _ _ u
       (λ is. place-first 20 p (want - n) previous (drop at d) (omega arith))
       (λ more. let less : want - n ≡ suc (want - (n + 1)) = omega arith in rw less (place-after 20 p previous (drop at d) u k q (want - (n + 1))))
@@ -207,3 +207,97 @@ pub shown-item : (p n : ℕ) (d : List ℕ) (us : List Undo) (k : ℕ) → readU
     → undoAt 20 p (drop (placeOf 20 p n [] d) d) ≡ item n us
 unfolding undosOf
 shown-item p n d us k q h = place-item 20 p n [] d us k q h
+
+-- ---- its object names
+
+-- where they stand in s, whose first k bytes end with them
+record Objects (w : ℕ) (u : Undo) (s : List ℕ) (k : ℕ) : Type 0 where
+  place : ℕ
+  end : k ≡ place + objectsLength w u
+  first : u .first .object ≡ objectIn w (u .first .mode) (drop place s)
+  second : u .second .object ≡ objectIn w (u .second .mode) (drop (place + objectLength w (u .first .mode)) s)
+  third : u .third .object ≡ objectIn w (u .third .mode) (drop (place + objectLength w (u .first .mode) + objectLength w (u .second .mode)) s)
+
+-- the same from n bytes before
+objects-after : (w n : ℕ) (u : Undo) (s : List ℕ) (j k : ℕ) → n + j ≡ k → Objects w u (drop n s) j → Objects w u s k
+objects-after w n u s j k sum h =
+    let a : ℕ = objectLength w (u .first .mode) in
+    let b : ℕ = objectLength w (u .second .mode) in
+    let second-at : n + (h .place + a) ≡ n + h .place + a = omega arith in
+    let third-at : n + (h .place + a + b) ≡ n + h .place + a + b = omega arith in
+    record {
+      place = n + h .place;
+      end = omega (arith, h .end);
+      first = h .first ∙ ap (objectIn w (u .first .mode)) (drop-drop (h .place) n s);
+      second = h .second ∙ ap (objectIn w (u .second .mode)) (rw (drop-drop (h .place + a) n s, second-at));
+      third = h .third ∙ ap (objectIn w (u .third .mode)) (rw (drop-drop (h .place + a + b) n s, third-at));
+    }
+
+rest-objects : (w p : ℕ) (path s : List ℕ) (u : Undo) (k : ℕ) → 1 ≤ w → readRest w p path s ≡ good u k → Objects w u s k
+unfolding readRest objectsLength
+rest-objects w p path s u k wide q =
+    bind-inv _ _ _ _ q λ a i₀ j₀ aq q₁ size₀.
+    bind-inv _ _ _ _ q₁ λ b i₁ j₁ bq q₂ size₁.
+    bind-inv _ _ _ _ q₂ λ c i₂ j₂ cq q₃ size₂.
+    let s₃ : List ℕ = drop i₂ (drop i₁ (drop i₀ s)) in
+    let h = stages-read w p path a b c s₃ wide u j₂ q₃ in
+    let none : 0 + objectLength w a ≡ objectLength w a = omega arith in
+    let here : Objects w u s₃ j₂ =
+    rw (h .0)
+    (record {
+      place = 0;
+      end = omega (arith, h .1);
+      first = refl;
+      second = rw none;
+      third = rw (none, drop-drop (objectLength w b) (objectLength w a) s₃);
+    }) in
+    objects-after w i₀ u s j₀ k size₀
+    (objects-after w i₁ u (drop i₀ s) j₁ j₀ size₁ (objects-after w i₂ u (drop i₁ (drop i₀ s)) j₂ j₁ size₂ here))
+
+undo-objects : (w p : ℕ) (previous s : List ℕ) (u : Undo) (k : ℕ) → 1 ≤ w → readUndo w p previous s ≡ good u k → Objects w u s k
+undo-objects w p previous s u k wide q =
+    bind-inv _ _ _ _ (sym (undo-is w p previous s) ∙ q) λ path i j pathq q₁ size.
+    need-inv _ _ _ _ _ _ q₁ λ test q₂. objects-after w i u s j k size (rest-objects w p path (drop i s) u j wide q₂)
+
+-- ---- what is shown
+
+pub shown-out : (p at : ℕ) (d : List ℕ) → length d ≤ at → shown at (undoAt 20 p (drop at d)) ≡ nothing
+unfolding undoAt valueOf readUndo readText before need bind
+shown-out p at d h = rw (drop-of-length-le d h)
+
+bad-none : (at : ℕ) (r : Read Undo) → R.Bad ≡ recordRead at r → shown at (valueOf r) ≡ nothing
+unfolding valueOf
+bad-none at (bad n p) e = refl
+bad-none at (good u k) e = let z : _≡_ {A = ℕ} 0 1 = cc in absurd (omega arith)
+
+pub shown-bad : (p at : ℕ) (d : List ℕ) → R.Bad ≡ recordRead at (readUndo 20 p [] (drop at d)) → shown at (undoAt 20 p (drop at d)) ≡ nothing
+unfolding undoAt
+shown-bad p at d e = bad-none at (readUndo 20 p [] (drop at d)) e
+
+module _ (p at : ℕ) (d : List ℕ) (g : Record) (e : R.Good g ≡ recordRead at (readUndo 20 p [] (drop at d))) where
+  pub objects-end : g .objects + objectLength 20 (g .first) + objectLength 20 (g .second) + objectLength 20 (g .third) ≡ g .next
+  unfolding objectsLength
+  objects-end =
+      record-inv at (readUndo 20 p [] (drop at d)) g e λ u k q is.
+      let h = undo-objects 20 p [] (drop at d) u k (lit≤ tt) q in
+      rw is (omega (arith, h .end))
+
+  pub shown-good : (second third : ℕ) → second ≡ g .objects + objectLength 20 (g .first) → third ≡ second + objectLength 20 (g .second)
+      → shown at (undoAt 20 p (drop at d))
+      ≡ record {
+        ok = true;
+        path = at;
+        «path_length» = g .path;
+        first = g .first;
+        second = g .second;
+        third = g .third;
+        «first_object» = objectIn 20 (g .first) (drop (g .objects) d);
+        «second_object» = objectIn 20 (g .second) (drop second d);
+        «third_object» = objectIn 20 (g .third) (drop third d);
+      }
+  unfolding undoAt valueOf
+  shown-good second third second-is third-is =
+      record-inv at (readUndo 20 p [] (drop at d)) g e λ u k q is.
+      let h = objects-after 20 at u d k (at + k) refl (undo-objects 20 p [] (drop at d) u k (lit≤ tt) q) in
+      let place : at + k - objectsLength 20 u ≡ h .place = omega (arith, h .end) in
+      rw (q, third-is, second-is, is, place, ← (h .first), ← (h .second), ← (h .third))

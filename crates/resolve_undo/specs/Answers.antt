@@ -109,9 +109,9 @@ valueOf (good u k) = some u
 unfoldable pub undoAt : ℕ → ℕ → List ℕ → Option Undo
 undoAt w p s = valueOf (readUndo w p [] s)
 
--- a record at the place at, shown
-abbrev pub shown : ℕ → Option Undo → Shown
-shown at none =
+-- where there is no record
+abbrev pub nothing : Shown
+nothing =
     record {
       ok = false;
       path = 0;
@@ -123,6 +123,10 @@ shown at none =
       «second_object» = replicate 20 0;
       «third_object» = replicate 20 0;
     }
+
+-- a record at the place at, shown
+abbrev pub shown : ℕ → Option Undo → Shown
+shown at none = nothing
 shown at (some u) =
     record {
       ok = true;

@@ -7,7 +7,7 @@ ghost use lib.ListN.{length, take, drop};
 ghost use lib.Dec.{eqb};
 ghost use Rattle.format.specs.Names as Names;
 ghost use Rattle.format.specs.Reader.{modeIn, readMode, readStages, readUndo, readUndos};
-ghost use Rattle.resolve_undo.specs.Answers.{modeFound, modeRead, ModeWithin, objectLength, objectIn, readRest, recordRead, RecordWithin, placeOf, recordsRead, undoAt, shown};
+ghost use Rattle.resolve_undo.specs.Answers.{modeFound, modeRead, ModeWithin, objectLength, objectIn, readRest, recordRead, RecordWithin, placeOf, recordsRead, undoAt, nothing, shown};
 use format::Order;
 
 // The mode that a text says.
@@ -221,4 +221,71 @@ pub fn read_undos(d: &[u8], want: u32) -> RecordsRead
         records += 1;
     }
     RecordsRead::Good(records, place)
+}
+
+// The object name of a stage, at a place; zeros where the stage is missing.
+fn object(d: &[u8], at: usize, mode: u32) -> [u8; 20]
+    requires { ⌜ at + objectLength 20 mode ≤ length (now d) ⌝ }
+    ensures { λ r. ⌜ r ≡ objectIn 20 mode (drop at (now (d .entry))) ⌝ }
+{
+    let mut o = [0u8; 20];
+    if mode == 0 {
+        return o;
+    }
+    let e = at + 20;
+    fields::copy_to(&mut o, 0, &d[at..e]);
+    o
+}
+
+fn no_record() -> Shown
+    ensures { λ r. ⌜ r ≡ nothing ⌝ }
+{
+    Shown {
+        ok: false,
+        path: 0,
+        path_length: 0,
+        first: 0,
+        second: 0,
+        third: 0,
+        first_object: [0u8; 20],
+        second_object: [0u8; 20],
+        third_object: [0u8; 20],
+    }
+}
+
+// The record at a place, whatever path stands before it.
+pub fn show_undo(d: &[u8], place: usize) -> Shown
+    ensures { λ r. ⌜ ((p : ℕ) → r ≡ shown place (undoAt 20 p (drop place (now (d .entry))))) ⌝ }
+{
+    if d.len() < place {
+        return no_record();
+    }
+    let g = read_undo(d, place, 0, 0);
+    match g {
+        RecordRead::Bad => no_record(),
+        RecordRead::Good(r) => {
+            let second = r.objects + object_length(r.first);
+            let third = second + object_length(r.second);
+            Shown {
+                ok: true,
+                path: place,
+                path_length: r.path,
+                first: r.first,
+                second: r.second,
+                third: r.third,
+                first_object: object(d, r.objects, r.first),
+                second_object: object(d, second, r.second),
+                third_object: object(d, third, r.third),
+            }
+        }
+    }
+}
+
+// The n bytes at a place, as a part of the data.
+pub fn path_of<'a>(d: &'a [u8], at: usize, n: usize) -> &'a [u8]
+    requires { ⌜ at + n ≤ length (now d) ⌝ }
+    ensures { λ r. ⌜ now r ≡ take n (drop at (now (d .entry))) ⌝ }
+{
+    let e = at + n;
+    &d[at..e]
 }
