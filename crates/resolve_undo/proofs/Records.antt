@@ -282,7 +282,7 @@ module _ (p at : ℕ) (d : List ℕ) (g : Record) (e : R.Good g ≡ recordRead a
       let h = undo-objects 20 p [] (drop at d) u k (lit≤ tt) q in
       rw is (omega (arith, h .end))
 
-  pub shown-good : (second third : ℕ) → second ≡ g .objects + objectLength 20 (g .first) → third ≡ second + objectLength 20 (g .second)
+  pub shown-good : (x y : ℕ) → x ≡ objectLength 20 (g .first) → y ≡ objectLength 20 (g .second)
       → shown at (undoAt 20 p (drop at d))
       ≡ record {
         ok = true;
@@ -292,12 +292,12 @@ module _ (p at : ℕ) (d : List ℕ) (g : Record) (e : R.Good g ≡ recordRead a
         second = g .second;
         third = g .third;
         «first_object» = objectIn 20 (g .first) (drop (g .objects) d);
-        «second_object» = objectIn 20 (g .second) (drop second d);
-        «third_object» = objectIn 20 (g .third) (drop third d);
+        «second_object» = objectIn 20 (g .second) (drop (g .objects + x) d);
+        «third_object» = objectIn 20 (g .third) (drop (g .objects + x + y) d);
       }
   unfolding undoAt valueOf
-  shown-good second third second-is third-is =
+  shown-good x y x-is y-is =
       record-inv at (readUndo 20 p [] (drop at d)) g e λ u k q is.
       let h = objects-after 20 at u d k (at + k) refl (undo-objects 20 p [] (drop at d) u k (lit≤ tt) q) in
       let place : at + k - objectsLength 20 u ≡ h .place = omega (arith, h .end) in
-      rw (q, third-is, second-is, is, place, ← (h .first), ← (h .second), ← (h .third))
+      rw (q, y-is, x-is, is, place, ← (h .first), ← (h .second), ← (h .third))

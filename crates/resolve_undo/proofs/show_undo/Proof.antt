@@ -1,72 +1,87 @@
+-- The proof that `show_undo` meets its contract: the record is read by itself, and its object names stand at its end.
+use mathlib.Core.Path.{sym, _∙_}
+use Prim.Native.Nat.{_+_, _≤_}
+use native.Mathlib.Omega.{arith}
+use lib.ListN.{length}
 use borrow.Author.Needs.{needs}
+use Rattle.resolve_undo.specs.Answers.{objectLength}
+use Rattle.resolve_undo.proofs.Laws.{record-bounds}
+use Rattle.resolve_undo.proofs.Records.{shown-out, shown-bad, shown-good, objects-end}
 use Rattle.resolve_undo.proofs.show_undo.Statement.{statement}
 use Rattle.resolve_undo.proofs.show_undo.Tie as tie
-use Rattle.resolve_undo.proofs.show_undo.Reads as reads
-use Rattle.resolve_undo.proofs.show_undo.Lts as lts
-use Rattle.resolve_undo.proofs.no_record.Reads as no-record-reads
-use Rattle.resolve_undo.proofs.object.Reads as object-reads
-use Rattle.resolve_undo.proofs.object_length.Reads as object-length-reads
-use Rattle.resolve_undo.proofs.read_undo.Reads as read-undo-reads
 
--- src/lib.rt:261:9
+-- the object names end in the data
+ends : (c : tie.After-known-told) →
+    let g = c .before .g .given .0 .0 in
+    let d = c .before .before .before .before .before .before .args .d .now in
+    g .objects + objectLength 20 (g .first) + objectLength 20 (g .second) + objectLength 20 (g .third) ≤ length d
+ends c =
+    let g = c .before .g .given in
+    let m = c .before .before .before in
+    let a = m .before .before .before .args in
+    let end = objects-end 0 (a .place) (a .d .now) (g .0 .0) (sym (g .1) ∙ m .read-undo .ensures .0 0) in
+    let b = record-bounds _ _ _ _ (m .read-undo .ensures .1) (g .1) in
+    omega arith
+
 no-record-requires : tie.Need-no-record-requires
 no-record-requires c κs = search needs
 
--- src/lib.rt:261:9
 returns : tie.Need-returns
-returns c = ?
+returns c =
+    let a = c .before .before .before .args in
+    let out : length (a .d .now) ≤ a .place = omega arith in
+    λ p. c .no-record .ensures ∙ sym (shown-out p (a .place) (a .d .now) out)
 
--- src/lib.rt:263:9
 read-undo-requires : tie.Need-read-undo-requires
 read-undo-requires c κs = search needs
 
--- src/lib.rt:265:28
 enum-told : tie.Need-enum-told
 enum-told c = search needs
 
--- src/lib.rt:265:28
 no-record-requires-2 : tie.Need-no-record-requires-2
 no-record-requires-2 c κs = search needs
 
--- src/lib.rt:266:26
 enum-known-g : tie.Need-enum-known-g
 enum-known-g c = search needs
 
--- src/lib.rt:267:38
 object-length-requires : tie.Need-object-length-requires
 object-length-requires c κs = search needs
 
--- src/lib.rt:267:26
 add-second : tie.Need-add-second
-add-second c = ?
+add-second c = let e = ends (c .before .before) in omega arith
 
--- src/lib.rt:268:34
 object-length-requires-2 : tie.Need-object-length-requires-2
 object-length-requires-2 c κs = search needs
 
--- src/lib.rt:268:25
 add-third : tie.Need-add-third
-add-third c = ?
+add-third c = let e = ends (c .before .before .before) in omega arith
 
--- src/lib.rt:276:31
 object-requires : tie.Need-object-requires
-object-requires c κs = ?
+object-requires c κs = let e = ends (c .before .before .before) in omega arith
 
--- src/lib.rt:277:32
 object-requires-2 : tie.Need-object-requires-2
-object-requires-2 c κs = ?
+object-requires-2 c κs = let e = ends (c .before .before .before .before) in omega arith
 
--- src/lib.rt:278:31
 object-requires-3 : tie.Need-object-requires-3
-object-requires-3 c κs = ?
+object-requires-3 c κs = let e = ends (c .before .before .before .before .before) in omega arith
 
--- src/lib.rt:257:1
 returns-2 : tie.Need-returns-2
-returns-2 c = ?
+returns-2 c =
+    let m = c .before .before .before in
+    let a = m .before .before .before .args in
+    λ p. c .no-record2 .ensures ∙ sym (shown-bad p (a .place) (a .d .now) (sym (c .before .enum-told .given .1) ∙ m .read-undo .ensures .0 p))
 
--- src/lib.rt:257:1
 returns-3 : tie.Need-returns-3
-returns-3 c = ?
+returns-3 c =
+    let l = c .before .before .before in
+    let k = l .before .before .before in
+    let g = k .before .g .given in
+    let m = k .before .before .before in
+    let a = m .before .before .before .args in
+    λ p.
+    rw (c .object3 .ensures, c .before .object2 .ensures, c .before .before .object .ensures)
+    (sym
+    (shown-good p (a .place) (a .d .now) (g .0 .0) (sym (g .1) ∙ m .read-undo .ensures .0 p) _ _ (l .before .before .object-length .ensures .0) (l .object-length2 .ensures .0)))
 
 pub show-undo-spec : {M : Type 1} → statement M
 show-undo-spec =
