@@ -24,18 +24,18 @@ use Rattle.resolve_undo.specs.declared.ModeRead.the-variants as M
 use Rattle.resolve_undo.specs.declared.Record.{Record}
 use Rattle.resolve_undo.specs.declared.RecordRead.{RecordRead}
 use Rattle.resolve_undo.specs.declared.RecordRead.the-variants as R
-use Rattle.resolve_undo.specs.Answers.{modeFound, modeRead, ModeWithin, objectLength, objectsLength, objectIn, readRest, recordRead, RecordWithin}
+use Rattle.resolve_undo.specs.Answers.{modeFound, modeRead, ModeWithin, objectLength, objectsLength, objectIn, readRest, recordOf, recordRead, RecordWithin}
 
 -- ---- a text from at that the byte b at e ends
 
 module _ (b n p at e : ℕ) (d : List ℕ) (is : e ≡ at + before b (drop at d)) (inside : at ≤ length d) where
-  pub text-none : e ≡ length d → readText b n p (drop at d) ≡ bad n p
+  text-none : e ≡ length d → readText b n p (drop at d) ≡ bad n p
   unfolding readText need
   text-none end =
       let h : length (drop at d) ≤ before b (drop at d) = simp length-drop (omega arith) in
       rw (le-ltb _ _ h)
 
-  pub text-some : e < length d → readText b n p (drop at d) ≡ good (take (e - at) (drop at d)) (e + 1 - at)
+  text-some : e < length d → readText b n p (drop at d) ≡ good (take (e - at) (drop at d)) (e + 1 - at)
   unfolding readText need
   text-some more =
       let h : before b (drop at d) < length (drop at d) = simp length-drop (omega arith) in
@@ -77,6 +77,24 @@ module _ (at e : ℕ) (d : List ℕ) (is : e ≡ at + before 0 (drop at d)) (ins
 
 -- ---- answers
 
+-- what the reader answered, where the code's answer is known; by continuation
+module _ {ℓ} {X : Type ℓ} (at : ℕ) where
+  mode-bad-inv : (r : Read ℕ) → M.Bad ≡ modeRead at r → ((n p : ℕ) → r ≡ bad n p → X) → X
+  mode-bad-inv (bad n p) e f = f n p refl
+  mode-bad-inv (good x k) e f = let z : _≡_ {A = ℕ} 0 1 = cc in absurd (omega arith)
+
+  mode-good-inv : (r : Read ℕ) (m next : ℕ) → M.Good m next ≡ modeRead at r → ((k : ℕ) → r ≡ good m k → next ≡ at + k → X) → X
+  mode-good-inv (bad n p) m next e f = let z : _≡_ {A = ℕ} 0 1 = cc in absurd (omega arith)
+  mode-good-inv (good x k) m next e f = f k (cc) (cc)
+
+  pub record-bad-inv : (r : Read Undo) → R.Bad ≡ recordRead at r → ((n p : ℕ) → r ≡ bad n p → X) → X
+  record-bad-inv (bad n p) e f = f n p refl
+  record-bad-inv (good u k) e f = let z : _≡_ {A = ℕ} 0 1 = cc in absurd (omega arith)
+
+  pub record-good-inv : (r : Read Undo) (g : Record) → R.Good g ≡ recordRead at r → ((u : Undo) (k : ℕ) → r ≡ good u k → g ≡ recordOf at u k → X) → X
+  record-good-inv (bad n p) g e f = let z : _≡_ {A = ℕ} 0 1 = cc in absurd (omega arith)
+  record-good-inv (good u k) g e f = f u k refl (cc)
+
 -- a record that is read after k bytes more
 record-shift : (at k : ℕ) (r : Read Undo) → recordRead at (shift k r) ≡ recordRead (at + k) r
 unfolding shift
@@ -89,20 +107,16 @@ refused at (bad n p) h = refl
 refused at (good u k) h = absurd (h u k refl)
 
 -- a mode and what comes next
-module _ (at next m : ℕ) (d : List ℕ) (k : ℕ → List ℕ → Read Undo) where
-  pub then-bad : (r : Read ℕ) → M.Bad ≡ modeRead at r → recordRead at (bind r (λ x n. k x (drop n (drop at d)))) ≡ R.Bad
-  unfolding bind
-  then-bad (bad n p) e = refl
-  then-bad (good x n) e = let z : _≡_ {A = ℕ} 0 1 = cc in absurd (omega arith)
+then-bad : (at : ℕ) (r : Read ℕ) (k : ℕ → ℕ → Read Undo) → M.Bad ≡ modeRead at r → recordRead at (bind r k) ≡ R.Bad
+unfolding bind
+then-bad at r k e = mode-bad-inv at r e λ n p q. rw q
 
-  pub then-good : (r : Read ℕ) → M.Good m next ≡ modeRead at r
-      → recordRead at (bind r (λ x n. k x (drop n (drop at d)))) ≡ recordRead next (k m (drop next d))
-  unfolding bind
-  then-good (bad n p) e = let z : _≡_ {A = ℕ} 0 1 = cc in absurd (omega arith)
-  then-good (good x n) e =
-      let mode : m ≡ x = cc in
-      let place : next ≡ at + n = cc in
-      record-shift at n (k x (drop n (drop at d))) ∙ rw (mode, place, drop-drop n at d)
+then-good : (at next m : ℕ) (d : List ℕ) (k : ℕ → List ℕ → Read Undo) (r : Read ℕ) → M.Good m next ≡ modeRead at r
+    → recordRead at (bind r (λ x n. k x (drop n (drop at d)))) ≡ recordRead next (k m (drop next d))
+unfolding bind
+then-good at next m d k r e =
+    mode-good-inv at r m next e λ n q place.
+    rw (q, place) (record-shift at n (k m (drop n (drop at d))) ∙ rw (drop-drop n at d))
 
 -- ---- stages
 
@@ -260,7 +274,7 @@ module _ (w p : ℕ) (path d : List ℕ) where
   module _ (at : ℕ) where
     pub rest-first : M.Bad ≡ modeRead at (readMode p (drop at d)) → recordRead at (readRest w p path (drop at d)) ≡ R.Bad
     unfolding readRest
-    rest-first e = then-bad at 0 0 d afterFirst (readMode p (drop at d)) e
+    rest-first e = then-bad at (readMode p (drop at d)) _ e
 
     module _ (a i : ℕ) (first : M.Good a i ≡ modeRead at (readMode p (drop at d))) where
       one : recordRead at (readRest w p path (drop at d)) ≡ recordRead i (afterFirst a (drop i d))
@@ -268,14 +282,14 @@ module _ (w p : ℕ) (path d : List ℕ) where
       one = then-good at i a d afterFirst (readMode p (drop at d)) first
 
       pub rest-second : M.Bad ≡ modeRead i (readMode p (drop i d)) → recordRead at (readRest w p path (drop at d)) ≡ R.Bad
-      rest-second e = one ∙ then-bad i 0 0 d (afterSecond a) (readMode p (drop i d)) e
+      rest-second e = one ∙ then-bad i (readMode p (drop i d)) _ e
 
       module _ (b j : ℕ) (second : M.Good b j ≡ modeRead i (readMode p (drop i d))) where
         two : recordRead at (readRest w p path (drop at d)) ≡ recordRead j (afterSecond a b (drop j d))
         two = one ∙ then-good i j b d (afterSecond a) (readMode p (drop i d)) second
 
         pub rest-third : M.Bad ≡ modeRead j (readMode p (drop j d)) → recordRead at (readRest w p path (drop at d)) ≡ R.Bad
-        rest-third e = two ∙ then-bad j 0 0 d (readStages w p path a b) (readMode p (drop j d)) e
+        rest-third e = two ∙ then-bad j (readMode p (drop j d)) _ e
 
         pub rest-stages : (c k : ℕ) → M.Good c k ≡ modeRead j (readMode p (drop j d))
             → recordRead at (readRest w p path (drop at d)) ≡ recordRead k (readStages w p path a b c (drop k d))

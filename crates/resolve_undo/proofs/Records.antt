@@ -1,4 +1,4 @@
--- The records of the data, one after another, and the one that is shown.
+-- The records of the data, one after another: what is answered of what is left.
 use mathlib.Core.Path.{_≡_, refl, sym, ap, _∙_}
 use mathlib.Core.List.{List, [], _∷_}
 use mathlib.Core.Bool.{Bool, true, false, cond, _&&_}
@@ -22,7 +22,7 @@ use Rattle.resolve_undo.specs.declared.RecordRead.the-variants as R
 use Rattle.resolve_undo.specs.declared.RecordsRead.{RecordsRead}
 use Rattle.resolve_undo.specs.declared.RecordsRead.the-variants as S
 use Rattle.resolve_undo.specs.Answers.{objectLength, objectsLength, objectIn, readRest, recordOf, recordRead, placeAfter, placeOf, item, recordsRead, valueOf, undoAt, nothing, shown}
-use Rattle.resolve_undo.proofs.Laws.{stages-read, undo-is}
+use Rattle.resolve_undo.proofs.Laws.{record-bad-inv, record-good-inv, stages-read, undo-is}
 
 -- ---- what one record says
 
@@ -47,19 +47,6 @@ undo-begins w p previous s u k wide q =
     let path-is : u .path ≡ take (before 0 s) s = rest-path w p path _ u j₀ wide q₃ ∙ sym is in
     let long : length (u .path) ≡ before 0 s = ap length path-is ∙ length-take-le (before 0 s) s l in
     (rw long (sym path-is), omega arith)
-
--- a record that is read after another is read by itself
-below-all : (path : List ℕ) → okName path ≡ true → isBelow (compare [] path) ≡ true
-unfolding okName compare
-below-all [] ok = false-true ok
-below-all (x ∷ path) ok = refl
-
-pub undo-alone : (w p : ℕ) (previous s : List ℕ) (u : Undo) (k : ℕ) → readUndo w p previous s ≡ good u k → readUndo w p [] s ≡ good u k
-undo-alone w p previous s u k q =
-    bind-inv _ _ _ _ (sym (undo-is w p previous s) ∙ q) λ path i j pathq q₁ size.
-    need-inv _ _ _ _ _ _ q₁ λ test q₂.
-    let ok = and-inv (okName path) _ test .0 in
-    undo-is w p [] s ∙ bind-good _ _ path i u j pathq (need-good _ 17 p _ u j (and-both _ _ ok (below-all path ok)) q₂) ∙ ap (λ (n : ℕ). good u n) size
 
 -- ---- all records
 
@@ -94,21 +81,16 @@ from-end p want n place at previous d end empty =
     rw (drop-of-length-le d end, undosOf-end, sum) (ap (S.Good n) (found-or-none want n place _ empty))
 
 -- one record, and the rest after it
-module _ (at : ℕ) where
-  bad-bind : (r : Read Undo) (k : Undo → ℕ → Read (List Undo)) (want n place more : ℕ) → R.Bad ≡ recordRead at r → recordsFrom want n place at more (bind r k) ≡ S.Bad
-  unfolding bind
-  bad-bind (bad n p) k want m place more e = refl
-  bad-bind (good u n) k want m place more e = let z : _≡_ {A = ℕ} 0 1 = cc in absurd (omega arith)
-
-  record-inv {ℓ} : {X : Type ℓ} (r : Read Undo) (g : Record) → R.Good g ≡ recordRead at r → ((u : Undo) (k : ℕ) → r ≡ good u k → g ≡ recordOf at u k → X) → X
-  record-inv (bad n p) g e f = let z : _≡_ {A = ℕ} 0 1 = cc in absurd (omega arith)
-  record-inv (good u k) g e f = let is : g ≡ recordOf at u k = cc in f u k refl is
+bad-from : (at : ℕ) (r : Read Undo) (k : Undo → ℕ → Read (List Undo)) (want n place more : ℕ) → R.Bad ≡ recordRead at r
+    → recordsFrom want n place at more (bind r k) ≡ S.Bad
+unfolding bind
+bad-from at r k want n place more e = record-bad-inv at r e λ m p q. rw q
 
 pub from-bad : (p want n place at : ℕ) (previous d : List ℕ) → at < length d → R.Bad ≡ recordRead at (readUndo 20 p previous (drop at d))
     → answerFrom p want n place at previous d ≡ S.Bad
 from-bad p want n place at previous d inside e =
     let some : 1 ≤ length (drop at d) = simp length-drop (omega arith) in
-    rw (undosOf-step 20 p previous (drop at d) some) (bad-bind at _ _ want n place _ e)
+    rw (undosOf-step 20 p previous (drop at d) some) (bad-from at _ _ want n place _ e)
 
 -- the place of the record asked for: before the one at n, that one, or after it
 place-step : (want n place at k y x len : ℕ) → (want ≡ n → y ≡ 0) → (n < want → y ≡ k + x)
@@ -141,11 +123,11 @@ more-from want n place at k y x u here later (good us m) =
 
 -- the first record, the rest, and the place of a later one
 module _ (w p : ℕ) (previous s : List ℕ) (u : Undo) (k : ℕ) (q : readUndo w p previous s ≡ good u k) where
-  undos-after : 1 ≤ length s → undosOf w p previous s ≡ shift k (bind (undosOf w p (u .path) (drop k s)) (λ us m. good (u ∷ us) 0))
+  pub undos-after : 1 ≤ length s → undosOf w p previous s ≡ shift k (bind (undosOf w p (u .path) (drop k s)) (λ us m. good (u ∷ us) 0))
   unfolding bind
   undos-after h = undosOf-step w p previous s h ∙ rw q
 
-  place-after : (n : ℕ) → placeOf w p (suc n) previous s ≡ k + placeOf w p n (u .path) (drop k s)
+  pub place-after : (n : ℕ) → placeOf w p (suc n) previous s ≡ k + placeOf w p n (u .path) (drop k s)
   unfolding placeOf placeAfter
   place-after n = rw q
 
@@ -157,18 +139,18 @@ place-first w p n previous s h = rw h
 pub still-none : (want n place at : ℕ) → (n ≤ want → place ≡ 0) → n + 1 ≤ want → cond (eqb n want) at place ≡ 0
 still-none want n place at empty more = rw (ne-eqb n want (λ z. omega arith)) (empty (omega arith))
 
-module _ (p at : ℕ) (previous d : List ℕ) (g : Record) (inside : at < length d) (e : R.Good g ≡ recordRead at (readUndo 20 p previous (drop at d))) where
-  pub path-fits : at + g .path ≤ length d
-  path-fits =
-      record-inv at (readUndo 20 p previous (drop at d)) g e λ u k q is.
+module _ (p at : ℕ) (previous d : List ℕ) (g : Record) (e : R.Good g ≡ recordRead at (readUndo 20 p previous (drop at d))) where
+  pub path-fits : at ≤ length d → at + g .path ≤ length d
+  path-fits inside =
+      record-good-inv at (readUndo 20 p previous (drop at d)) g e λ u k q is.
       let h = undo-begins 20 p previous (drop at d) u k (lit≤ tt) q in
       let l = length-drop at d in
       rw is (omega arith)
 
-  pub from-good : (want n place : ℕ)
+  pub from-good : at < length d → (want n place : ℕ)
       → answerFrom p want n place at previous d ≡ answerFrom p want (n + 1) (cond (eqb n want) at place) (g .next) (take (g .path) (drop at d)) d
-  from-good want n place =
-      record-inv at (readUndo 20 p previous (drop at d)) g e λ u k q is.
+  from-good inside want n place =
+      record-good-inv at (readUndo 20 p previous (drop at d)) g e λ u k q is.
       let some : 1 ≤ length (drop at d) = simp length-drop (omega arith) in
       let h = undo-begins 20 p previous (drop at d) u k (lit≤ tt) q in
       rw (undos-after 20 p previous (drop at d) u k q some, is, h .0, ← (drop-drop k at d))
@@ -176,128 +158,3 @@ module _ (p at : ℕ) (previous d : List ℕ) (g : Record) (inside : at < length
       (λ is. place-first 20 p (want - n) previous (drop at d) (omega arith))
       (λ more. let less : want - n ≡ suc (want - (n + 1)) = omega arith in rw less (place-after 20 p previous (drop at d) u k q (want - (n + 1))))
       (undosOf 20 p (u .path) (drop k (drop at d))))
-
--- ---- the record that is shown
-
-undos-inv {ℓ} : {X : Type ℓ} (w p : ℕ) (previous s : List ℕ) (us : List Undo) (k : ℕ) → undosOf w p previous s ≡ good us k → 1 ≤ length us
-    → ((u : Undo) (vs : List Undo) (i j : ℕ) → readUndo w p previous s ≡ good u i → undosOf w p (u .path) (drop i s) ≡ good vs j → u ∷ vs ≡ us → X) → X
-undos-inv w p previous [] us k q h f =
-    good-inv _ _ _ _ (sym (undosOf-end w p previous) ∙ q) λ is size. let l = ap length is in absurd (omega arith)
-undos-inv w p previous (b ∷ s) us k q h f =
-    bind-inv _ _ _ _ (sym (undosOf-step w p previous (b ∷ s) (omega arith)) ∙ q) λ u i j undoq q₁ size₀.
-    bind-inv _ _ _ _ q₁ λ vs i₁ j₁ undosq q₂ size₁.
-    good-inv _ _ _ _ q₂ λ is size₂. f u vs i i₁ undoq undosq is
-
--- record number n of the list is the one that the bytes at its place begin with
-pub place-item : (w p n : ℕ) (previous s : List ℕ) (us : List Undo) (k : ℕ) → undosOf w p previous s ≡ good us k → n < length us
-    → undoAt w p (drop (placeOf w p n previous s) s) ≡ item n us
-unfolding placeOf item undoAt valueOf
-place-item w p zero previous s us k q h =
-    undos-inv w p previous s us k q h λ u vs i j undoq undosq is.
-    rw (← is, undo-alone w p previous s u i undoq)
-place-item w p (suc n) previous s us k q h =
-    undos-inv w p previous s us k q (omega arith) λ u vs i j undoq undosq is.
-    let l = ap length is in
-    let rest : n < length vs = omega arith in
-    rw (← is, place-after w p previous s u i undoq n, ← (drop-drop (placeOf w p n (u .path) (drop i s)) i s))
-    (place-item w p n (u .path) (drop i s) vs j undosq rest)
-
--- the same of the whole data, as the format reads it
-pub shown-item : (p n : ℕ) (d : List ℕ) (us : List Undo) (k : ℕ) → readUndos 20 p (length d) [] d ≡ good us k → n < length us
-    → undoAt 20 p (drop (placeOf 20 p n [] d) d) ≡ item n us
-unfolding undosOf
-shown-item p n d us k q h = place-item 20 p n [] d us k q h
-
--- ---- its object names
-
--- where they stand in s, whose first k bytes end with them
-record Objects (w : ℕ) (u : Undo) (s : List ℕ) (k : ℕ) : Type 0 where
-  place : ℕ
-  end : k ≡ place + objectsLength w u
-  first : u .first .object ≡ objectIn w (u .first .mode) (drop place s)
-  second : u .second .object ≡ objectIn w (u .second .mode) (drop (place + objectLength w (u .first .mode)) s)
-  third : u .third .object ≡ objectIn w (u .third .mode) (drop (place + objectLength w (u .first .mode) + objectLength w (u .second .mode)) s)
-
--- the same from n bytes before
-objects-after : (w n : ℕ) (u : Undo) (s : List ℕ) (j k : ℕ) → n + j ≡ k → Objects w u (drop n s) j → Objects w u s k
-objects-after w n u s j k sum h =
-    let a : ℕ = objectLength w (u .first .mode) in
-    let b : ℕ = objectLength w (u .second .mode) in
-    let second-at : n + (h .place + a) ≡ n + h .place + a = omega arith in
-    let third-at : n + (h .place + a + b) ≡ n + h .place + a + b = omega arith in
-    record {
-      place = n + h .place;
-      end = omega (arith, h .end);
-      first = h .first ∙ ap (objectIn w (u .first .mode)) (drop-drop (h .place) n s);
-      second = h .second ∙ ap (objectIn w (u .second .mode)) (rw (drop-drop (h .place + a) n s, second-at));
-      third = h .third ∙ ap (objectIn w (u .third .mode)) (rw (drop-drop (h .place + a + b) n s, third-at));
-    }
-
-rest-objects : (w p : ℕ) (path s : List ℕ) (u : Undo) (k : ℕ) → 1 ≤ w → readRest w p path s ≡ good u k → Objects w u s k
-unfolding readRest objectsLength
-rest-objects w p path s u k wide q =
-    bind-inv _ _ _ _ q λ a i₀ j₀ aq q₁ size₀.
-    bind-inv _ _ _ _ q₁ λ b i₁ j₁ bq q₂ size₁.
-    bind-inv _ _ _ _ q₂ λ c i₂ j₂ cq q₃ size₂.
-    let s₃ : List ℕ = drop i₂ (drop i₁ (drop i₀ s)) in
-    let h = stages-read w p path a b c s₃ wide u j₂ q₃ in
-    let none : 0 + objectLength w a ≡ objectLength w a = omega arith in
-    let here : Objects w u s₃ j₂ =
-    rw (h .0)
-    (record {
-      place = 0;
-      end = omega (arith, h .1);
-      first = refl;
-      second = rw none;
-      third = rw (none, drop-drop (objectLength w b) (objectLength w a) s₃);
-    }) in
-    objects-after w i₀ u s j₀ k size₀
-    (objects-after w i₁ u (drop i₀ s) j₁ j₀ size₁ (objects-after w i₂ u (drop i₁ (drop i₀ s)) j₂ j₁ size₂ here))
-
-undo-objects : (w p : ℕ) (previous s : List ℕ) (u : Undo) (k : ℕ) → 1 ≤ w → readUndo w p previous s ≡ good u k → Objects w u s k
-undo-objects w p previous s u k wide q =
-    bind-inv _ _ _ _ (sym (undo-is w p previous s) ∙ q) λ path i j pathq q₁ size.
-    need-inv _ _ _ _ _ _ q₁ λ test q₂. objects-after w i u s j k size (rest-objects w p path (drop i s) u j wide q₂)
-
--- ---- what is shown
-
-pub shown-out : (p at : ℕ) (d : List ℕ) → length d ≤ at → shown at (undoAt 20 p (drop at d)) ≡ nothing
-unfolding undoAt valueOf readUndo readText before need bind
-shown-out p at d h = rw (drop-of-length-le d h)
-
-bad-none : (at : ℕ) (r : Read Undo) → R.Bad ≡ recordRead at r → shown at (valueOf r) ≡ nothing
-unfolding valueOf
-bad-none at (bad n p) e = refl
-bad-none at (good u k) e = let z : _≡_ {A = ℕ} 0 1 = cc in absurd (omega arith)
-
-pub shown-bad : (p at : ℕ) (d : List ℕ) → R.Bad ≡ recordRead at (readUndo 20 p [] (drop at d)) → shown at (undoAt 20 p (drop at d)) ≡ nothing
-unfolding undoAt
-shown-bad p at d e = bad-none at (readUndo 20 p [] (drop at d)) e
-
-module _ (p at : ℕ) (d : List ℕ) (g : Record) (e : R.Good g ≡ recordRead at (readUndo 20 p [] (drop at d))) where
-  pub objects-end : g .objects + objectLength 20 (g .first) + objectLength 20 (g .second) + objectLength 20 (g .third) ≡ g .next
-  unfolding objectsLength
-  objects-end =
-      record-inv at (readUndo 20 p [] (drop at d)) g e λ u k q is.
-      let h = undo-objects 20 p [] (drop at d) u k (lit≤ tt) q in
-      rw is (omega (arith, h .end))
-
-  pub shown-good : (x y : ℕ) → x ≡ objectLength 20 (g .first) → y ≡ objectLength 20 (g .second)
-      → shown at (undoAt 20 p (drop at d))
-      ≡ record {
-        ok = true;
-        path = at;
-        «path_length» = g .path;
-        first = g .first;
-        second = g .second;
-        third = g .third;
-        «first_object» = objectIn 20 (g .first) (drop (g .objects) d);
-        «second_object» = objectIn 20 (g .second) (drop (g .objects + x) d);
-        «third_object» = objectIn 20 (g .third) (drop (g .objects + x + y) d);
-      }
-  unfolding undoAt valueOf
-  shown-good x y x-is y-is =
-      record-inv at (readUndo 20 p [] (drop at d)) g e λ u k q is.
-      let h = objects-after 20 at u d k (at + k) refl (undo-objects 20 p [] (drop at d) u k (lit≤ tt) q) in
-      let place : at + k - objectsLength 20 u ≡ h .place = omega (arith, h .end) in
-      rw (q, y-is, x-is, is, place, ← (h .first), ← (h .second), ← (h .third))

@@ -253,9 +253,9 @@ fn no_record() -> Shown
     }
 }
 
-// The record at a place, whatever path stands before it.
+// The record at a place, whatever path stands before it. Its path is a part of the data, which path_of gives.
 pub fn show_undo(d: &[u8], place: usize) -> Shown
-    ensures { λ r. ⌜ ((p : ℕ) → r ≡ shown place (undoAt 20 p (drop place (now (d .entry))))) ⌝ }
+    ensures { λ r. ⌜ ((p : ℕ) → r ≡ shown place (undoAt 20 p (drop place (now (d .entry))))) × (r .path + r .«path_length» ≤ length (now (d .entry))) ⌝ }
 {
     if d.len() < place {
         return no_record();

@@ -61,12 +61,12 @@ loop-again c =
     let inside = m .before .loop-test .taken in
     (
       b .1,
-      path-fits 0 (l .loop .at) _ (a .d .now) (g .0 .0) inside (sym (g .1) ∙ m .read-undo .ensures .0 0),
+      path-fits 0 (l .loop .at) _ (a .d .now) (g .0 .0) (sym (g .1) ∙ m .read-undo .ensures .0 0) (l .loop .inv .0),
       omega arith,
       λ more. c .pick .ensures ∙ still-none (a .want) (l .loop .records) (l .loop .place) (l .loop .at) (l .loop .inv .3) more,
       λ p.
       rw (c .pick .ensures)
-      (l .loop .inv .4 p ∙ from-good p (l .loop .at) _ (a .d .now) (g .0 .0) inside (sym (g .1) ∙ m .read-undo .ensures .0 p) (a .want) (l .loop .records) (l .loop .place)),
+      (l .loop .inv .4 p ∙ from-good p (l .loop .at) _ (a .d .now) (g .0 .0) (sym (g .1) ∙ m .read-undo .ensures .0 p) inside (a .want) (l .loop .records) (l .loop .place)),
     )
 
 returns-2 : tie.Need-returns-2 Inv-loop μ-loop

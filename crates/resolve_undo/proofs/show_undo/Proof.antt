@@ -1,12 +1,13 @@
 -- The proof that `show_undo` meets its contract: the record is read by itself, and its object names stand at its end.
 use mathlib.Core.Path.{sym, _∙_}
-use Prim.Native.Nat.{_+_, _≤_}
+use Prim.Native.Nat.{_+_, _≤_, zero-le}
 use native.Mathlib.Omega.{arith}
 use lib.ListN.{length}
 use borrow.Author.Needs.{needs}
 use Rattle.resolve_undo.specs.Answers.{objectLength}
 use Rattle.resolve_undo.proofs.Laws.{record-bounds}
-use Rattle.resolve_undo.proofs.Records.{shown-out, shown-bad, shown-good, objects-end}
+use Rattle.resolve_undo.proofs.Records.{path-fits}
+use Rattle.resolve_undo.proofs.Showing.{shown-out, shown-bad, shown-good, objects-end}
 use Rattle.resolve_undo.proofs.show_undo.Statement.{statement}
 use Rattle.resolve_undo.proofs.show_undo.Tie as tie
 
@@ -30,7 +31,7 @@ returns : tie.Need-returns
 returns c =
     let a = c .before .before .before .args in
     let out : length (a .d .now) ≤ a .place = omega arith in
-    λ p. c .no-record .ensures ∙ sym (shown-out p (a .place) (a .d .now) out)
+    (λ p. c .no-record .ensures ∙ sym (shown-out p (a .place) (a .d .now) out), rw (c .no-record .ensures) zero-le)
 
 read-undo-requires : tie.Need-read-undo-requires
 read-undo-requires c κs = search needs
@@ -69,7 +70,10 @@ returns-2 : tie.Need-returns-2
 returns-2 c =
     let m = c .before .before .before in
     let a = m .before .before .before .args in
-    λ p. c .no-record2 .ensures ∙ sym (shown-bad p (a .place) (a .d .now) (sym (c .before .enum-told .given .1) ∙ m .read-undo .ensures .0 p))
+    (
+      λ p. c .no-record2 .ensures ∙ sym (shown-bad p (a .place) (a .d .now) (sym (c .before .enum-told .given .1) ∙ m .read-undo .ensures .0 p)),
+      rw (c .no-record2 .ensures) zero-le,
+    )
 
 returns-3 : tie.Need-returns-3
 returns-3 c =
@@ -78,10 +82,13 @@ returns-3 c =
     let g = k .before .g .given in
     let m = k .before .before .before in
     let a = m .before .before .before .args in
-    λ p.
-    rw (c .object3 .ensures, c .before .object2 .ensures, c .before .before .object .ensures)
-    (sym
-    (shown-good p (a .place) (a .d .now) (g .0 .0) (sym (g .1) ∙ m .read-undo .ensures .0 p) _ _ (l .before .before .object-length .ensures .0) (l .object-length2 .ensures .0)))
+    (
+      λ p.
+      rw (c .object3 .ensures, c .before .object2 .ensures, c .before .before .object .ensures)
+      (sym
+      (shown-good p (a .place) (a .d .now) (g .0 .0) (sym (g .1) ∙ m .read-undo .ensures .0 p) _ _ (l .before .before .object-length .ensures .0) (l .object-length2 .ensures .0))),
+      path-fits 0 (a .place) _ (a .d .now) (g .0 .0) (sym (g .1) ∙ m .read-undo .ensures .0 0) (m .before .if1 .left),
+    )
 
 pub show-undo-spec : {M : Type 1} → statement M
 show-undo-spec =
