@@ -1,6 +1,6 @@
 -- Laws of the reader's steps at a place of the data.
-use mathlib.Core.Path.{_≡_, refl, sym, ap, _∙_}
-use mathlib.Core.List.{List, [], _∷_, _++_, append-nil}
+use mathlib.Core.Path.{_≡_, refl, sym, _∙_}
+use mathlib.Core.List.{List, _++_, append-nil}
 use mathlib.Core.Bool.{Bool, true, false, cond, not, _&&_, _||_}
 use mathlib.Core.Option.{Option, none, some}
 use Prim.Native.Nat.{ℕ, _+_, _-_, _≤_, _<_}
@@ -16,7 +16,7 @@ use Rattle.format.specs.Records.{Stage, Undo}
 use Rattle.format.specs.Layout.{someStage}
 use Rattle.format.specs.Reading.{Read, bad, good, need, shift, bind}
 use Rattle.format.specs.Reader.{readText, needSome, modeIn, readMode, readStage, readStages, readUndo}
-use Rattle.spelling_entries.proofs.Reading.{false-true, by-test, cond-inv, good-inv, need-inv, bind-inv, need-good, bind-good}
+use Rattle.spelling_entries.proofs.Reading.{by-test, cond-inv, good-inv, need-inv, bind-inv, need-good, bind-good}
 use Rattle.spelling_extensions.proofs.Texts.{same-size}
 use Rattle.resolve_undo.specs.declared.ModeFound.the-variants as F
 use Rattle.resolve_undo.specs.declared.ModeRead.{ModeRead}
@@ -212,8 +212,7 @@ module _ (w p : ℕ) (path : List ℕ) (a b c : ℕ) (s : List ℕ) (wide : 1 �
       let hy = stage-read w p b (drop i₀ s) y i₁ yq in
       let hz = stage-read w p c (drop i₁ (drop i₀ s)) z i₂ zq in
       let l₀ = length-drop i₀ s in
-      let l₁ = length-drop i₁ (drop i₀ s) in
-      (
+      let l₁ = length-drop i₁ (drop i₀ s) in (
         sym is ∙ rw (hx .0, hy .0, hz .0, hx .1, hy .1),
         omega arith,
         some-sum w wide a b c (rw (hx .0, hy .0, hz .0) at test),

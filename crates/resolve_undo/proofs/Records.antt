@@ -1,27 +1,26 @@
 -- The records of the data, one after another: what is answered of what is left.
 use mathlib.Core.Path.{_≡_, refl, sym, ap, _∙_}
 use mathlib.Core.List.{List, [], _∷_}
-use mathlib.Core.Bool.{Bool, true, false, cond, _&&_}
-use mathlib.Core.Option.{Option, none, some}
+use mathlib.Core.Bool.{false, cond}
+use mathlib.Core.Option.{none, some}
 use Prim.Native.Nat.{ℕ, zero, suc, _+_, _-_, _≤_, _<_}
 use native.Mathlib.Omega.{arith}
 use lib.ListN.{length, take, drop, length-drop, drop-of-length-le}
 use lib.Seq.{drop-drop, length-take-le}
 use lib.Dec.{eqb, ltb, lit≤}
 use borrow.Author.Tests.{ltb-true, ltb-false, lt-ltb, le-ltb, eqb-true, eqb-false, ne-eqb}
-use Rattle.format.specs.Bytes.{before, lacks}
-use Rattle.format.specs.Names.{okName, compare, isBelow, components, okComponents}
+use Rattle.format.specs.Bytes.{before}
 use Rattle.format.specs.Records.{Undo}
-use Rattle.format.specs.Reading.{Read, bad, good, need, shift, bind}
-use Rattle.format.specs.Reader.{readText, readMode, readStages, readUndo, readUndos}
-use Rattle.spelling_entries.proofs.Reading.{false-true, by-test, and-inv, and-both, good-inv, need-inv, bind-inv, need-good, bind-good}
+use Rattle.format.specs.Reading.{Read, bad, good, shift, bind}
+use Rattle.format.specs.Reader.{readText, readUndo, readUndos}
+use Rattle.spelling_entries.proofs.Reading.{by-test, good-inv, need-inv, bind-inv}
 use Rattle.spelling_entries.proofs.Bytes.{before-le}
 use Rattle.spelling_extensions.proofs.Undo.{undosOf, undosOf-end, undosOf-step}
 use Rattle.resolve_undo.specs.declared.Record.{Record}
 use Rattle.resolve_undo.specs.declared.RecordRead.the-variants as R
 use Rattle.resolve_undo.specs.declared.RecordsRead.{RecordsRead}
 use Rattle.resolve_undo.specs.declared.RecordsRead.the-variants as S
-use Rattle.resolve_undo.specs.Answers.{objectLength, objectsLength, objectIn, readRest, recordOf, recordRead, placeAfter, placeOf, item, recordsRead, valueOf, undoAt, nothing, shown}
+use Rattle.resolve_undo.specs.Answers.{readRest, recordRead, placeAfter, placeOf, recordsRead}
 use Rattle.resolve_undo.proofs.Laws.{record-bad-inv, record-good-inv, stages-read, undo-is}
 
 -- ---- what one record says

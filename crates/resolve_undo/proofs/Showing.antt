@@ -1,30 +1,28 @@
 -- The record that is shown: record number n of the list is what the bytes at its place say.
 use mathlib.Core.Path.{_≡_, refl, sym, ap, _∙_}
 use mathlib.Core.List.{List, [], _∷_}
-use mathlib.Core.Bool.{Bool, true, false, cond, _&&_}
-use mathlib.Core.Option.{Option, none, some}
+use mathlib.Core.Bool.{true, cond}
+use mathlib.Core.Option.{none, some}
 use Prim.Native.Nat.{ℕ, zero, suc, _+_, _-_, _≤_, _<_}
 use native.Mathlib.Omega.{arith}
-use lib.ListN.{length, take, drop, length-drop, drop-of-length-le}
-use lib.Seq.{drop-drop, length-take-le}
-use lib.Dec.{eqb, ltb, lit≤}
-use borrow.Author.Tests.{ltb-true, ltb-false, lt-ltb, le-ltb, eqb-true, eqb-false, ne-eqb}
-use Rattle.format.specs.Bytes.{before, lacks}
-use Rattle.format.specs.Names.{okName, compare, isBelow, components, okComponents}
+use lib.ListN.{length, take, drop, drop-of-length-le}
+use lib.Seq.{drop-drop}
+use lib.Dec.{ltb, lit≤}
+use borrow.Author.Tests.{lt-ltb}
+use Rattle.format.specs.Bytes.{before}
+use Rattle.format.specs.Names.{okName, compare, isBelow}
 use Rattle.format.specs.Records.{Undo}
-use Rattle.format.specs.Reading.{Read, bad, good, need, shift, bind}
-use Rattle.format.specs.Reader.{readText, readMode, readStages, readUndo, readUndos}
-use Rattle.spelling_entries.proofs.Reading.{false-true, by-test, and-inv, and-both, good-inv, need-inv, bind-inv, need-good, bind-good}
-use Rattle.spelling_entries.proofs.Bytes.{before-le}
+use Rattle.format.specs.Reading.{Read, bad, good, need, bind}
+use Rattle.format.specs.Reader.{readText, readUndo, readUndos}
+use Rattle.spelling_entries.proofs.Reading.{false-true, and-inv, and-both, good-inv, need-inv, bind-inv, need-good, bind-good}
 use Rattle.spelling_extensions.proofs.Texts.{none-some}
 use Rattle.spelling_extensions.proofs.Undo.{undosOf, undosOf-end, undosOf-step}
 use Rattle.resolve_undo.specs.declared.Record.{Record}
 use Rattle.resolve_undo.specs.declared.RecordRead.the-variants as R
-use Rattle.resolve_undo.specs.declared.RecordsRead.{RecordsRead}
 use Rattle.resolve_undo.specs.declared.RecordsRead.the-variants as S
-use Rattle.resolve_undo.specs.Answers.{objectLength, objectsLength, objectIn, readRest, recordOf, recordRead, placeAfter, placeOf, item, recordsRead, valueOf, undoAt, nothing, shown}
+use Rattle.resolve_undo.specs.Answers.{objectLength, objectsLength, objectIn, readRest, recordRead, placeOf, item, recordsRead, valueOf, undoAt, nothing, shown}
 use Rattle.resolve_undo.proofs.Laws.{record-bad-inv, record-good-inv, stages-read, undo-is}
-use Rattle.resolve_undo.proofs.Records.{undo-begins, undos-after, place-after}
+use Rattle.resolve_undo.proofs.Records.{undo-begins, place-after}
 
 -- ---- the record at a place
 
@@ -76,12 +74,11 @@ pub read-item : (p n count place : ℕ) (d : List ℕ) (us : List Undo) (k : ℕ
 read-item p n count place d us k q e =
     let f = rw q at e in
     let number : count ≡ length us = cc in
-    let place-is : place ≡ cond (ltb n (length us)) (placeOf 20 p n [] d) 0 = cc in
-    (
+    let place-is : place ≡ cond (ltb n (length us)) (placeOf 20 p n [] d) 0 = cc in (
       number,
       λ h.
-      let l : n < length us = omega arith in
-      rw (place-is, lt-ltb n (length us) l) (shown-item p n d us k q l),
+          let l : n < length us = omega arith in
+          rw (place-is, lt-ltb n (length us) l) (shown-item p n d us k q l),
     )
 
 value-inv {ℓ} : {X : Type ℓ} (r : Read Undo) (u : Undo) → valueOf r ≡ some u → ((k : ℕ) → r ≡ good u k → X) → X

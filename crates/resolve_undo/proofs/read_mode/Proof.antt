@@ -49,8 +49,7 @@ returns-3 : tie.Need-returns-3
 returns-3 c =
     let f = c .before .before .before .before .before .before in
     let a = f .before .before .args in
-    let more : f .find .result < length (a .d .now) = omega arith in
-    (
+    let more : f .find .result < length (a .d .now) = omega arith in (
       λ p. sym (mode-good (a .at) _ (a .d .now) (f .find .ensures .0) (f .before .before .pre) p more _ (sym (c .before .before .before .mode-in .ensures) ∙ c .before .m .given .1)),
       omega arith,
     )

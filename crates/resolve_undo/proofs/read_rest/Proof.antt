@@ -48,11 +48,10 @@ returns-2 c =
     let m₂ = c .before .before in
     let k₁ = m₂ .before .before in
     let m₁ = k₁ .before .before in
-    let a = m₁ .before .before .args in
-    (
+    let a = m₁ .before .before .args in (
       λ p s long.
-      sym
-      (rest-second 20 p s (a .d .now) (a .at) _ _ (sym (k₁ .a .given .1) ∙ m₁ .read-mode .ensures .0 p) (sym (c .enum-told2 .given .1) ∙ m₂ .read-mode2 .ensures .0 p)),
+          sym
+          (rest-second 20 p s (a .d .now) (a .at) _ _ (sym (k₁ .a .given .1) ∙ m₁ .read-mode .ensures .0 p) (sym (c .enum-told2 .given .1) ∙ m₂ .read-mode2 .ensures .0 p)),
       tt,
     )
 
@@ -63,12 +62,11 @@ returns-3 c =
     let m₂ = k₂ .before .before in
     let k₁ = m₂ .before .before in
     let m₁ = k₁ .before .before in
-    let a = m₁ .before .before .args in
-    (
+    let a = m₁ .before .before .args in (
       λ p s long.
-      sym
-      (rest-third 20 p s (a .d .now) (a .at) _ _ (sym (k₁ .a .given .1) ∙ m₁ .read-mode .ensures .0 p) _ _ (sym (k₂ .b .given .1) ∙ m₂ .read-mode2 .ensures .0 p)
-      (sym (c .enum-told3 .given .1) ∙ m₃ .read-mode3 .ensures .0 p)),
+          sym
+          (rest-third 20 p s (a .d .now) (a .at) _ _ (sym (k₁ .a .given .1) ∙ m₁ .read-mode .ensures .0 p) _ _ (sym (k₂ .b .given .1) ∙ m₂ .read-mode2 .ensures .0 p)
+          (sym (c .enum-told3 .given .1) ∙ m₃ .read-mode3 .ensures .0 p)),
       tt,
     )
 
@@ -83,13 +81,12 @@ returns-4 c =
     let a = m₁ .before .before .args in
     let w₁ = mode-within _ _ _ _ _ (m₁ .read-mode .ensures .1) (k₁ .a .given .1) in
     let w₂ = mode-within _ _ _ _ _ (m₂ .read-mode2 .ensures .1) (k₂ .b .given .1) in
-    let w₃ = mode-within _ _ _ _ _ (m₃ .read-mode3 .ensures .1) (k₃ .c .given .1) in
-    (
+    let w₃ = mode-within _ _ _ _ _ (m₃ .read-mode3 .ensures .1) (k₃ .c .given .1) in (
       λ p s long.
-      sym
-      (rest-stages 20 p s (a .d .now) (a .at) _ _ (sym (k₁ .a .given .1) ∙ m₁ .read-mode .ensures .0 p) _ _ (sym (k₂ .b .given .1) ∙ m₂ .read-mode2 .ensures .0 p)
-      _ _ (sym (k₃ .c .given .1) ∙ m₃ .read-mode3 .ensures .0 p)
-      ∙ sym (c .read-stages .ensures .0 p s long)),
+          sym
+          (rest-stages 20 p s (a .d .now) (a .at) _ _ (sym (k₁ .a .given .1) ∙ m₁ .read-mode .ensures .0 p) _ _ (sym (k₂ .b .given .1) ∙ m₂ .read-mode2 .ensures .0 p)
+          _ _ (sym (k₃ .c .given .1) ∙ m₃ .read-mode3 .ensures .0 p)
+          ∙ sym (c .read-stages .ensures .0 p s long)),
       record-within (a .at) (k₃ .c .given .0 .1 .0) (length (a .d .now)) (c .read-stages .result) (omega arith) (c .read-stages .ensures .1),
     )
 

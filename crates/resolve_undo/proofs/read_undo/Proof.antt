@@ -68,12 +68,11 @@ returns-2 c =
     let o = c .before .before in
     let f = o .before .before .before .before in
     let a = f .before .before .args in
-    let more : f .find .result < length (a .d .now) = omega arith in
-    (
+    let more : f .find .result < length (a .d .now) = omega arith in (
       λ p.
-      sym
-      (undo-rest 20 (a .at) _ (a .d .now) _ (f .find .ensures .0) (f .before .before .pre .0) p more (path-is o ∙ c .before .if2 .taken)
-      ∙ sym (c .read-rest .ensures .0 p _ (path-size (a .at) (f .find .result) (a .d .now) more))),
+          sym
+          (undo-rest 20 (a .at) _ (a .d .now) _ (f .find .ensures .0) (f .before .before .pre .0) p more (path-is o ∙ c .before .if2 .taken)
+          ∙ sym (c .read-rest .ensures .0 p _ (path-size (a .at) (f .find .result) (a .d .now) more))),
       record-within (a .at) (f .find .result + 1) (length (a .d .now)) (c .read-rest .result) (omega arith) (c .read-rest .ensures .1),
     )
 

@@ -58,15 +58,14 @@ loop-again c =
     let a = l .before .before .args in
     let g = c .before .before .g .given in
     let b = record-bounds _ _ _ _ (m .read-undo .ensures .1) (g .1) in
-    let inside = m .before .loop-test .taken in
-    (
+    let inside = m .before .loop-test .taken in (
       b .1,
       path-fits 0 (l .loop .at) _ (a .d .now) (g .0 .0) (sym (g .1) ∙ m .read-undo .ensures .0 0) (l .loop .inv .0),
       omega arith,
       λ more. c .pick .ensures ∙ still-none (a .want) (l .loop .records) (l .loop .place) (l .loop .at) (l .loop .inv .3) more,
       λ p.
-      rw (c .pick .ensures)
-      (l .loop .inv .4 p ∙ from-good p (l .loop .at) _ (a .d .now) (g .0 .0) (sym (g .1) ∙ m .read-undo .ensures .0 p) inside (a .want) (l .loop .records) (l .loop .place)),
+          rw (c .pick .ensures)
+          (l .loop .inv .4 p ∙ from-good p (l .loop .at) _ (a .d .now) (g .0 .0) (sym (g .1) ∙ m .read-undo .ensures .0 p) inside (a .want) (l .loop .records) (l .loop .place)),
     )
 
 returns-2 : tie.Need-returns-2 Inv-loop μ-loop

@@ -69,8 +69,7 @@ object-requires-3 c κs = let e = ends (c .before .before .before .before .befor
 returns-2 : tie.Need-returns-2
 returns-2 c =
     let m = c .before .before .before in
-    let a = m .before .before .before .args in
-    (
+    let a = m .before .before .before .args in (
       λ p. c .no-record2 .ensures ∙ sym (shown-bad p (a .place) (a .d .now) (sym (c .before .enum-told .given .1) ∙ m .read-undo .ensures .0 p)),
       rw (c .no-record2 .ensures) zero-le,
     )
@@ -81,12 +80,11 @@ returns-3 c =
     let k = l .before .before .before in
     let g = k .before .g .given in
     let m = k .before .before .before in
-    let a = m .before .before .before .args in
-    (
+    let a = m .before .before .before .args in (
       λ p.
-      rw (c .object3 .ensures, c .before .object2 .ensures, c .before .before .object .ensures)
-      (sym
-      (shown-good p (a .place) (a .d .now) (g .0 .0) (sym (g .1) ∙ m .read-undo .ensures .0 p) _ _ (l .before .before .object-length .ensures .0) (l .object-length2 .ensures .0))),
+          rw (c .object3 .ensures, c .before .object2 .ensures, c .before .before .object .ensures)
+          (sym
+          (shown-good p (a .place) (a .d .now) (g .0 .0) (sym (g .1) ∙ m .read-undo .ensures .0 p) _ _ (l .before .before .object-length .ensures .0) (l .object-length2 .ensures .0))),
       path-fits 0 (a .place) _ (a .d .now) (g .0 .0) (sym (g .1) ∙ m .read-undo .ensures .0 0) (m .before .if1 .left),
     )
 
