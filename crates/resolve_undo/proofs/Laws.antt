@@ -24,7 +24,7 @@ use Rattle.resolve_undo.specs.declared.ModeRead.the-variants as M
 use Rattle.resolve_undo.specs.declared.Record.{Record}
 use Rattle.resolve_undo.specs.declared.RecordRead.{RecordRead}
 use Rattle.resolve_undo.specs.declared.RecordRead.the-variants as R
-use Rattle.resolve_undo.specs.Answers.{modeFound, modeRead, ModeWithin, objectLength, objectsLength, objectIn, readRest, recordOf, recordRead, RecordWithin}
+use Rattle.resolve_undo.specs.Answers.{modeFound, modeRead, ModeWithin, objectLength, objectsLength, objectIn, readThird, readSecond, readFirst, recordOf, recordRead, RecordWithin}
 
 -- ---- a text from at that the byte b at e ends
 
@@ -249,7 +249,7 @@ module _ (p at : ℕ) (path : List ℕ) (a b c n : ℕ) (d : List ℕ) (is : n �
       let place : at + n - n ≡ at = omega arith in
       rw (stages-good 20 p path a b c (drop at d) (omega arith) (omega arith) (omega arith), ← is, long, place)
 
--- ---- the modes and the stages
+-- ---- the rest of a record, after a mode at a place
 
 pub mode-within : (at end m next : ℕ) (r : ModeRead) → ModeWithin at end r → r ≡ M.Good m next → (at < next) × (next ≤ end)
 mode-within at end m next r h e = rw e at h
@@ -262,44 +262,32 @@ record-within at i end (R.Good r) h w = omega arith
 pub record-bounds : (at end : ℕ) (g : Record) (r : RecordRead) → RecordWithin at end r → r ≡ R.Good g → (at < g .next) × (g .next ≤ end)
 record-bounds at end g r h e = rw e at h
 
-module _ (w p : ℕ) (path d : List ℕ) where
-  -- what comes after the second mode, and after the first
-  abbrev afterSecond : ℕ → ℕ → List ℕ → Read Undo
-  afterSecond a b s = bind (readMode p s) λ c q. readStages w p path a b c (drop q s)
+-- k reads what comes after the mode
+module _ (at size : ℕ) (d : List ℕ) (r : ModeRead) (k : ℕ → List ℕ → ℕ → List ℕ → Read Undo) (told : (p : ℕ) → r ≡ modeRead at (readMode p (drop at d))) where
+  -- the answer g, after a path of so many bytes
+  abbrev Rest : RecordRead → Type 0
+  Rest g =
+      ((p : ℕ) (s : List ℕ) → length s ≡ size → g ≡ recordRead at (bind (readMode p (drop at d)) (λ x n. k p s x (drop n (drop at d)))))
+      × RecordWithin at (length d) g
 
-  abbrev afterFirst : ℕ → List ℕ → Read Undo
-  afterFirst a s = bind (readMode p s) λ b o. afterSecond a b (drop o s)
+  pub no-mode : r ≡ M.Bad → Rest R.Bad
+  no-mode e = (λ p s long. sym (then-bad at _ _ (sym e ∙ told p)), tt)
 
-  module _ (at : ℕ) where
-    pub rest-first : M.Bad ≡ modeRead at (readMode p (drop at d)) → recordRead at (readRest w p path (drop at d)) ≡ R.Bad
-    unfolding readRest
-    rest-first e = then-bad at (readMode p (drop at d)) _ e
-
-    module _ (a i : ℕ) (first : M.Good a i ≡ modeRead at (readMode p (drop at d))) where
-      one : recordRead at (readRest w p path (drop at d)) ≡ recordRead i (afterFirst a (drop i d))
-      unfolding readRest
-      one = then-good at i a d afterFirst (readMode p (drop at d)) first
-
-      pub rest-second : M.Bad ≡ modeRead i (readMode p (drop i d)) → recordRead at (readRest w p path (drop at d)) ≡ R.Bad
-      rest-second e = one ∙ then-bad i (readMode p (drop i d)) _ e
-
-      module _ (b j : ℕ) (second : M.Good b j ≡ modeRead i (readMode p (drop i d))) where
-        two : recordRead at (readRest w p path (drop at d)) ≡ recordRead j (afterSecond a b (drop j d))
-        two = one ∙ then-good i j b d (afterSecond a) (readMode p (drop i d)) second
-
-        pub rest-third : M.Bad ≡ modeRead j (readMode p (drop j d)) → recordRead at (readRest w p path (drop at d)) ≡ R.Bad
-        rest-third e = two ∙ then-bad j (readMode p (drop j d)) _ e
-
-        pub rest-stages : (c k : ℕ) → M.Good c k ≡ modeRead j (readMode p (drop j d))
-            → recordRead at (readRest w p path (drop at d)) ≡ recordRead k (readStages w p path a b c (drop k d))
-        rest-stages c k third = two ∙ then-good j k c d (readStages w p path a b) (readMode p (drop j d)) third
+  pub after-mode : (m next : ℕ) (g : RecordRead) → r ≡ M.Good m next → ModeWithin at (length d) r
+      → ((p : ℕ) (s : List ℕ) → length s ≡ size → g ≡ recordRead next (k p s m (drop next d))) × RecordWithin next (length d) g → Rest g
+  after-mode m next g e w rest =
+      let b = mode-within at (length d) m next r w e in
+      (
+        λ p s long. rest .0 p s long ∙ sym (then-good at next m d (k p s) _ (sym e ∙ told p)),
+        record-within at next (length d) g (omega arith) (rest .1),
+      )
 
 -- ---- one record
 
 pub undo-is : (w p : ℕ) (previous s : List ℕ)
     → readUndo w p previous s
-    ≡ bind (readText 0 17 p s) (λ path m. need (okName path && isBelow (compare previous path)) 17 p (readRest w p path (drop m s)))
-unfolding readUndo readRest
+    ≡ bind (readText 0 17 p s) (λ path m. need (okName path && isBelow (compare previous path)) 17 p (readFirst w p path (drop m s)))
+unfolding readUndo readFirst readSecond readThird
 undo-is w p previous s = refl
 
 pub path-size : (at e : ℕ) (d : List ℕ) → e < length d → length (take (e - at) (drop at d)) ≡ e - at
@@ -319,9 +307,9 @@ module _ (w at e : ℕ) (d previous : List ℕ) (is : e ≡ at + before 0 (drop 
     undo-path h = rw (undo-is, text-some 0 17 p at e d is inside more, h)
 
     pub undo-rest : (okName path && isBelow (compare previous path)) ≡ true
-        → recordRead at (readUndo w p previous (drop at d)) ≡ recordRead (e + 1) (readRest w p path (drop (e + 1) d))
+        → recordRead at (readUndo w p previous (drop at d)) ≡ recordRead (e + 1) (readFirst w p path (drop (e + 1) d))
     unfolding bind need
     undo-rest h =
         let place : at + (e + 1 - at) ≡ e + 1 = omega arith in
         rw (undo-is, text-some 0 17 p at e d is inside more, h)
-        (record-shift at (e + 1 - at) (readRest w p path (drop (e + 1 - at) (drop at d))) ∙ rw (drop-drop (e + 1 - at) at d, place))
+        (record-shift at (e + 1 - at) (readFirst w p path (drop (e + 1 - at) (drop at d))) ∙ rw (drop-drop (e + 1 - at) at d, place))

@@ -20,14 +20,14 @@ use Rattle.resolve_undo.specs.declared.Record.{Record}
 use Rattle.resolve_undo.specs.declared.RecordRead.the-variants as R
 use Rattle.resolve_undo.specs.declared.RecordsRead.{RecordsRead}
 use Rattle.resolve_undo.specs.declared.RecordsRead.the-variants as S
-use Rattle.resolve_undo.specs.Answers.{readRest, recordRead, placeAfter, placeOf, recordsRead}
+use Rattle.resolve_undo.specs.Answers.{readThird, readSecond, readFirst, recordRead, placeAfter, placeOf, recordsRead}
 use Rattle.resolve_undo.proofs.Laws.{record-bad-inv, record-good-inv, stages-read, undo-is}
 
 -- ---- what one record says
 
-rest-path : (w p : ℕ) (path s : List ℕ) (u : Undo) (k : ℕ) → 1 ≤ w → readRest w p path s ≡ good u k → u .path ≡ path
-unfolding readRest
-rest-path w p path s u k wide q =
+first-path : (w p : ℕ) (path s : List ℕ) (u : Undo) (k : ℕ) → 1 ≤ w → readFirst w p path s ≡ good u k → u .path ≡ path
+unfolding readFirst readSecond readThird
+first-path w p path s u k wide q =
     bind-inv _ _ _ _ q λ a i₀ j₀ aq q₁ size₀.
     bind-inv _ _ _ _ q₁ λ b i₁ j₁ bq q₂ size₁.
     bind-inv _ _ _ _ q₂ λ c i₂ j₂ cq q₃ size₂.
@@ -43,7 +43,7 @@ undo-begins w p previous s u k wide q =
     good-inv _ _ _ _ q₂ λ is size₁.
     need-inv _ _ _ _ _ _ q₁ λ ok q₃.
     let l = before-le 0 s in
-    let path-is : u .path ≡ take (before 0 s) s = rest-path w p path _ u j₀ wide q₃ ∙ sym is in
+    let path-is : u .path ≡ take (before 0 s) s = first-path w p path _ u j₀ wide q₃ ∙ sym is in
     let long : length (u .path) ≡ before 0 s = ap length path-is ∙ length-take-le (before 0 s) s l in
     (rw long (sym path-is), omega arith)
 

@@ -20,7 +20,7 @@ use Rattle.spelling_extensions.proofs.Undo.{undosOf, undosOf-end, undosOf-step}
 use Rattle.resolve_undo.specs.declared.Record.{Record}
 use Rattle.resolve_undo.specs.declared.RecordRead.the-variants as R
 use Rattle.resolve_undo.specs.declared.RecordsRead.the-variants as S
-use Rattle.resolve_undo.specs.Answers.{objectLength, objectsLength, objectIn, readRest, recordRead, placeOf, item, recordsRead, valueOf, undoAt, nothing, shown}
+use Rattle.resolve_undo.specs.Answers.{objectLength, objectsLength, objectIn, readThird, readSecond, readFirst, recordRead, placeOf, item, recordsRead, valueOf, undoAt, nothing, shown}
 use Rattle.resolve_undo.proofs.Laws.{record-bad-inv, record-good-inv, stages-read, undo-is}
 use Rattle.resolve_undo.proofs.Records.{undo-begins, place-after}
 
@@ -116,9 +116,9 @@ objects-after w n u s j k sum h =
       third = h .third ∙ ap (objectIn w (u .third .mode)) (rw (drop-drop (h .place + a + b) n s, third-at));
     }
 
-rest-objects : (w p : ℕ) (path s : List ℕ) (u : Undo) (k : ℕ) → 1 ≤ w → readRest w p path s ≡ good u k → Objects w u s k
-unfolding readRest objectsLength
-rest-objects w p path s u k wide q =
+first-objects : (w p : ℕ) (path s : List ℕ) (u : Undo) (k : ℕ) → 1 ≤ w → readFirst w p path s ≡ good u k → Objects w u s k
+unfolding readFirst readSecond readThird objectsLength
+first-objects w p path s u k wide q =
     bind-inv _ _ _ _ q λ a i₀ j₀ aq q₁ size₀.
     bind-inv _ _ _ _ q₁ λ b i₁ j₁ bq q₂ size₁.
     bind-inv _ _ _ _ q₂ λ c i₂ j₂ cq q₃ size₂.
@@ -140,7 +140,7 @@ rest-objects w p path s u k wide q =
 undo-objects : (w p : ℕ) (previous s : List ℕ) (u : Undo) (k : ℕ) → 1 ≤ w → readUndo w p previous s ≡ good u k → Objects w u s k
 undo-objects w p previous s u k wide q =
     bind-inv _ _ _ _ (sym (undo-is w p previous s) ∙ q) λ path i j pathq q₁ size.
-    need-inv _ _ _ _ _ _ q₁ λ test q₂. objects-after w i u s j k size (rest-objects w p path (drop i s) u j wide q₂)
+    need-inv _ _ _ _ _ _ q₁ λ test q₂. objects-after w i u s j k size (first-objects w p path (drop i s) u j wide q₂)
 
 -- ---- what is shown
 

@@ -37,12 +37,15 @@ ModeWithin at end (M.Good m next) = (at < next) × (next ≤ end)
 
 -- ---- one record
 
--- a record after its path: three modes and the stages
-unfoldable pub readRest : ℕ → ℕ → List ℕ → List ℕ → Read Undo
-readRest w p path s =
-    bind (readMode p s) λ a n.
-    bind (readMode p (drop n s)) λ b o.
-    bind (readMode p (drop o (drop n s))) λ c q. readStages w p path a b c (drop q (drop o (drop n s)))
+-- a record after its path, after the first mode and after the second
+unfoldable pub readThird : ℕ → ℕ → List ℕ → ℕ → ℕ → List ℕ → Read Undo
+readThird w p path a b s = bind (readMode p s) λ c n. readStages w p path a b c (drop n s)
+
+unfoldable pub readSecond : ℕ → ℕ → List ℕ → ℕ → List ℕ → Read Undo
+readSecond w p path a s = bind (readMode p s) λ b n. readThird w p path a b (drop n s)
+
+unfoldable pub readFirst : ℕ → ℕ → List ℕ → List ℕ → Read Undo
+readFirst w p path s = bind (readMode p s) λ a n. readSecond w p path a (drop n s)
 
 -- how many bytes an object name takes in the data: none where the stage is missing
 unfoldable pub objectLength : ℕ → ℕ → ℕ

@@ -7,7 +7,7 @@ ghost use lib.ListN.{length, take, drop};
 ghost use lib.Dec.{eqb};
 ghost use Rattle.format.specs.Names as Names;
 ghost use Rattle.format.specs.Reader.{modeIn, readMode, readStages, readUndo, readUndos};
-ghost use Rattle.resolve_undo.specs.Answers.{modeFound, modeRead, ModeWithin, objectLength, objectIn, readRest, recordRead, RecordWithin, placeOf, recordsRead, undoAt, nothing, shown};
+ghost use Rattle.resolve_undo.specs.Answers.{modeFound, modeRead, ModeWithin, objectLength, objectIn, readThird, readSecond, readFirst, recordRead, RecordWithin, placeOf, recordsRead, undoAt, nothing, shown};
 use format::Order;
 
 // The mode that a text says.
@@ -146,27 +146,39 @@ fn read_stages(d: &[u8], at: usize, path: usize, first: u32, second: u32, third:
     })
 }
 
-// The modes at a place, and the stages, after a path of so many bytes.
-fn read_rest(d: &[u8], at: usize, path: usize) -> RecordRead
+// The third mode at a place, and the stages.
+fn read_third(d: &[u8], at: usize, path: usize, first: u32, second: u32) -> RecordRead
     requires { ⌜ at ≤ length (now d) ⌝ }
-    ensures { λ r. ⌜ ((p : ℕ) (s : List ℕ) → length s ≡ path → r ≡ recordRead at (readRest 20 p s (drop at (now (d .entry))))) × RecordWithin at (length (now (d .entry))) r ⌝ }
+    ensures { λ r. ⌜ ((p : ℕ) (s : List ℕ) → length s ≡ path → r ≡ recordRead at (readThird 20 p s first second (drop at (now (d .entry))))) × RecordWithin at (length (now (d .entry))) r ⌝ }
 {
-    let a = read_mode(d, at);
-    match a {
+    let m = read_mode(d, at);
+    match m {
         ModeRead::Bad => RecordRead::Bad,
-        ModeRead::Good(first, i) => {
-            let b = read_mode(d, i);
-            match b {
-                ModeRead::Bad => RecordRead::Bad,
-                ModeRead::Good(second, j) => {
-                    let c = read_mode(d, j);
-                    match c {
-                        ModeRead::Bad => RecordRead::Bad,
-                        ModeRead::Good(third, k) => read_stages(d, k, path, first, second, third),
-                    }
-                }
-            }
-        }
+        ModeRead::Good(third, next) => read_stages(d, next, path, first, second, third),
+    }
+}
+
+// The second mode at a place, and the rest of the record.
+fn read_second(d: &[u8], at: usize, path: usize, first: u32) -> RecordRead
+    requires { ⌜ at ≤ length (now d) ⌝ }
+    ensures { λ r. ⌜ ((p : ℕ) (s : List ℕ) → length s ≡ path → r ≡ recordRead at (readSecond 20 p s first (drop at (now (d .entry))))) × RecordWithin at (length (now (d .entry))) r ⌝ }
+{
+    let m = read_mode(d, at);
+    match m {
+        ModeRead::Bad => RecordRead::Bad,
+        ModeRead::Good(second, next) => read_third(d, next, path, first, second),
+    }
+}
+
+// The first mode at a place, and the rest of the record.
+fn read_first(d: &[u8], at: usize, path: usize) -> RecordRead
+    requires { ⌜ at ≤ length (now d) ⌝ }
+    ensures { λ r. ⌜ ((p : ℕ) (s : List ℕ) → length s ≡ path → r ≡ recordRead at (readFirst 20 p s (drop at (now (d .entry))))) × RecordWithin at (length (now (d .entry))) r ⌝ }
+{
+    let m = read_mode(d, at);
+    match m {
+        ModeRead::Bad => RecordRead::Bad,
+        ModeRead::Good(first, next) => read_second(d, next, path, first),
     }
 }
 
@@ -180,7 +192,7 @@ pub fn read_undo(d: &[u8], at: usize, prior: usize, size: usize) -> RecordRead
         return RecordRead::Bad;
     }
     if path_ok(&d[at..e], &d[prior..prior + size]) {
-        return read_rest(d, e + 1, e - at);
+        return read_first(d, e + 1, e - at);
     }
     RecordRead::Bad
 }

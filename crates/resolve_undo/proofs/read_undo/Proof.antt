@@ -54,14 +54,14 @@ part-path-ok-end-2 c = search needs
 path-ok-requires : tie.Need-path-ok-requires
 path-ok-requires c κs = search needs
 
-add-read-rest : tie.Need-add-read-rest
-add-read-rest c = search needs
+add-read-first : tie.Need-add-read-first
+add-read-first c = search needs
 
-sub-read-rest : tie.Need-sub-read-rest
-sub-read-rest c = search needs
+sub-read-first : tie.Need-sub-read-first
+sub-read-first c = search needs
 
-read-rest-requires : tie.Need-read-rest-requires
-read-rest-requires c κs = search needs
+read-first-requires : tie.Need-read-first-requires
+read-first-requires c κs = search needs
 
 returns-2 : tie.Need-returns-2
 returns-2 c =
@@ -72,8 +72,8 @@ returns-2 c =
       λ p.
           sym
           (undo-rest 20 (a .at) _ (a .d .now) _ (f .find .ensures .0) (f .before .before .pre .0) p more (path-is o ∙ c .before .if2 .taken)
-          ∙ sym (c .read-rest .ensures .0 p _ (path-size (a .at) (f .find .result) (a .d .now) more))),
-      record-within (a .at) (f .find .result + 1) (length (a .d .now)) (c .read-rest .result) (omega arith) (c .read-rest .ensures .1),
+          ∙ sym (c .read-first .ensures .0 p _ (path-size (a .at) (f .find .result) (a .d .now) more))),
+      record-within (a .at) (f .find .result + 1) (length (a .d .now)) (c .read-first .result) (omega arith) (c .read-first .ensures .1),
     )
 
 returns-3 : tie.Need-returns-3
@@ -98,8 +98,8 @@ read-undo-spec =
     part-path-ok-start-2
     part-path-ok-end-2
     path-ok-requires
-    add-read-rest
-    sub-read-rest
-    read-rest-requires
+    add-read-first
+    sub-read-first
+    read-first-requires
     returns-2
     returns-3)
