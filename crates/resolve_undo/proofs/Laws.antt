@@ -207,7 +207,7 @@ module _ (w p : ℕ) (path : List ℕ) (a b c : ℕ) (s : List ℕ) (wide : 1 �
       bind-inv _ _ _ _ q₁ λ y i₁ j₁ yq q₂ size₁.
       bind-inv _ _ _ _ q₂ λ z i₂ j₂ zq q₃ size₂.
       need-inv _ _ _ _ _ _ q₃ λ test q₄.
-      good-inv _ _ _ _ q₄ λ is none.
+      good-inv _ _ _ _ q₄ λ is last.
       let hx = stage-read w p a s x i₀ xq in
       let hy = stage-read w p b (drop i₀ s) y i₁ yq in
       let hz = stage-read w p c (drop i₁ (drop i₀ s)) z i₂ zq in
@@ -276,8 +276,7 @@ module _ (at size : ℕ) (d : List ℕ) (r : ModeRead) (k : ℕ → List ℕ →
   pub after-mode : (m next : ℕ) (g : RecordRead) → r ≡ M.Good m next → ModeWithin at (length d) r
       → ((p : ℕ) (s : List ℕ) → length s ≡ size → g ≡ recordRead next (k p s m (drop next d))) × RecordWithin next (length d) g → Rest g
   after-mode m next g e w rest =
-      let b = mode-within at (length d) m next r w e in
-      (
+      let b = mode-within at (length d) m next r w e in (
         λ p s long. rest .0 p s long ∙ sym (then-good at next m d (k p s) _ (sym e ∙ told p)),
         record-within at next (length d) g (omega arith) (rest .1),
       )

@@ -2,3 +2,4 @@
 pub mod Laws
 pub mod Records
 pub mod Showing
+pub mod Examples

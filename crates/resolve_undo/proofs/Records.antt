@@ -2,8 +2,7 @@
 use mathlib.Core.Path.{_≡_, refl, sym, ap, _∙_}
 use mathlib.Core.List.{List, [], _∷_}
 use mathlib.Core.Bool.{false, cond}
-use mathlib.Core.Option.{none, some}
-use Prim.Native.Nat.{ℕ, zero, suc, _+_, _-_, _≤_, _<_}
+use Prim.Native.Nat.{ℕ, suc, _+_, _-_, _≤_, _<_}
 use native.Mathlib.Omega.{arith}
 use lib.ListN.{length, take, drop, length-drop, drop-of-length-le}
 use lib.Seq.{drop-drop, length-take-le}
@@ -33,7 +32,7 @@ first-path w p path s u k wide q =
     bind-inv _ _ _ _ q₂ λ c i₂ j₂ cq q₃ size₂.
     ap (λ (u : Undo). u .path) (stages-read w p path a b c _ wide u j₂ q₃ .0)
 
--- its path is where it begins
+-- it begins with its path
 pub undo-begins : (w p : ℕ) (previous s : List ℕ) (u : Undo) (k : ℕ) → 1 ≤ w → readUndo w p previous s ≡ good u k
     → (take (length (u .path)) s ≡ u .path) × (length (u .path) ≤ length s)
 unfolding readText
@@ -49,12 +48,13 @@ undo-begins w p previous s u k wide q =
 
 -- ---- all records
 
--- what is answered after n records, the data being read as far as at, and the place of the record asked for, where it is among them
+-- what is answered where r are the records from at on, after n others: place is where the record asked for begins, where it is one of the n,
+-- and more is how far after at it begins, where it is one of r
 abbrev recordsFrom : ℕ → ℕ → ℕ → ℕ → ℕ → Read (List Undo) → RecordsRead
 recordsFrom want n place at more (bad k p) = S.Bad
 recordsFrom want n place at more (good us k) = S.Good (n + length us) (cond (ltb want n) place (cond (ltb want (n + length us)) (at + more) 0))
 
--- the same, of what is left of the data d
+-- the same of the records that the data d has from at on
 abbrev pub answerFrom : ℕ → ℕ → ℕ → ℕ → ℕ → List ℕ → List ℕ → RecordsRead
 answerFrom p want n place at previous d =
     recordsFrom want n place at (placeOf 20 p (want - n) previous (drop at d)) (undosOf 20 p previous (drop at d))
@@ -62,10 +62,10 @@ answerFrom p want n place at previous d =
 from-none : (want place : ℕ) (r : Read (List Undo)) → recordsRead want place r ≡ recordsFrom want 0 0 0 place r
 from-none want place (bad n p) = refl
 from-none want place (good us k) =
-    let none : ltb want 0 ≡ false = le-ltb want 0 (omega arith) in
+    let low : ltb want 0 ≡ false = le-ltb want 0 (omega arith) in
     let sum : 0 + length us ≡ length us = omega arith in
     let here : 0 + place ≡ place = omega arith in
-    rw (none, sum, here)
+    rw (low, sum, here)
 
 pub from-start : (p want : ℕ) (d : List ℕ) → recordsRead want (placeOf 20 p want [] d) (readUndos 20 p (length d) [] d) ≡ answerFrom p want 0 0 0 [] d
 unfolding undosOf
@@ -79,7 +79,7 @@ from-end p want n place at previous d end empty =
     let sum : n + 0 ≡ n = omega arith in
     rw (drop-of-length-le d end, undosOf-end, sum) (ap (S.Good n) (found-or-none want n place _ empty))
 
--- one record, and the rest after it
+-- a record that is refused
 bad-from : (at : ℕ) (r : Read Undo) (k : Undo → ℕ → Read (List Undo)) (want n place more : ℕ) → R.Bad ≡ recordRead at r
     → recordsFrom want n place at more (bind r k) ≡ S.Bad
 unfolding bind
@@ -88,8 +88,8 @@ bad-from at r k want n place more e = record-bad-inv at r e λ m p q. rw q
 pub from-bad : (p want n place at : ℕ) (previous d : List ℕ) → at < length d → R.Bad ≡ recordRead at (readUndo 20 p previous (drop at d))
     → answerFrom p want n place at previous d ≡ S.Bad
 from-bad p want n place at previous d inside e =
-    let some : 1 ≤ length (drop at d) = simp length-drop (omega arith) in
-    rw (undosOf-step 20 p previous (drop at d) some) (bad-from at _ _ want n place _ e)
+    let long : 1 ≤ length (drop at d) = simp length-drop (omega arith) in
+    rw (undosOf-step 20 p previous (drop at d) long) (bad-from at _ _ want n place _ e)
 
 -- the place of the record asked for: before the one at n, that one, or after it
 place-step : (want n place at k y x len : ℕ) → (want ≡ n → y ≡ 0) → (n < want → y ≡ k + x)
@@ -105,8 +105,8 @@ place-step want n place at k y x len here later =
     by-test (eqb n want)
     (λ e.
     let is : n ≡ want = eqb-true n want e in
-    let zero : at + y ≡ at = omega (arith, here (sym is)) in
-    rw (t, e, lt-ltb want (n + 1) (omega arith), lt-ltb want (n + 1 + len) (omega arith), zero))
+    let same : at + y ≡ at = omega (arith, here (sym is)) in
+    rw (t, e, lt-ltb want (n + 1) (omega arith), lt-ltb want (n + 1 + len) (omega arith), same))
     λ e.
     let more : n < want = omega (arith, eqb-false n want e) in
     let sum : at + y ≡ at + k + x = omega (arith, later more) in
@@ -122,7 +122,7 @@ more-from want n place at k y x u here later (good us m) =
 
 -- the first record, the rest, and the place of a later one
 module _ (w p : ℕ) (previous s : List ℕ) (u : Undo) (k : ℕ) (q : readUndo w p previous s ≡ good u k) where
-  pub undos-after : 1 ≤ length s → undosOf w p previous s ≡ shift k (bind (undosOf w p (u .path) (drop k s)) (λ us m. good (u ∷ us) 0))
+  undos-after : 1 ≤ length s → undosOf w p previous s ≡ shift k (bind (undosOf w p (u .path) (drop k s)) (λ us m. good (u ∷ us) 0))
   unfolding bind
   undos-after h = undosOf-step w p previous s h ∙ rw q
 
@@ -138,6 +138,7 @@ place-first w p n previous s h = rw h
 pub still-none : (want n place at : ℕ) → (n ≤ want → place ≡ 0) → n + 1 ≤ want → cond (eqb n want) at place ≡ 0
 still-none want n place at empty more = rw (ne-eqb n want (λ z. omega arith)) (empty (omega arith))
 
+-- a record that is read
 module _ (p at : ℕ) (previous d : List ℕ) (g : Record) (e : R.Good g ≡ recordRead at (readUndo 20 p previous (drop at d))) where
   pub path-fits : at ≤ length d → at + g .path ≤ length d
   path-fits inside =
@@ -150,9 +151,9 @@ module _ (p at : ℕ) (previous d : List ℕ) (g : Record) (e : R.Good g ≡ rec
       → answerFrom p want n place at previous d ≡ answerFrom p want (n + 1) (cond (eqb n want) at place) (g .next) (take (g .path) (drop at d)) d
   from-good inside want n place =
       record-good-inv at (readUndo 20 p previous (drop at d)) g e λ u k q is.
-      let some : 1 ≤ length (drop at d) = simp length-drop (omega arith) in
+      let long : 1 ≤ length (drop at d) = simp length-drop (omega arith) in
       let h = undo-begins 20 p previous (drop at d) u k (lit≤ tt) q in
-      rw (undos-after 20 p previous (drop at d) u k q some, is, h .0, ← (drop-drop k at d))
+      rw (undos-after 20 p previous (drop at d) u k q long, is, h .0, ← (drop-drop k at d))
       (more-from want n place at k _ _ u
       (λ is. place-first 20 p (want - n) previous (drop at d) (omega arith))
       (λ more. let less : want - n ≡ suc (want - (n + 1)) = omega arith in rw less (place-after 20 p previous (drop at d) u k q (want - (n + 1))))

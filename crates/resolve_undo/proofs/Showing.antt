@@ -2,7 +2,7 @@
 use mathlib.Core.Path.{_≡_, refl, sym, ap, _∙_}
 use mathlib.Core.List.{List, [], _∷_}
 use mathlib.Core.Bool.{true, cond}
-use mathlib.Core.Option.{none, some}
+use mathlib.Core.Option.{some}
 use Prim.Native.Nat.{ℕ, zero, suc, _+_, _-_, _≤_, _<_}
 use native.Mathlib.Omega.{arith}
 use lib.ListN.{length, take, drop, drop-of-length-le}
@@ -124,15 +124,15 @@ first-objects w p path s u k wide q =
     bind-inv _ _ _ _ q₂ λ c i₂ j₂ cq q₃ size₂.
     let s₃ : List ℕ = drop i₂ (drop i₁ (drop i₀ s)) in
     let h = stages-read w p path a b c s₃ wide u j₂ q₃ in
-    let none : 0 + objectLength w a ≡ objectLength w a = omega arith in
+    let start : 0 + objectLength w a ≡ objectLength w a = omega arith in
     let here : Objects w u s₃ j₂ =
     rw (h .0)
     (record {
       place = 0;
       end = omega (arith, h .1);
       first = refl;
-      second = rw none;
-      third = rw (none, drop-drop (objectLength w b) (objectLength w a) s₃);
+      second = rw start;
+      third = rw (start, drop-drop (objectLength w b) (objectLength w a) s₃);
     }) in
     objects-after w i₀ u s j₀ k size₀
     (objects-after w i₁ u (drop i₀ s) j₁ j₀ size₁ (objects-after w i₂ u (drop i₁ (drop i₀ s)) j₂ j₁ size₂ here))

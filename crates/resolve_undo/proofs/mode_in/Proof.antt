@@ -40,7 +40,11 @@ unfolding modeIn modeText
 returns-3 c =
     let m₂ = c .before .before .before in
     let m₁ = m₂ .before .before .before in
-    rw (sym (m₁ .before .same .ensures) ∙ m₁ .if1 .left, sym (m₂ .before .same2 .ensures) ∙ m₂ .if2 .left, sym (c .before .same3 .ensures) ∙ c .if3 .taken)
+    rw (
+      sym (m₁ .before .same .ensures) ∙ m₁ .if1 .left,
+      sym (m₂ .before .same2 .ensures) ∙ m₂ .if2 .left,
+      sym (c .before .same3 .ensures) ∙ c .if3 .taken,
+    )
 
 slice-aggregate-same-4 : tie.Need-slice-aggregate-same-4
 slice-aggregate-same-4 c = search needs
@@ -54,7 +58,12 @@ returns-4 c =
     let m₃ = c .before .before .before in
     let m₂ = m₃ .before .before .before in
     let m₁ = m₂ .before .before .before in
-    rw (sym (m₁ .before .same .ensures) ∙ m₁ .if1 .left, sym (m₂ .before .same2 .ensures) ∙ m₂ .if2 .left, sym (m₃ .before .same3 .ensures) ∙ m₃ .if3 .left, sym (c .before .same4 .ensures) ∙ c .if4 .taken)
+    rw (
+      sym (m₁ .before .same .ensures) ∙ m₁ .if1 .left,
+      sym (m₂ .before .same2 .ensures) ∙ m₂ .if2 .left,
+      sym (m₃ .before .same3 .ensures) ∙ m₃ .if3 .left,
+      sym (c .before .same4 .ensures) ∙ c .if4 .taken,
+    )
 
 slice-aggregate-same-5 : tie.Need-slice-aggregate-same-5
 slice-aggregate-same-5 c = search needs
@@ -69,7 +78,13 @@ returns-5 c =
     let m₃ = m₄ .before .before .before in
     let m₂ = m₃ .before .before .before in
     let m₁ = m₂ .before .before .before in
-    rw (sym (m₁ .before .same .ensures) ∙ m₁ .if1 .left, sym (m₂ .before .same2 .ensures) ∙ m₂ .if2 .left, sym (m₃ .before .same3 .ensures) ∙ m₃ .if3 .left, sym (m₄ .before .same4 .ensures) ∙ m₄ .if4 .left, sym (c .before .same5 .ensures) ∙ c .if5 .taken)
+    rw (
+      sym (m₁ .before .same .ensures) ∙ m₁ .if1 .left,
+      sym (m₂ .before .same2 .ensures) ∙ m₂ .if2 .left,
+      sym (m₃ .before .same3 .ensures) ∙ m₃ .if3 .left,
+      sym (m₄ .before .same4 .ensures) ∙ m₄ .if4 .left,
+      sym (c .before .same5 .ensures) ∙ c .if5 .taken,
+    )
 
 returns-6 : tie.Need-returns-6
 unfolding modeIn modeText
@@ -78,7 +93,13 @@ returns-6 c =
     let m₃ = m₄ .before .before .before in
     let m₂ = m₃ .before .before .before in
     let m₁ = m₂ .before .before .before in
-    rw (sym (m₁ .before .same .ensures) ∙ m₁ .if1 .left, sym (m₂ .before .same2 .ensures) ∙ m₂ .if2 .left, sym (m₃ .before .same3 .ensures) ∙ m₃ .if3 .left, sym (m₄ .before .same4 .ensures) ∙ m₄ .if4 .left, sym (c .before .same5 .ensures) ∙ c .if5 .left)
+    rw (
+      sym (m₁ .before .same .ensures) ∙ m₁ .if1 .left,
+      sym (m₂ .before .same2 .ensures) ∙ m₂ .if2 .left,
+      sym (m₃ .before .same3 .ensures) ∙ m₃ .if3 .left,
+      sym (m₄ .before .same4 .ensures) ∙ m₄ .if4 .left,
+      sym (c .before .same5 .ensures) ∙ c .if5 .left,
+    )
 
 pub mode-in-spec : {M : Type 1} → statement M
 mode-in-spec =
