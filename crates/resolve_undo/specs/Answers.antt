@@ -1,0 +1,144 @@
+-- What the functions of this crate answer, from what the reader of the format answers. A refusal is 17 always, so its number is left out.
+use mathlib.Core.List.{List, [], _∷_}
+use mathlib.Core.Bool.{true, false, cond}
+use mathlib.Core.Option.{Option, none, some}
+use Prim.Native.Nat.{ℕ, zero, suc, _+_, _-_, _≤_, _<_}
+use lib.ListN.{length, take, drop, replicate}
+use lib.Dec.{eqb, ltb}
+use Rattle.format.specs.Records.{Undo}
+use Rattle.format.specs.Reading.{Read, bad, good, bind}
+use Rattle.format.specs.Reader.{readMode, readStages, readUndo}
+use Rattle.resolve_undo.specs.declared.ModeFound.{ModeFound}
+use Rattle.resolve_undo.specs.declared.ModeFound.the-variants as F
+use Rattle.resolve_undo.specs.declared.ModeRead.{ModeRead}
+use Rattle.resolve_undo.specs.declared.ModeRead.the-variants as M
+use Rattle.resolve_undo.specs.declared.Record.{Record}
+use Rattle.resolve_undo.specs.declared.RecordRead.{RecordRead}
+use Rattle.resolve_undo.specs.declared.RecordRead.the-variants as R
+use Rattle.resolve_undo.specs.declared.RecordsRead.{RecordsRead}
+use Rattle.resolve_undo.specs.declared.RecordsRead.the-variants as S
+use Rattle.resolve_undo.specs.declared.Shown.{Shown}
+
+-- ---- modes
+
+abbrev pub modeFound : Option ℕ → ModeFound
+modeFound none = F.Bad
+modeFound (some m) = F.Good m
+
+-- a mode that was read at the place at, and the place after it
+abbrev pub modeRead : ℕ → Read ℕ → ModeRead
+modeRead at (bad n p) = M.Bad
+modeRead at (good m k) = M.Good m (at + k)
+
+-- the place after a mode is in the data
+abbrev pub ModeWithin : ℕ → ℕ → ModeRead → Type 0
+ModeWithin at end M.Bad = Unit
+ModeWithin at end (M.Good m next) = (at < next) × (next ≤ end)
+
+-- ---- one record
+
+-- a record after its path, after the first mode and after the second
+unfoldable pub readThird : ℕ → ℕ → List ℕ → ℕ → ℕ → List ℕ → Read Undo
+readThird w p path a b s = bind (readMode p s) λ c n. readStages w p path a b c (drop n s)
+
+unfoldable pub readSecond : ℕ → ℕ → List ℕ → ℕ → List ℕ → Read Undo
+readSecond w p path a s = bind (readMode p s) λ b n. readThird w p path a b (drop n s)
+
+unfoldable pub readFirst : ℕ → ℕ → List ℕ → List ℕ → Read Undo
+readFirst w p path s = bind (readMode p s) λ a n. readSecond w p path a (drop n s)
+
+-- how many bytes an object name takes in the data: none where the stage is missing
+unfoldable pub objectLength : ℕ → ℕ → ℕ
+objectLength w mode = cond (eqb mode 0) 0 w
+
+unfoldable pub objectsLength : ℕ → Undo → ℕ
+objectsLength w u = objectLength w (u .first .mode) + objectLength w (u .second .mode) + objectLength w (u .third .mode)
+
+-- the object name of a stage whose bytes, where it is there, begin s
+unfoldable pub objectIn : ℕ → ℕ → List ℕ → List ℕ
+objectIn w mode s = cond (eqb mode 0) (replicate w 0) (take w s)
+
+-- a record of k bytes that was read at the place at
+abbrev pub recordOf : ℕ → Undo → ℕ → Record
+recordOf at u k =
+    record {
+      path = length (u .path);
+      first = u .first .mode;
+      second = u .second .mode;
+      third = u .third .mode;
+      objects = at + k - objectsLength 20 u;
+      next = at + k;
+    }
+
+abbrev pub recordRead : ℕ → Read Undo → RecordRead
+recordRead at (bad n p) = R.Bad
+recordRead at (good u k) = R.Good (recordOf at u k)
+
+-- the place after a record is in the data
+abbrev pub RecordWithin : ℕ → ℕ → RecordRead → Type 0
+RecordWithin at end R.Bad = Unit
+RecordWithin at end (R.Good r) = (at < r .next) × (r .next ≤ end)
+
+-- ---- all records
+
+-- a place after one record more
+unfoldable pub placeAfter : Read Undo → (Undo → ℕ → ℕ) → ℕ
+placeAfter (bad n p) k = 0
+placeAfter (good u m) k = m + k u m
+
+-- the place in s of record number n, counted from 0, where one of the path previous stands before s; 0 where a record on the way is refused
+unfoldable pub placeOf : ℕ → ℕ → ℕ → List ℕ → List ℕ → ℕ
+placeOf w p zero previous s = 0
+placeOf w p (suc n) previous s = placeAfter (readUndo w p previous s) (λ u m. placeOf w p n (u .path) (drop m s))
+
+-- record number n of a list
+unfoldable pub item : ℕ → List Undo → Option Undo
+item n [] = none
+item zero (u ∷ us) = some u
+item (suc n) (u ∷ us) = item n us
+
+-- how many records there are, and the place of record number n, or 0 where there is none
+abbrev pub recordsRead : ℕ → ℕ → Read (List Undo) → RecordsRead
+recordsRead n place (bad k p) = S.Bad
+recordsRead n place (good us k) = S.Good (length us) (cond (ltb n (length us)) place 0)
+
+-- ---- the record at a place
+
+unfoldable pub valueOf : Read Undo → Option Undo
+valueOf (bad n p) = none
+valueOf (good u k) = some u
+
+-- the record that the bytes s begin with, whatever path stands before it
+unfoldable pub undoAt : ℕ → ℕ → List ℕ → Option Undo
+undoAt w p s = valueOf (readUndo w p [] s)
+
+-- where there is no record
+abbrev pub nothing : Shown
+nothing =
+    record {
+      ok = false;
+      path = 0;
+      «path_length» = 0;
+      first = 0;
+      second = 0;
+      third = 0;
+      «first_object» = replicate 20 0;
+      «second_object» = replicate 20 0;
+      «third_object» = replicate 20 0;
+    }
+
+-- a record at the place at, shown
+abbrev pub shown : ℕ → Option Undo → Shown
+shown at none = nothing
+shown at (some u) =
+    record {
+      ok = true;
+      path = at;
+      «path_length» = length (u .path);
+      first = u .first .mode;
+      second = u .second .mode;
+      third = u .third .mode;
+      «first_object» = u .first .object;
+      «second_object» = u .second .object;
+      «third_object» = u .third .object;
+    }
