@@ -3,7 +3,7 @@ use mathlib.Core.Path.{sym, ap, _∙_}
 use native.Mathlib.Omega.{arith}
 use borrow.Author.Needs.{needs}
 use Rattle.entries.specs.Answers.{textLength, textTaken}
-use Rattle.entries_run.proofs.Rests.{plain-bad, plain-order, plain-good}
+use Rattle.entries_run.proofs.PlainRests.{plain-bad, plain-order, plain-good}
 use Rattle.entries_run.proofs.plain.Statement.{statement}
 use Rattle.entries_run.proofs.plain.Tie as tie
 

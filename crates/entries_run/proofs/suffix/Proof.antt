@@ -1,112 +1,127 @@
+-- The proof that `suffix` meets its contract.
+use mathlib.Core.Path.{_≡_, sym, _∙_}
+use Prim.Native.Nat.{_≤_, _+_, _-_}
+use native.Mathlib.Omega.{arith}
+use lib.ListN.{length}
+use lib.Seq.{length-take-le}
 use borrow.Author.Needs.{needs}
+use Rattle.entries_run.proofs.PackedRests.{suffix-cut, suffix-long, suffix-name, suffix-field, suffix-order, suffix-good}
 use Rattle.entries_run.proofs.suffix.Statement.{statement}
 use Rattle.entries_run.proofs.suffix.Tie as tie
-use Rattle.entries_run.proofs.suffix.Reads as reads
-use Rattle.entries_run.proofs.suffix.Lts as lts
-use Rattle.entries_run.proofs.rebuild.Reads as rebuild-reads
-use Rattle.fields.proofs.find.Reads as find-reads
-use Rattle.fields.proofs.length_field.Reads as length-field-reads
-use Rattle.fields.proofs.name_ok.Reads as name-ok-reads
 
--- src/lib.rt:111:14
 add-at : tie.Need-add-at
 add-at c = search needs
 
--- src/lib.rt:111:14
 add-at-2 : tie.Need-add-at-2
 add-at-2 c = search needs
 
--- src/lib.rt:112:9
 find-requires : tie.Need-find-requires
 find-requires c κs = search needs
 
--- src/lib.rt:114:9
 returns : tie.Need-returns
-returns c = ?
+returns c =
+    let m = c .before in
+    let st = m .before .before .before .before .before in
+    let a = st .args in
+    suffix-cut (a .b .now) (a .work .now) (a .c) (a .h) (a .n) (a .took) (st .pre) (m .find .result) (m .find .ensures .0) (m .find .ensures .1) (c .if1 .taken)
 
--- src/lib.rt:116:15
 sub-len : tie.Need-sub-len
 sub-len c = search needs
 
--- src/lib.rt:116:28
 sub-len-2 : tie.Need-sub-len-2
 sub-len-2 c = search needs
 
--- src/lib.rt:116:15
 add-len : tie.Need-add-len
 add-len c = search needs
 
--- src/lib.rt:118:9
 returns-2 : tie.Need-returns-2
-returns-2 c = ?
+returns-2 c =
+    let m = c .before .before .before in
+    let st = m .before .before .before .before .before in
+    let a = st .args in
+    suffix-long (a .b .now) (a .work .now) (a .c) (a .h) (a .n) (a .took) (st .pre) (m .find .result) (m .find .ensures .0) (m .find .ensures .1) (c .before .before .if1 .left) (c .if2 .taken)
 
--- src/lib.rt:121:43
 sub-rebuild : tie.Need-sub-rebuild
 sub-rebuild c = search needs
 
--- src/lib.rt:121:43
 part-rebuild-start : tie.Need-part-rebuild-start
 part-rebuild-start c = search needs
 
--- src/lib.rt:121:43
 part-rebuild-end : tie.Need-part-rebuild-end
 part-rebuild-end c = search needs
 
--- src/lib.rt:121:9
 rebuild-requires : tie.Need-rebuild-requires
 rebuild-requires c κs = search needs
 
--- src/lib.rt:122:24
 slice-reshare-prefix-name-ok : tie.Need-slice-reshare-prefix-name-ok
 slice-reshare-prefix-name-ok c = search needs
 
--- src/lib.rt:122:24
 slice-aggregate-name-ok : tie.Need-slice-aggregate-name-ok
-slice-aggregate-name-ok c = ?
+slice-aggregate-name-ok c =
+    let g = c .before .before .before in
+    let e = g .before .before .before .before in
+    sym (length-take-le _ (g .rebuild .last .0) (omega (arith, e .if2 .left, e .before .before .before .before .before .before .before .before .pre .room)))
 
--- src/lib.rt:122:8
 name-ok-requires : tie.Need-name-ok-requires
 name-ok-requires c κs = search needs
 
--- src/lib.rt:123:30
 length-field-requires : tie.Need-length-field-requires
 length-field-requires c κs = search needs
 
--- src/lib.rt:131:29
 add-t28 : tie.Need-add-t28
 add-t28 c = search needs
 
--- src/lib.rt:125:17
 same-length : tie.Need-same-length
 same-length c = search needs
 
--- src/lib.rt:125:17
 returns-3 : tie.Need-returns-3
-returns-3 c = ?
+returns-3 c =
+    let g = c .before .before .before .before .before .before .before .before .before in
+    let e = g .before .before .before .before in
+    let m = e .before .before .before in
+    let st = m .before .before .before .before .before in
+    let a = st .args in
+    suffix-good (a .b .now) (a .work .now) (a .c) (a .h) (a .n) (a .took) (st .pre) (m .find .result) (m .find .ensures .0) (m .find .ensures .1) (e .before .before .if1 .left) (g .rebuild .last .0) (g .rebuild .result) (g .rebuild .ensures) (e .if2 .left)
+    (sym (c .before .before .before .before .before .name-ok .ensures) ∙ c .before .before .before .before .if3 .taken) (c .before .if4 .taken ∙ c .before .before .length-field .ensures) (c .if5 .taken)
 
--- src/lib.rt:138:13
 same-length-2 : tie.Need-same-length-2
 same-length-2 c = search needs
 
--- src/lib.rt:138:13
 returns-4 : tie.Need-returns-4
-returns-4 c = ?
+returns-4 c =
+    let g = c .before .before .before .before .before .before .before .before .before in
+    let e = g .before .before .before .before in
+    let m = e .before .before .before in
+    let st = m .before .before .before .before .before in
+    let a = st .args in
+    suffix-order (a .b .now) (a .work .now) (a .c) (a .h) (a .n) (a .took) (st .pre) (m .find .result) (m .find .ensures .0) (m .find .ensures .1) (e .before .before .if1 .left) (g .rebuild .last .0) (g .rebuild .result) (g .rebuild .ensures) (e .if2 .left)
+    (sym (c .before .before .before .before .before .name-ok .ensures) ∙ c .before .before .before .before .if3 .taken) (c .before .if4 .taken ∙ c .before .before .length-field .ensures) (c .if5 .left)
 
--- src/lib.rt:140:9
 same-length-3 : tie.Need-same-length-3
 same-length-3 c = search needs
 
--- src/lib.rt:140:9
 returns-5 : tie.Need-returns-5
-returns-5 c = ?
+returns-5 c =
+    let g = c .before .before .before .before .before .before .before .before in
+    let e = g .before .before .before .before in
+    let m = e .before .before .before in
+    let st = m .before .before .before .before .before in
+    let a = st .args in
+    suffix-field (a .b .now) (a .work .now) (a .c) (a .h) (a .n) (a .took) (st .pre) (m .find .result) (m .find .ensures .0) (m .find .ensures .1) (e .before .before .if1 .left) (g .rebuild .last .0) (g .rebuild .result) (g .rebuild .ensures) (e .if2 .left)
+    (sym (c .before .before .before .before .name-ok .ensures) ∙ c .before .before .before .if3 .taken) (λ q. c .if4 .left (q ∙ sym (c .before .length-field .ensures)))
 
--- src/lib.rt:107:1
 same-length-4 : tie.Need-same-length-4
 same-length-4 c = search needs
 
--- src/lib.rt:107:1
 returns-6 : tie.Need-returns-6
-returns-6 c = ?
+returns-6 c =
+    let g = c .before .before .before .before .before in
+    let e = g .before .before .before .before in
+    let m = e .before .before .before in
+    let st = m .before .before .before .before .before in
+    let a = st .args in
+    suffix-name (a .b .now) (a .work .now) (a .c) (a .h) (a .n) (a .took) (st .pre) (m .find .result) (m .find .ensures .0) (m .find .ensures .1) (e .before .before .if1 .left) (g .rebuild .last .0) (g .rebuild .result) (g .rebuild .ensures) (e .if2 .left)
+    (sym (c .before .name-ok .ensures) ∙ c .if3 .left)
 
 pub suffix-spec : {M : Type 1} → statement M
 suffix-spec =
