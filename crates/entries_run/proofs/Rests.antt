@@ -90,6 +90,9 @@ module _ (v : ℕ) (b w : List ℕ) (c : Cursor) where
   unfolding readRest
   step-on h w′ r e t = answered-as _ (readRest v b w c h) v b w c w′ r (λ p. readEntry-good 20 v (keyAt v b w c) p (drop (c .at) b) h (sym (e p))) t
 
+  pub step-four : (h : Head) (w′ : List ℕ) (r : Next) → ((p : ℕ) → F.Good h ≡ fixedOf (readHead 20 v p (drop (c .at) b))) → v ≡ 4 → Answered (readRest 4 b w c h) 4 b w c w′ r → Stepped v b w c w′ r
+  step-four h w′ r e four t = step-on h w′ r e (subst (λ (u : ℕ). Answered (readRest u b w c h) u b w c w′ r) (sym four) t)
+
 -- ---- the rest, from the name on
 
 module _ (v : ℕ) (b w : List ℕ) (c : Cursor) (h : Head) (p : ℕ) where

@@ -1,40 +1,46 @@
+-- The proof that `packed` meets its contract.
+use mathlib.Core.Path.{sym, ap, _∙_}
+use Prim.Native.Nat.{_≤_}
+use native.Mathlib.Omega.{arith}
+use lib.ListN.{length}
 use borrow.Author.Needs.{needs}
+use Rattle.entries_run.proofs.PackedRests.{packed-bad, numbered}
 use Rattle.entries_run.proofs.packed.Statement.{statement}
 use Rattle.entries_run.proofs.packed.Tie as tie
-use Rattle.entries_run.proofs.packed.Reads as reads
-use Rattle.entries_run.proofs.packed.Lts as lts
-use Rattle.entries.proofs.read_n.Reads as read-n-reads
-use Rattle.entries_run.proofs.suffix.Reads as suffix-reads
 
--- src/lib.rt:150:32
 add-read-n : tie.Need-add-read-n
 add-read-n c = search needs
 
--- src/lib.rt:150:9
 read-n-requires : tie.Need-read-n-requires
 read-n-requires c κs = search needs
 
--- src/lib.rt:152:21
 enum-known-m : tie.Need-enum-known-m
 enum-known-m c = search needs
 
--- src/lib.rt:153:22
 enum-known-m-2 : tie.Need-enum-known-m-2
 enum-known-m-2 c = search needs
 
--- src/lib.rt:153:34
 suffix-requires : tie.Need-suffix-requires
-suffix-requires c κs = ?
+suffix-requires c κs =
+    let t = c .before .before in
+    let m = t .before .before in
+    let st = m .before .before .before .before .before in
+    let a = st .args in
+    let fits = rw (t .m2 .given .1) at (m .read-n .ensures .1) in
+    let more = rw (t .m2 .given .1) at (m .read-n .ensures .2) in
+    numbered (a .b .now) _ (a .c) (a .h) _ _ (st .pre .0) (λ p. sym (t .m2 .given .1) ∙ m .read-n .ensures .0 p) fits more (st .pre .1)
 
--- src/lib.rt:146:1
 returns : tie.Need-returns
-returns c = ?
+returns c =
+    let m = c .before .before .before in
+    let st = m .before .before .before .before .before in
+    let a = st .args in
+    let room : a .c .len ≤ length (a .work .now) = omega (arith, st .pre) in
+    packed-bad (a .b .now) (a .work .now) (a .c) (a .h) room _ (λ p. sym (c .before .m .given .1) ∙ m .read-n .ensures .0 p)
 
--- src/lib.rt:146:1
 same-length : tie.Need-same-length
 same-length c = search needs
 
--- src/lib.rt:146:1
 returns-2 : tie.Need-returns-2
 returns-2 c = search needs
 
