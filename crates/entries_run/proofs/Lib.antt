@@ -3,3 +3,4 @@ pub mod Names
 pub mod Rests
 pub mod PlainRests
 pub mod PackedRests
+pub mod Steps

@@ -113,14 +113,30 @@ Stepped v b work c work′ r = Answered (λ p. readEntry 20 v (keyAt v b work c)
 
 -- ---- the run
 
-abbrev pub runOf : Read (List Entry) → Run
-runOf (bad n p) = R.Bad n p
-runOf (good es m) = R.Good (12 + m)
+-- before the first entry stands the empty name
+abbrev pub firstCursor : Cursor
+firstCursor = record { at = 12; start = 0; len = 0; stage = 0 }
+
+-- n entries of the body b, from a cursor on
+abbrev pub runFrom : ℕ → ℕ → List ℕ → List ℕ → Cursor → Read (List Entry)
+runFrom v n b work c = readEntries 20 v n (keyAt v b work c) (c .at) (drop (c .at) b)
+
+-- an answer as the code gives it, of a run from a place on
+abbrev pub runOf : ℕ → Read (List Entry) → Run
+runOf at (bad n p) = R.Bad n p
+runOf at (good es m) = R.Good (at + m)
 
 -- the end, 0 of a refusal
 abbrev pub endOf : Run → ℕ
 endOf (R.Bad n p) = 0
 endOf (R.Good e) = e
+
+-- what the run of count entries leaves behind
+pub record Ran (v : ℕ) (b work : List ℕ) (count : ℕ) (work′ : List ℕ) (r : Run) : Type 0 where
+  pub same : r ≡ runOf 12 (readEntries 20 v count start 12 (drop 12 b))
+  pub inside : endOf r ≤ length b
+  pub long : length work′ ≡ length work
+  pub past : drop 8192 work′ ≡ drop 8192 work
 
 -- ---- entry number k
 
@@ -129,8 +145,16 @@ abbrev pub soughtIn : ℕ → List ℕ → List ℕ → Sought → Option Entry
 soughtIn v b work (S.Bad n p) = none
 soughtIn v b work (S.Good at st) = some (entryAt v b work at st)
 
--- where k is below the number of entries, entry k is what was sought
+-- where the parts of the entry at a place stand
+pub record Placed (b : List ℕ) (at : ℕ) (st : Step) : Type 0 where
+  pub fixed : at + 62 ≤ length b
+  pub name : st .next .start + st .next .len ≤ length b
+  pub short : st .next .len ≤ 8192
+  pub stage : st .next .stage ≡ st .flags / 4096 % 4
+
+-- of a body with more than k entries, entry k was found
 pub record Reaches (v : ℕ) (b work : List ℕ) (k : ℕ) (work′ : List ℕ) (r : Sought) : Type 0 where
   pub entry : (count : ℕ) (es : List Entry) (m : ℕ) → readEntries 20 v count start 12 (drop 12 b) ≡ good es m → k < count → getElem? es k ≡ soughtIn v b work′ r
+  pub placed : (at : ℕ) (st : Step) → r ≡ S.Good at st → Placed b at st
   pub long : length work′ ≡ length work
   pub past : drop 8192 work′ ≡ drop 8192 work

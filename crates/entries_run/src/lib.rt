@@ -2,12 +2,10 @@
 ghost use mathlib.Core.Path.{_≡_};
 ghost use mathlib.Core.Bool.{false};
 ghost use mathlib.Core.List.{List};
-ghost use Prim.Native.Nat.{ℕ, _+_, _-_, _≤_, _<_};
-ghost use lib.ListN.{length, take, drop};
+ghost use Prim.Native.Nat.{ℕ, _+_, _-_, _≤_};
+ghost use lib.ListN.{length};
 ghost use lib.Dec.{eqb};
-ghost use Rattle.format.specs.Records.{start};
-ghost use Rattle.format.specs.Reader.{readEntries};
-ghost use Rattle.entries_run.specs.Steps.{Stands, Rebuilt, Room, Inside, Headed, Numbered, Answered, readRest, Stepped, runOf, endOf, Reaches};
+ghost use Rattle.entries_run.specs.Steps.{Stands, Rebuilt, Room, Inside, Headed, Numbered, Answered, readRest, Stepped, firstCursor, Ran, Reaches};
 use format::Order;
 use entries::Head;
 use entries::Fixed;
@@ -57,7 +55,7 @@ pub struct Standing {
 
 // Before the first entry stands the empty name.
 pub fn first() -> Cursor
-    ensures { λ r. ⌜ r ≡ record { at = 12; start = 0; len = 0; stage = 0 } ⌝ }
+    ensures { λ r. ⌜ r ≡ firstCursor ⌝ }
 {
     Cursor {
         at: 12,
@@ -208,7 +206,7 @@ pub fn next_entry(b: &[u8], v: u32, work: &mut [u8], c: Cursor) -> Next
 // The run of entries of a body: count of them, from its 12th byte on.
 pub fn run_entries(b: &[u8], v: u32, work: &mut [u8], count: u32) -> Run
     requires { ⌜ Room (now b) (now work) ⌝ }
-    ensures { λ r. ⌜ (r ≡ runOf (readEntries 20 v count start 12 (drop 12 (now (b .entry))))) × (endOf r ≤ length (now (b .entry))) × (length (now (work .exit)) ≡ length (now (work .entry))) × (drop 8192 (now (work .exit)) ≡ drop 8192 (now (work .entry))) ⌝ }
+    ensures { λ r. ⌜ Ran v (now (b .entry)) (now (work .entry)) count (now (work .exit)) r ⌝ }
 {
     let mut c = first();
     let mut left = count;
@@ -227,29 +225,26 @@ pub fn run_entries(b: &[u8], v: u32, work: &mut [u8], count: u32) -> Run
     Run::Good(c.at)
 }
 
-// Entry number k of a body. Every entry before it is read again, since in version 4 a name leans on the one before.
+// Entry number k of a body. Every entry before it is read, since in version 4 a name leans on the one before.
 pub fn seek_entry(b: &[u8], v: u32, work: &mut [u8], k: u32) -> Sought
     requires { ⌜ Room (now b) (now work) ⌝ }
     ensures { λ r. ⌜ Reaches v (now (b .entry)) (now (work .entry)) k (now (work .exit)) r ⌝ }
 {
     let mut c = first();
     let mut left = k;
-    while 0 < left {
+    loop {
         let g = next_entry(b, v, &mut *work, c);
         match g {
             Next::Bad(n) => {
                 return Sought::Bad(n, c.at);
             }
             Next::Good(st) => {
+                if left == 0 {
+                    return Sought::Good(c.at, st);
+                }
                 c = st.next;
             }
         }
         left -= 1;
-    }
-    let at = c.at;
-    let g = next_entry(b, v, work, c);
-    match g {
-        Next::Bad(n) => Sought::Bad(n, at),
-        Next::Good(st) => Sought::Good(at, st),
     }
 }

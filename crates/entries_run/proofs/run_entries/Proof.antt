@@ -1,63 +1,91 @@
+-- The proof that `run_entries` meets its contract. The run from the start is the run from the cursor.
+use mathlib.Core.Path.{_≡_, refl, sym, ap, _∙_}
+use Prim.Native.Nat.{_+_, zero-le}
+use native.Mathlib.Omega.{arith}
+use borrow.Author.Needs.{needs}
+use lib.ListN.{length, drop}
+use Rattle.format.specs.Records.{start}
+use Rattle.format.specs.Reader.{readEntries}
+use Rattle.entries_run.specs.declared.Run.the-variants as R
+use Rattle.entries_run.specs.Steps.{Inside, runFrom, runOf}
+use Rattle.entries_run.proofs.Steps.{run-first, run-none, inside-first, run-bad, run-good}
 use Rattle.entries_run.proofs.run_entries.Statement.{statement}
 use Rattle.entries_run.proofs.run_entries.Tie as tie
-use Rattle.entries_run.proofs.run_entries.Reads as reads
-use Rattle.entries_run.proofs.run_entries.Lts as lts
-use Rattle.entries_run.proofs.first.Reads as first-reads
-use Rattle.entries_run.proofs.next_entry.Reads as next-entry-reads
 
 abbrev Inv-loop : tie.InvT-loop
-Inv-loop b v work₀ count c₀ left₀ work c left = ?
+Inv-loop b v work₀ count c₀ left₀ work c left =
+    Inside b c × (length work ≡ length work₀) × (drop 8192 work ≡ drop 8192 work₀) × (runOf 12 (readEntries 20 v count start 12 (drop 12 b)) ≡ runOf (c .at) (runFrom v left b work c))
 
 abbrev μ-loop : tie.MeasureT-loop
-μ-loop b v work₀ count c₀ left₀ work c left = ?
+μ-loop b v work₀ count c₀ left₀ work c left = left
 
--- src/lib.rt:213:9
 first-requires : tie.Need-first-requires Inv-loop μ-loop
-first-requires c κs = ?
+first-requires c κs = search needs
 
--- src/lib.rt:215:5
 loop-holds : tie.Need-loop-holds Inv-loop μ-loop
-loop-holds c = ?
+loop-holds c =
+    let st = c .before .before .before in
+    let a = st .args in
+    rw (c .first .ensures) (inside-first (a .b .now) (a .work .now) (st .pre), refl, refl, ap (runOf 12) (sym (run-first (a .v) (a .count) (a .b .now) (a .work .now))))
 
--- src/lib.rt:216:13
 next-entry-requires : tie.Need-next-entry-requires Inv-loop μ-loop
-next-entry-requires c κs = ?
+next-entry-requires c κs = (c .before .before .loop .inv .0, omega arith)
 
--- src/lib.rt:218:23
 enum-known-g : tie.Need-enum-known-g Inv-loop μ-loop
-enum-known-g c = ?
+enum-known-g c = search needs
 
--- src/lib.rt:219:17
 same-length : tie.Need-same-length Inv-loop μ-loop
-same-length c = ?
+same-length c = omega arith
 
--- src/lib.rt:219:17
 returns : tie.Need-returns Inv-loop μ-loop
-returns c = ?
+returns c =
+    let e = c .before .before .before .before .before in
+    let l = e .before .before .before in
+    let a = l .before .before .before .before .args in
+    let t = rw (c .before .g .given .1) at (e .next-entry .ensures) in
+    record {
+      same = sym (l .loop .inv .3 ∙ run-bad (a .v) (a .b .now) (l .loop .work) (l .loop .c) _ (l .loop .left) (e .before .before .loop-test .taken) _ t);
+      inside = zero-le;
+      long = t .long ∙ l .loop .inv .1;
+      past = t .past ∙ l .loop .inv .2;
+    }
 
--- src/lib.rt:221:24
 enum-known-g-2 : tie.Need-enum-known-g-2 Inv-loop μ-loop
-enum-known-g-2 c = ?
+enum-known-g-2 c = search needs
 
--- src/lib.rt:225:9
 sub-left : tie.Need-sub-left Inv-loop μ-loop
-sub-left c = ?
+sub-left c = omega arith
 
--- src/lib.rt:215:5
 loop-less : tie.Need-loop-less Inv-loop μ-loop
-loop-less c = ?
+loop-less c = omega arith
 
--- src/lib.rt:215:5
 loop-again : tie.Need-loop-again Inv-loop μ-loop
-loop-again c = ?
+loop-again c =
+    let e = c .before .before .before .before .before .before in
+    let l = e .before .before .before in
+    let a = l .before .before .before .before .args in
+    let t = rw (c .before .before .g2 .given .1) at (e .next-entry .ensures) in (
+      t .found _ refl .next,
+      t .long ∙ l .loop .inv .1,
+      t .past ∙ l .loop .inv .2,
+      l .loop .inv .3 ∙ run-good (a .v) (a .b .now) (l .loop .work) (l .loop .c) _ (l .loop .left) (e .before .before .loop-test .taken) _ t,
+    )
 
--- src/lib.rt:209:1
 same-length-2 : tie.Need-same-length-2 Inv-loop μ-loop
-same-length-2 c = ?
+same-length-2 c = c .before .loop .inv .1
 
--- src/lib.rt:209:1
 returns-2 : tie.Need-returns-2 Inv-loop μ-loop
-returns-2 c = ?
+returns-2 c =
+    let l = c .before in
+    let a = l .before .before .before .before .args in
+    let none-left : l .loop .left ≡ 0 = omega arith in
+    let end : l .loop .c .at + 0 ≡ l .loop .c .at = omega arith in
+    record {
+      same = sym (l .loop .inv .3 ∙ rw none-left (ap (runOf (l .loop .c .at)) (run-none (a .v) (a .b .now) (l .loop .work) (l .loop .c)) ∙ ap R.Good end));
+      inside = l .loop .inv .0 .inside;
+      long = l .loop .inv .1;
+      past = l .loop .inv .2;
+    }
 
 pub run-entries-spec : {M : Type 1} → statement M
 run-entries-spec =

@@ -11,73 +11,53 @@ Inv-loop b v work₀ k c₀ left₀ work c left = ?
 abbrev μ-loop : tie.MeasureT-loop
 μ-loop b v work₀ k c₀ left₀ work c left = ?
 
--- src/lib.rt:235:9
+-- src/lib.rt:233:9
 first-requires : tie.Need-first-requires Inv-loop μ-loop
 first-requires c κs = ?
 
--- src/lib.rt:237:5
+-- src/lib.rt:235:5
 loop-holds : tie.Need-loop-holds Inv-loop μ-loop
 loop-holds c = ?
 
--- src/lib.rt:238:13
+-- src/lib.rt:236:13
 next-entry-requires : tie.Need-next-entry-requires Inv-loop μ-loop
 next-entry-requires c κs = ?
 
--- src/lib.rt:240:23
+-- src/lib.rt:238:23
 enum-known-g : tie.Need-enum-known-g Inv-loop μ-loop
 enum-known-g c = ?
 
--- src/lib.rt:241:17
+-- src/lib.rt:239:17
 same-length : tie.Need-same-length Inv-loop μ-loop
 same-length c = ?
 
--- src/lib.rt:241:17
+-- src/lib.rt:239:17
 returns : tie.Need-returns Inv-loop μ-loop
 returns c = ?
 
--- src/lib.rt:243:24
+-- src/lib.rt:241:24
 enum-known-g-2 : tie.Need-enum-known-g-2 Inv-loop μ-loop
 enum-known-g-2 c = ?
 
--- src/lib.rt:247:9
-sub-left : tie.Need-sub-left Inv-loop μ-loop
-sub-left c = ?
-
--- src/lib.rt:237:5
-loop-less : tie.Need-loop-less Inv-loop μ-loop
-loop-less c = ?
-
--- src/lib.rt:237:5
-loop-again : tie.Need-loop-again Inv-loop μ-loop
-loop-again c = ?
-
--- src/lib.rt:250:9
-next-entry-requires-2 : tie.Need-next-entry-requires-2 Inv-loop μ-loop
-next-entry-requires-2 c κs = ?
-
--- src/lib.rt:252:19
-enum-known-g-3 : tie.Need-enum-known-g-3 Inv-loop μ-loop
-enum-known-g-3 c = ?
-
--- src/lib.rt:253:20
-enum-known-g-4 : tie.Need-enum-known-g-4 Inv-loop μ-loop
-enum-known-g-4 c = ?
-
--- src/lib.rt:231:1
+-- src/lib.rt:243:21
 same-length-2 : tie.Need-same-length-2 Inv-loop μ-loop
 same-length-2 c = ?
 
--- src/lib.rt:231:1
+-- src/lib.rt:243:21
 returns-2 : tie.Need-returns-2 Inv-loop μ-loop
 returns-2 c = ?
 
--- src/lib.rt:231:1
-same-length-3 : tie.Need-same-length-3 Inv-loop μ-loop
-same-length-3 c = ?
+-- src/lib.rt:248:9
+sub-left : tie.Need-sub-left Inv-loop μ-loop
+sub-left c = ?
 
--- src/lib.rt:231:1
-returns-3 : tie.Need-returns-3 Inv-loop μ-loop
-returns-3 c = ?
+-- src/lib.rt:235:5
+loop-less : tie.Need-loop-less Inv-loop μ-loop
+loop-less c = ?
+
+-- src/lib.rt:235:5
+loop-again : tie.Need-loop-again Inv-loop μ-loop
+loop-again c = ?
 
 pub seek-entry-spec : {M : Type 1} → statement M
 seek-entry-spec =
@@ -92,13 +72,8 @@ seek-entry-spec =
     same-length
     returns
     enum-known-g-2
-    sub-left
-    loop-less
-    loop-again
-    next-entry-requires-2
-    enum-known-g-3
-    enum-known-g-4
     same-length-2
     returns-2
-    same-length-3
-    returns-3)
+    sub-left
+    loop-less
+    loop-again)
