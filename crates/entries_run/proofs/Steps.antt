@@ -18,6 +18,7 @@ use Rattle.entries_run.specs.declared.Cursor.{Cursor}
 use Rattle.entries_run.specs.declared.Step.{Step}
 use Rattle.entries_run.specs.declared.Next.the-variants as N
 use Rattle.entries_run.specs.declared.Run.the-variants as R
+use Rattle.entries_run.specs.declared.Sought.the-variants as S
 use Rattle.entries_run.specs.Steps.{nameAt, entryAt, Inside, Room, Found, Stepped, firstCursor, runFrom, runOf, soughtIn, Placed, Reaches}
 
 -- ---- entries in front
@@ -144,3 +145,50 @@ module _ (v : ℕ) (b : List ℕ) (count : ℕ) (es : List Entry) (m : ℕ) wher
         let left : count - (i + 1) ≡ count - i - 1 = omega arith in
         let taken : l ≡ 12 + m - st .next .at = omega arith in
         (here, record { rest = rw (left, add-one i, ← after, ← taken) q })
+
+-- ---- entry number k
+
+-- of a body with more than k entries, all but left of the first k lie before the cursor
+pub record Seeking (v : ℕ) (b : List ℕ) (k left : ℕ) (w : List ℕ) (c : Cursor) : Type 0 where
+  pub few : left ≤ k
+  pub reached : (count : ℕ) (es : List Entry) (m : ℕ) → readEntries 20 v count start 12 (drop 12 b) ≡ good es m → k < count → Reached v b count es m (k - left) w c
+
+module _ (v : ℕ) (b : List ℕ) (k : ℕ) where
+  pub seeking-first : (w : List ℕ) → Seeking v b k k w firstCursor
+  seeking-first w =
+      let none-yet : k - k ≡ 0 = omega arith in
+      record { few = omega arith; reached = λ count es m e h. rw none-yet (reached-first v b count es m w e) }
+
+  module _ (left : ℕ) (w : List ℕ) (c : Cursor) (w′ : List ℕ) (h : Seeking v b k left w c) where
+    pub seeking-more : (st : Step) → (left ≡ 0 → ⊥) → Stepped v b w c w′ (N.Good st) → Seeking v b k (left - 1) w′ (st .next)
+    seeking-more st yet t =
+        let f : left ≤ k = h .few in
+        let one : k - (left - 1) ≡ k - left + 1 = omega arith in
+        record {
+          few = omega arith;
+          reached = λ count es m e q. rw one (reached-more v b count es m (k - left) w c w′ (omega arith) (h .reached count es m e q) st t .1);
+        }
+
+    module _ (w₀ : List ℕ) (long : length w′ ≡ length w₀) (past : drop 8192 w′ ≡ drop 8192 w₀) where
+      pub sought-bad : (n p : ℕ) → Stepped v b w c w′ (N.Bad n) → Reaches v b w₀ k w′ (S.Bad n p)
+      sought-bad n p t =
+          record {
+            entry = λ count es m e q. reached-bad v b count es m (k - left) w c w′ (omega arith) (h .reached count es m e q) n t;
+            placed = λ at st q. let z : _≡_ {A = ℕ} 0 1 = cc in absurd (omega arith);
+            long = long;
+            past = past;
+          }
+
+      pub sought-good : (st : Step) → left ≡ 0 → Stepped v b w c w′ (N.Good st) → Reaches v b w₀ k w′ (S.Good (c .at) st)
+      sought-good st none-left t =
+          let f : Found v b w c w′ st = t .found st refl in
+          let all : k - left ≡ k = omega arith in
+          let parts : Placed b (c .at) st = record { fixed = omega arith; name = omega arith; short = f .next .short; stage = f .stage } in
+          record {
+            entry = λ count es m e q. rw all at (reached-more v b count es m (k - left) w c w′ (omega arith) (h .reached count es m e q) st t .0);
+            placed = λ at other q.
+            let there : c .at ≡ at = cc in
+            let same : st ≡ other = cc in rw (there, same) at parts;
+            long = long;
+            past = past;
+          }

@@ -1,63 +1,76 @@
+-- The proof that `seek_entry` meets its contract. The entries that are still to be skipped lie after the cursor.
+use mathlib.Core.Path.{_≡_, refl, _∙_}
+use native.Mathlib.Omega.{arith}
+use borrow.Author.Needs.{needs}
+use lib.ListN.{length, drop}
+use Rattle.entries_run.specs.Steps.{Inside}
+use Rattle.entries_run.proofs.Steps.{inside-first, Seeking, seeking-first, seeking-more, sought-bad, sought-good}
 use Rattle.entries_run.proofs.seek_entry.Statement.{statement}
 use Rattle.entries_run.proofs.seek_entry.Tie as tie
-use Rattle.entries_run.proofs.seek_entry.Reads as reads
-use Rattle.entries_run.proofs.seek_entry.Lts as lts
-use Rattle.entries_run.proofs.first.Reads as first-reads
-use Rattle.entries_run.proofs.next_entry.Reads as next-entry-reads
 
 abbrev Inv-loop : tie.InvT-loop
-Inv-loop b v work₀ k c₀ left₀ work c left = ?
+Inv-loop b v work₀ k c₀ left₀ work c left = Inside b c × (length work ≡ length work₀) × (drop 8192 work ≡ drop 8192 work₀) × Seeking v b k left work c
 
 abbrev μ-loop : tie.MeasureT-loop
-μ-loop b v work₀ k c₀ left₀ work c left = ?
+μ-loop b v work₀ k c₀ left₀ work c left = left
 
--- src/lib.rt:233:9
 first-requires : tie.Need-first-requires Inv-loop μ-loop
-first-requires c κs = ?
+first-requires c κs = search needs
 
--- src/lib.rt:235:5
 loop-holds : tie.Need-loop-holds Inv-loop μ-loop
-loop-holds c = ?
+loop-holds c =
+    let st = c .before .before .before in
+    let a = st .args in
+    rw (c .first .ensures) (inside-first (a .b .now) (a .work .now) (st .pre), refl, refl, seeking-first (a .v) (a .b .now) (a .k) (a .work .now))
 
--- src/lib.rt:236:13
 next-entry-requires : tie.Need-next-entry-requires Inv-loop μ-loop
-next-entry-requires c κs = ?
+next-entry-requires c κs = (c .before .loop .inv .0, omega arith)
 
--- src/lib.rt:238:23
 enum-known-g : tie.Need-enum-known-g Inv-loop μ-loop
-enum-known-g c = ?
+enum-known-g c = search needs
 
--- src/lib.rt:239:17
 same-length : tie.Need-same-length Inv-loop μ-loop
-same-length c = ?
+same-length c = omega arith
 
--- src/lib.rt:239:17
 returns : tie.Need-returns Inv-loop μ-loop
-returns c = ?
+returns c =
+    let e = c .before .before .before .before .before in
+    let l = e .before .before in
+    let a = l .before .before .before .before .args in
+    let t = rw (c .before .g .given .1) at (e .next-entry .ensures) in
+    sought-bad (a .v) (a .b .now) (a .k) (l .loop .left) (l .loop .work) (l .loop .c) _ (l .loop .inv .3) _ (t .long ∙ l .loop .inv .1) (t .past ∙ l .loop .inv .2) _ _ t
 
--- src/lib.rt:241:24
 enum-known-g-2 : tie.Need-enum-known-g-2 Inv-loop μ-loop
-enum-known-g-2 c = ?
+enum-known-g-2 c = search needs
 
--- src/lib.rt:243:21
 same-length-2 : tie.Need-same-length-2 Inv-loop μ-loop
-same-length-2 c = ?
+same-length-2 c = omega arith
 
--- src/lib.rt:243:21
 returns-2 : tie.Need-returns-2 Inv-loop μ-loop
-returns-2 c = ?
+returns-2 c =
+    let e = c .before .before .before .before .before .before in
+    let l = e .before .before in
+    let a = l .before .before .before .before .args in
+    let t = rw (c .before .before .g2 .given .1) at (e .next-entry .ensures) in
+    sought-good (a .v) (a .b .now) (a .k) (l .loop .left) (l .loop .work) (l .loop .c) _ (l .loop .inv .3) _ (t .long ∙ l .loop .inv .1) (t .past ∙ l .loop .inv .2) _ (c .if1 .taken) t
 
--- src/lib.rt:248:9
 sub-left : tie.Need-sub-left Inv-loop μ-loop
-sub-left c = ?
+sub-left c = omega arith
 
--- src/lib.rt:235:5
 loop-less : tie.Need-loop-less Inv-loop μ-loop
-loop-less c = ?
+loop-less c = omega arith
 
--- src/lib.rt:235:5
 loop-again : tie.Need-loop-again Inv-loop μ-loop
-loop-again c = ?
+loop-again c =
+    let e = c .before .before .before .before .before .before .before in
+    let l = e .before .before in
+    let a = l .before .before .before .before .args in
+    let t = rw (c .before .before .before .g2 .given .1) at (e .next-entry .ensures) in (
+      t .found _ refl .next,
+      t .long ∙ l .loop .inv .1,
+      t .past ∙ l .loop .inv .2,
+      seeking-more (a .v) (a .b .now) (a .k) (l .loop .left) (l .loop .work) (l .loop .c) _ (l .loop .inv .3) _ (c .before .if1 .left) t,
+    )
 
 pub seek-entry-spec : {M : Type 1} → statement M
 seek-entry-spec =
