@@ -1,14 +1,13 @@
 -- Laws of the run of entries, one step after another, for loops over entries.
 use mathlib.Core.Path.{_≡_, refl, sym, ap, _∙_}
-use mathlib.Core.List.{List, [], _∷_, _++_, append-assoc}
+use mathlib.Core.List.{List, [], _∷_, _++_, append-assoc, append-nil}
 use mathlib.Core.Bool.{Bool, true, false, cond}
 use mathlib.Core.Option.{some}
-use Prim.Native.Nat.{ℕ, zero, suc, _+_, _-_, _≤_, _<_}
-use native.Mathlib.Nat.{add-assoc}
-use native.Mathlib.Numerals.{add-one}
+use Prim.Native.Nat.{ℕ, suc, _+_, _-_, _≤_, _<_}
+use native.Mathlib.Nat.{add-assoc, zero-add}
 use native.Mathlib.Omega.{arith}
-use lib.ListN.{length, take, drop, getElem?}
-use lib.Seq.{drop-drop}
+use lib.ListN.{length, take, drop, getElem?, length-append}
+use lib.Seq.{drop-drop, take-append-seam}
 use lib.Dec.{eqb}
 use Rattle.format.specs.Records.{Entry, Key, keyOf, start}
 use Rattle.format.specs.Reading.{Read, bad, good, shift, bind}
@@ -17,9 +16,8 @@ use Rattle.spelling_entries.proofs.Reading.{bad-good, good-inv}
 use Rattle.entries_run.specs.declared.Cursor.{Cursor}
 use Rattle.entries_run.specs.declared.Step.{Step}
 use Rattle.entries_run.specs.declared.Next.the-variants as N
-use Rattle.entries_run.specs.declared.Run.the-variants as R
 use Rattle.entries_run.specs.declared.Sought.the-variants as S
-use Rattle.entries_run.specs.Steps.{nameAt, entryAt, Inside, Room, Found, Stepped, firstCursor, runFrom, runOf, soughtIn, Placed, Reaches}
+use Rattle.entries_run.specs.Steps.{nameAt, entryAt, Inside, Room, Found, Stepped, firstCursor, runFrom, Placed, Reaches}
 
 -- ---- entries in front
 
@@ -43,11 +41,6 @@ pub front-inv : {X : Type 0} (es : List Entry) (m : ℕ) (r : Read (List Entry))
 unfolding inFront
 front-inv es m (bad n p) fs k e f = bad-good n p fs k e
 front-inv es m (good gs l) fs k e f = good-inv _ _ _ _ e (λ q s. f gs l refl q s)
-
-pub runOf-front : (at : ℕ) (es : List Entry) (m : ℕ) (r : Read (List Entry)) → runOf at (inFront es m r) ≡ runOf (at + m) r
-unfolding inFront
-runOf-front at es m (bad n p) = refl
-runOf-front at es m (good fs k) = ap R.Good (sym (add-assoc at m k))
 
 -- ---- one entry more
 
@@ -103,92 +96,85 @@ run-none v b w c = refl
 pub inside-first : (b w : List ℕ) → Room b w → Inside b firstCursor
 inside-first b w r = record { small = r .most; inside = r .least; behind = omega arith; short = omega arith }
 
--- the same of the code's answer
-module _ (v : ℕ) (b w : List ℕ) (c : Cursor) (w′ : List ℕ) (n : ℕ) (more : 0 < n) where
-  pub run-bad : (m : ℕ) → Stepped v b w c w′ (N.Bad m) → runOf (c .at) (runFrom v n b w c) ≡ R.Bad m (c .at)
-  run-bad m t = ap (runOf (c .at)) (entries-bad v b w c w′ n more m t)
+-- ---- entry after entry
 
-  pub run-good : (st : Step) → Stepped v b w c w′ (N.Good st) → runOf (c .at) (runFrom v n b w c) ≡ runOf (st .next .at) (runFrom v (n - 1) b w′ (st .next))
-  run-good st t =
-      let f : Found v b w c w′ st = t .found st refl in
-      let here : c .at + (st .next .at - c .at) ≡ st .next .at = omega arith in
-      ap (runOf (c .at)) (entries-good v b w c w′ n more st t) ∙ runOf-front (c .at) _ _ _ ∙ rw here
+-- the entries es lie between the start and the cursor
+pub record Walked (v : ℕ) (b : List ℕ) (es : List Entry) (w : List ℕ) (c : Cursor) : Type 0 where
+  pub after : 12 ≤ c .at
+  pub whole : (n : ℕ) → readEntries 20 v (length es + n) start 12 (drop 12 b) ≡ inFront es (c .at - 12) (runFrom v n b w c)
 
--- ---- entry after entry of an accepted run
+getElem?-seam : {A : Type 0} (es gs : List A) (e : A) → getElem? ((es ++ (e ∷ [])) ++ gs) (length es) ≡ some e
+getElem?-seam [] gs e = refl
+getElem?-seam (x ∷ es) gs e = getElem?-seam es gs e
 
--- of the entries es, which took m bytes, i lie before the cursor
-pub record Reached (v : ℕ) (b : List ℕ) (count : ℕ) (es : List Entry) (m i : ℕ) (w : List ℕ) (c : Cursor) : Type 0 where
-  pub rest : runFrom v (count - i) b w c ≡ good (drop i es) (12 + m - c .at)
+module _ (v : ℕ) (b : List ℕ) where
+  pub walked-first : (w : List ℕ) → Walked v b [] w firstCursor
+  walked-first w = record { after = omega arith; whole = λ n. rw zero-add (sym (front-none _ ∙ run-first v n b w)) }
 
-drop-inv : {A : Type 0} (i : ℕ) (es : List A) (e : A) (gs : List A) → e ∷ gs ≡ drop i es → (getElem? es i ≡ some e) × (gs ≡ drop (suc i) es)
-drop-inv zero [] e gs q = let z : _≡_ {A = ℕ} 0 1 = cc in absurd (omega arith)
-drop-inv zero (x ∷ es) e gs q = (cc, cc)
-drop-inv (suc i) [] e gs q = let z : _≡_ {A = ℕ} 0 1 = cc in absurd (omega arith)
-drop-inv (suc i) (x ∷ es) e gs q = drop-inv i es e gs q
+  module _ (es : List Entry) (w : List ℕ) (c : Cursor) (h : Walked v b es w c) where
+    -- the run of so many entries, and of more
+    pub walked-end : readEntries 20 v (length es) start 12 (drop 12 b) ≡ good es (c .at - 12)
+    unfolding inFront
+    walked-end =
+        let none-more : length es + 0 ≡ length es = omega arith in
+        let taken : c .at - 12 + 0 ≡ c .at - 12 = omega arith in
+        rw none-more at (h .whole 0) ∙ rw (run-none v b w c, append-nil es, taken)
 
-module _ (v : ℕ) (b : List ℕ) (count : ℕ) (es : List Entry) (m : ℕ) where
-  pub reached-first : (w : List ℕ) → readEntries 20 v count start 12 (drop 12 b) ≡ good es m → Reached v b count es m 0 w firstCursor
-  reached-first w e =
-      let all : 12 + m - 12 ≡ m = omega arith in
-      let none-yet : count - 0 ≡ count = omega arith in
-      record { rest = rw (all, none-yet) (run-first v count b w ∙ e) }
+    walked-on : (count : ℕ) → length es ≤ count → readEntries 20 v count start 12 (drop 12 b) ≡ inFront es (c .at - 12) (runFrom v (count - length es) b w c)
+    walked-on count few = let sum : length es + (count - length es) ≡ count = omega arith in rw sum at (h .whole (count - length es))
 
-  module _ (i : ℕ) (w : List ℕ) (c : Cursor) (w′ : List ℕ) (more : i < count) (h : Reached v b count es m i w c) where
-    pub reached-bad : {X : Type 0} (n : ℕ) → Stepped v b w c w′ (N.Bad n) → X
-    reached-bad n t = bad-good _ _ _ _ (sym (entries-bad v b w c w′ (count - i) (omega arith) n t) ∙ h .rest)
+    -- where all entries are read, es are the first of them
+    pub walked-take : (count : ℕ) (all : List Entry) (m : ℕ) → readEntries 20 v count start 12 (drop 12 b) ≡ good all m → length es ≤ count → es ≡ take (length es) all
+    walked-take count all m e few = front-inv _ _ _ _ _ (sym (walked-on count few) ∙ e) (λ gs l q parts sum. rw (← parts) (sym (take-append-seam es gs)))
 
-    pub reached-more : (st : Step) → Stepped v b w c w′ (N.Good st) → (getElem? es i ≡ some (entryAt v b w′ (c .at) st)) × Reached v b count es m (i + 1) w′ (st .next)
-    reached-more st t =
-        let f : Found v b w c w′ st = t .found st refl in
-        front-inv _ _ _ _ _ (sym (entries-good v b w c w′ (count - i) (omega arith) st t) ∙ h .rest) λ gs l q fs sum.
-        let (here, after) = drop-inv i es _ gs fs in
-        let left : count - (i + 1) ≡ count - i - 1 = omega arith in
-        let taken : l ≡ 12 + m - st .next .at = omega arith in
-        (here, record { rest = rw (left, add-one i, ← after, ← taken) q })
+    module _ (w′ : List ℕ) where
+      -- a step that refuses
+      pub walked-bad : (m : ℕ) → Stepped v b w c w′ (N.Bad m) → (count : ℕ) → length es < count → readEntries 20 v count start 12 (drop 12 b) ≡ bad m (c .at)
+      unfolding inFront
+      walked-bad m t count more = walked-on count (omega arith) ∙ rw (entries-bad v b w c w′ (count - length es) (omega arith) m t)
+
+      -- a step over one entry more
+      module _ (st : Step) (t : Stepped v b w c w′ (N.Good st)) where
+        pub walked-more : Walked v b (es ++ (entryAt v b w′ (c .at) st ∷ [])) w′ (st .next)
+        walked-more =
+            let f : Found v b w c w′ st = t .found st refl in
+            record {
+              after = omega (arith, h .after);
+              whole = λ n.
+                  let count : length (es ++ (entryAt v b w′ (c .at) st ∷ [])) + n ≡ length es + (n + 1) = rw length-append (omega arith) in
+                  let taken : c .at - 12 + (st .next .at - c .at) ≡ st .next .at - 12 = omega (arith, h .after) in
+                  let left : n + 1 - 1 ≡ n = omega arith in
+                  rw (count, h .whole (n + 1), entries-good v b w c w′ (n + 1) (omega arith) st t, left) (front-front es _ _ _ _ ∙ rw taken);
+            }
+
+        pub walked-entry : (count : ℕ) (all : List Entry) (m : ℕ) → readEntries 20 v count start 12 (drop 12 b) ≡ good all m → length es < count
+            → getElem? all (length es) ≡ some (entryAt v b w′ (c .at) st)
+        walked-entry count all m e more =
+            let sum : length (es ++ (entryAt v b w′ (c .at) st ∷ [])) + (count - length es - 1) ≡ count = rw length-append (omega arith) in
+            front-inv _ _ _ _ _ (sym (rw sum at (walked-more .whole (count - length es - 1))) ∙ e) λ gs l q parts rest.
+            rw (← parts) (getElem?-seam es gs _)
 
 -- ---- entry number k
 
--- of a body with more than k entries, all but left of the first k lie before the cursor
-pub record Seeking (v : ℕ) (b : List ℕ) (k left : ℕ) (w : List ℕ) (c : Cursor) : Type 0 where
-  pub few : left ≤ k
-  pub reached : (count : ℕ) (es : List Entry) (m : ℕ) → readEntries 20 v count start 12 (drop 12 b) ≡ good es m → k < count → Reached v b count es m (k - left) w c
+module _ (v : ℕ) (b : List ℕ) (k : ℕ) (es : List Entry) (w : List ℕ) (c : Cursor) (h : Walked v b es w c) (w′ w₀ : List ℕ) (long : length w′ ≡ length w₀) (past : drop 8192 w′ ≡ drop 8192 w₀) where
+  pub sought-bad : (n p : ℕ) → length es ≤ k → Stepped v b w c w′ (N.Bad n) → Reaches v b w₀ k w′ (S.Bad n p)
+  sought-bad n p few t =
+      record {
+        entry = λ count all m e more. bad-good _ _ _ _ (sym (walked-bad v b es w c h w′ n t count (omega arith)) ∙ e);
+        placed = λ at st q. let z : _≡_ {A = ℕ} 0 1 = cc in absurd (omega arith);
+        long = long;
+        past = past;
+      }
 
-module _ (v : ℕ) (b : List ℕ) (k : ℕ) where
-  pub seeking-first : (w : List ℕ) → Seeking v b k k w firstCursor
-  seeking-first w =
-      let none-yet : k - k ≡ 0 = omega arith in
-      record { few = omega arith; reached = λ count es m e h. rw none-yet (reached-first v b count es m w e) }
-
-  module _ (left : ℕ) (w : List ℕ) (c : Cursor) (w′ : List ℕ) (h : Seeking v b k left w c) where
-    pub seeking-more : (st : Step) → (left ≡ 0 → ⊥) → Stepped v b w c w′ (N.Good st) → Seeking v b k (left - 1) w′ (st .next)
-    seeking-more st yet t =
-        let f : left ≤ k = h .few in
-        let one : k - (left - 1) ≡ k - left + 1 = omega arith in
-        record {
-          few = omega arith;
-          reached = λ count es m e q. rw one (reached-more v b count es m (k - left) w c w′ (omega arith) (h .reached count es m e q) st t .1);
-        }
-
-    module _ (w₀ : List ℕ) (long : length w′ ≡ length w₀) (past : drop 8192 w′ ≡ drop 8192 w₀) where
-      pub sought-bad : (n p : ℕ) → Stepped v b w c w′ (N.Bad n) → Reaches v b w₀ k w′ (S.Bad n p)
-      sought-bad n p t =
-          record {
-            entry = λ count es m e q. reached-bad v b count es m (k - left) w c w′ (omega arith) (h .reached count es m e q) n t;
-            placed = λ at st q. let z : _≡_ {A = ℕ} 0 1 = cc in absurd (omega arith);
-            long = long;
-            past = past;
-          }
-
-      pub sought-good : (st : Step) → left ≡ 0 → Stepped v b w c w′ (N.Good st) → Reaches v b w₀ k w′ (S.Good (c .at) st)
-      sought-good st none-left t =
-          let f : Found v b w c w′ st = t .found st refl in
-          let all : k - left ≡ k = omega arith in
-          let parts : Placed b (c .at) st = record { fixed = omega arith; name = omega arith; short = f .next .short; stage = f .stage } in
-          record {
-            entry = λ count es m e q. rw all at (reached-more v b count es m (k - left) w c w′ (omega arith) (h .reached count es m e q) st t .0);
-            placed = λ at other q.
+  pub sought-good : (st : Step) → length es ≡ k → Stepped v b w c w′ (N.Good st) → Reaches v b w₀ k w′ (S.Good (c .at) st)
+  sought-good st all-of t =
+      let f : Found v b w c w′ st = t .found st refl in
+      let parts : Placed b (c .at) st = record { fixed = omega arith; name = omega arith; short = f .next .short; stage = f .stage } in
+      record {
+        entry = λ count all m e more. rw all-of at (walked-entry v b es w c h w′ st t count all m e (omega arith));
+        placed = λ at other q.
             let there : c .at ≡ at = cc in
             let same : st ≡ other = cc in rw (there, same) at parts;
-            long = long;
-            past = past;
-          }
+        long = long;
+        past = past;
+      }

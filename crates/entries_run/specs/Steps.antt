@@ -121,10 +121,10 @@ firstCursor = record { at = 12; start = 0; len = 0; stage = 0 }
 abbrev pub runFrom : ℕ → ℕ → List ℕ → List ℕ → Cursor → Read (List Entry)
 runFrom v n b work c = readEntries 20 v n (keyAt v b work c) (c .at) (drop (c .at) b)
 
--- an answer as the code gives it, of a run from a place on
-abbrev pub runOf : ℕ → Read (List Entry) → Run
-runOf at (bad n p) = R.Bad n p
-runOf at (good es m) = R.Good (at + m)
+-- the answer as the code gives it
+abbrev pub runOf : Read (List Entry) → Run
+runOf (bad n p) = R.Bad n p
+runOf (good es m) = R.Good (12 + m)
 
 -- the end, 0 of a refusal
 abbrev pub endOf : Run → ℕ
@@ -133,7 +133,7 @@ endOf (R.Good e) = e
 
 -- what the run of count entries leaves behind
 pub record Ran (v : ℕ) (b work : List ℕ) (count : ℕ) (work′ : List ℕ) (r : Run) : Type 0 where
-  pub same : r ≡ runOf 12 (readEntries 20 v count start 12 (drop 12 b))
+  pub same : r ≡ runOf (readEntries 20 v count start 12 (drop 12 b))
   pub inside : endOf r ≤ length b
   pub long : length work′ ≡ length work
   pub past : drop 8192 work′ ≡ drop 8192 work

@@ -6,11 +6,11 @@ ghost use Prim.Native.Nat.{ℕ, _+_, _-_, _≤_};
 ghost use lib.ListN.{length};
 ghost use lib.Dec.{eqb};
 ghost use Rattle.entries_run.specs.Steps.{Stands, Rebuilt, Room, Inside, Headed, Numbered, Answered, readRest, Stepped, firstCursor, Ran, Reaches};
-use format::Order;
-use entries::Head;
 use entries::Fixed;
-use entries::Text;
+use entries::Head;
 use entries::Number;
+use entries::Text;
+use format::Order;
 
 // The place of the next entry, and where the name of the one before stands, with its stage.
 pub struct Cursor {

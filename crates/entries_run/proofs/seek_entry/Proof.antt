@@ -1,15 +1,18 @@
--- The proof that `seek_entry` meets its contract. The entries that are still to be skipped lie after the cursor.
+-- The proof that `seek_entry` meets its contract. The loop keeps that some entries lie before the cursor, which with those left are k.
 use mathlib.Core.Path.{_≡_, refl, _∙_}
+use mathlib.Core.List.{List, []}
+use Prim.Native.Nat.{_+_}
 use native.Mathlib.Omega.{arith}
 use borrow.Author.Needs.{needs}
-use lib.ListN.{length, drop}
+use lib.ListN.{length, drop, length-append}
+use Rattle.format.specs.Records.{Entry}
 use Rattle.entries_run.specs.Steps.{Inside}
-use Rattle.entries_run.proofs.Steps.{inside-first, Seeking, seeking-first, seeking-more, sought-bad, sought-good}
+use Rattle.entries_run.proofs.Steps.{inside-first, Walked, walked-first, walked-more, sought-bad, sought-good}
 use Rattle.entries_run.proofs.seek_entry.Statement.{statement}
 use Rattle.entries_run.proofs.seek_entry.Tie as tie
 
 abbrev Inv-loop : tie.InvT-loop
-Inv-loop b v work₀ k c₀ left₀ work c left = Inside b c × (length work ≡ length work₀) × (drop 8192 work ≡ drop 8192 work₀) × Seeking v b k left work c
+Inv-loop b v work₀ k c₀ left₀ work c left = Inside b c × (length work ≡ length work₀) × (drop 8192 work ≡ drop 8192 work₀) × ((es : List Entry) × Walked v b es work c × (length es + left ≡ k))
 
 abbrev μ-loop : tie.MeasureT-loop
 μ-loop b v work₀ k c₀ left₀ work c left = left
@@ -21,7 +24,7 @@ loop-holds : tie.Need-loop-holds Inv-loop μ-loop
 loop-holds c =
     let st = c .before .before .before in
     let a = st .args in
-    rw (c .first .ensures) (inside-first (a .b .now) (a .work .now) (st .pre), refl, refl, seeking-first (a .v) (a .b .now) (a .k) (a .work .now))
+    rw (c .first .ensures) (inside-first (a .b .now) (a .work .now) (st .pre), refl, refl, ([], walked-first (a .v) (a .b .now) (a .work .now), omega arith))
 
 next-entry-requires : tie.Need-next-entry-requires Inv-loop μ-loop
 next-entry-requires c κs = (c .before .loop .inv .0, omega arith)
@@ -38,7 +41,8 @@ returns c =
     let l = e .before .before in
     let a = l .before .before .before .before .args in
     let t = rw (c .before .g .given .1) at (e .next-entry .ensures) in
-    sought-bad (a .v) (a .b .now) (a .k) (l .loop .left) (l .loop .work) (l .loop .c) _ (l .loop .inv .3) _ (t .long ∙ l .loop .inv .1) (t .past ∙ l .loop .inv .2) _ _ t
+    let (es, walked, sum) = l .loop .inv .3 in
+    sought-bad (a .v) (a .b .now) (a .k) es (l .loop .work) (l .loop .c) walked _ _ (t .long ∙ l .loop .inv .1) (t .past ∙ l .loop .inv .2) _ _ (omega (arith, sum)) t
 
 enum-known-g-2 : tie.Need-enum-known-g-2 Inv-loop μ-loop
 enum-known-g-2 c = search needs
@@ -52,7 +56,8 @@ returns-2 c =
     let l = e .before .before in
     let a = l .before .before .before .before .args in
     let t = rw (c .before .before .g2 .given .1) at (e .next-entry .ensures) in
-    sought-good (a .v) (a .b .now) (a .k) (l .loop .left) (l .loop .work) (l .loop .c) _ (l .loop .inv .3) _ (t .long ∙ l .loop .inv .1) (t .past ∙ l .loop .inv .2) _ (c .if1 .taken) t
+    let (es, walked, sum) = l .loop .inv .3 in
+    sought-good (a .v) (a .b .now) (a .k) es (l .loop .work) (l .loop .c) walked _ _ (t .long ∙ l .loop .inv .1) (t .past ∙ l .loop .inv .2) _ (omega (arith, sum, c .if1 .taken)) t
 
 sub-left : tie.Need-sub-left Inv-loop μ-loop
 sub-left c = omega arith
@@ -65,11 +70,12 @@ loop-again c =
     let e = c .before .before .before .before .before .before .before in
     let l = e .before .before in
     let a = l .before .before .before .before .args in
-    let t = rw (c .before .before .before .g2 .given .1) at (e .next-entry .ensures) in (
+    let t = rw (c .before .before .before .g2 .given .1) at (e .next-entry .ensures) in
+    let (es, walked, sum) = l .loop .inv .3 in (
       t .found _ refl .next,
       t .long ∙ l .loop .inv .1,
       t .past ∙ l .loop .inv .2,
-      seeking-more (a .v) (a .b .now) (a .k) (l .loop .left) (l .loop .work) (l .loop .c) _ (l .loop .inv .3) _ (c .before .if1 .left) t,
+      (_, walked-more (a .v) (a .b .now) es (l .loop .work) (l .loop .c) walked _ _ t, rw length-append (omega (arith, sum, c .before .if1 .left))),
     )
 
 pub seek-entry-spec : {M : Type 1} → statement M
