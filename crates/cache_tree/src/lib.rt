@@ -1,0 +1,2 @@
+// The cache tree: reading the data of the TREE extension.
+pub mod number;
