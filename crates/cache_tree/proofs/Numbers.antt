@@ -11,23 +11,23 @@ use lib.Dec.{eqb, leb}
 use borrow.Author.Tests.{ne-eqb, eq-eqb, le-leb, lt-leb, leb-true}
 use Rattle.format.specs.Bytes.{digits, decimal, valueFrom, value}
 use Rattle.cache_tree.specs.declared.number.Number.{Number}
-use Rattle.cache_tree.specs.declared.number.Number.the-variants.{Bad, Good}
+use Rattle.cache_tree.specs.declared.number.Number.the-variants as N
 use Rattle.cache_tree.specs.Answers.{numberIn, numberFrom}
 
 -- ---- the beginning of a decimal
 
-pub number-none : (limit : ℕ) (t : List ℕ) → length t ≡ 0 → numberIn limit t ≡ Bad
+pub number-none : (limit : ℕ) (t : List ℕ) → length t ≡ 0 → numberIn limit t ≡ N.Bad
 unfolding numberIn decimal
 number-none limit [] h = refl
 number-none limit (x ∷ t) h = absurd (omega arith)
 
-pub number-zero : (limit : ℕ) (t : List ℕ) → length t ≡ 1 → getD t 0 0 ≡ 48 → numberIn limit t ≡ Good 0
+pub number-zero : (limit : ℕ) (t : List ℕ) → length t ≡ 1 → getD t 0 0 ≡ 48 → numberIn limit t ≡ N.Good 0
 unfolding numberIn decimal digits value valueFrom
 number-zero limit [] h e = absurd (omega arith)
 number-zero limit (x ∷ []) h e = let z : 0 ≤ limit = omega arith in rw (e, le-leb 0 limit z)
 number-zero limit (x ∷ y ∷ t) h e = absurd (omega arith)
 
-pub number-zeros : (limit : ℕ) (t : List ℕ) → (length t ≡ 0 → ⊥) → (length t ≡ 1 → ⊥) → getD t 0 0 ≡ 48 → numberIn limit t ≡ Bad
+pub number-zeros : (limit : ℕ) (t : List ℕ) → (length t ≡ 0 → ⊥) → (length t ≡ 1 → ⊥) → getD t 0 0 ≡ 48 → numberIn limit t ≡ N.Bad
 unfolding numberIn decimal
 number-zeros limit [] n h e = absurd (n refl)
 number-zeros limit (x ∷ []) n h e = absurd (h (omega arith))
@@ -50,21 +50,21 @@ and-false : (b : Bool) → (b && false) ≡ false
 and-false true = refl
 and-false false = refl
 
-pub over : (limit v : ℕ) (t : List ℕ) → limit < v → numberFrom limit v t ≡ Bad
+pub over : (limit v : ℕ) (t : List ℕ) → limit < v → numberFrom limit v t ≡ N.Bad
 unfolding numberFrom
 over limit v t h = let g : limit < valueFrom v t = omega (arith, grows v t) in rw (lt-leb _ _ g, and-false (digits t))
 
 module _ (limit v : ℕ) (t : List ℕ) (i : ℕ) where
-  pub from-end : length t ≤ i → v ≤ limit → numberFrom limit v (drop i t) ≡ Good v
+  pub from-end : length t ≤ i → v ≤ limit → numberFrom limit v (drop i t) ≡ N.Good v
   unfolding numberFrom digits valueFrom
   from-end h l = rw (drop-of-length-le t h, le-leb _ _ l)
 
   module _ (inside : i < length t) where
-    pub from-low : getD t i 0 < 48 → numberFrom limit v (drop i t) ≡ Bad
+    pub from-low : getD t i 0 < 48 → numberFrom limit v (drop i t) ≡ N.Bad
     unfolding numberFrom digits
     from-low l = rw (drop-cons t i 0 inside, lt-leb _ _ l)
 
-    pub from-high : 48 ≤ getD t i 0 → 57 < getD t i 0 → numberFrom limit v (drop i t) ≡ Bad
+    pub from-high : 48 ≤ getD t i 0 → 57 < getD t i 0 → numberFrom limit v (drop i t) ≡ N.Bad
     unfolding numberFrom digits
     from-high l h = rw (drop-cons t i 0 inside, le-leb _ _ l, lt-leb _ _ h)
 

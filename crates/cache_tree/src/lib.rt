@@ -1,2 +1,3 @@
 // The cache tree: reading the data of the TREE extension.
+pub mod node;
 pub mod number;

@@ -5,7 +5,7 @@ ghost use Rattle.cache_tree.specs.Answers.{numberIn};
 
 pub enum Number {
     Bad,
-    Good(u64),
+    Good(u32),
 }
 
 pub(crate) fn wide(x: u8) -> u64
@@ -44,5 +44,5 @@ pub fn read_number(t: &[u8], limit: u64) -> Number
         }
         i += 1;
     }
-    Number::Good(v)
+    Number::Good(v as u32)
 }

@@ -68,6 +68,9 @@ loop-again c =
     let l = c .before .before .before .before .before .before in
     (omega arith, omega arith, l .loop .inv .2 ∙ rw (c .before .before .before .wide .ensures .0) (from-step _ _ _ (l .loop .i) (omega arith) (omega arith) (omega arith)))
 
+cast-t18 : tie.Need-cast-t18 Inv-loop μ-loop
+cast-t18 c = omega arith
+
 returns-7 : tie.Need-returns-7 Inv-loop μ-loop
 returns-7 c = sym (c .before .loop .inv .2 ∙ from-end _ _ _ (c .before .loop .i) (c .loop-test .left) (c .before .loop .inv .1))
 
@@ -92,4 +95,5 @@ read-number-spec =
     add-i
     loop-less
     loop-again
+    cast-t18
     returns-7)
