@@ -1,0 +1,209 @@
+// Fields, texts and names in a slice of bytes, and the workspace that holds a name.
+ghost use mathlib.Core.Path.{_≡_};
+ghost use mathlib.Core.List.{_++_};
+ghost use Prim.Native.Nat.{ℕ, _+_, _-_, _≤_, _<_};
+ghost use lib.ListN.{length, take, drop, replicate};
+ghost use Rattle.format.specs.Bytes.{be16, be32, eqList, before, zeros};
+ghost use Rattle.format.specs.Names as Names;
+use format::Order;
+
+// The most bytes that a name has.
+pub const LONGEST: usize = 8192;
+
+fn wide(x: u8) -> u32
+    ensures { λ r. ⌜ (r ≡ x) × (r < 256) ⌝ }
+{
+    x as u32
+}
+
+// The 16-bit number at a place, the high byte first.
+pub fn read16(s: &[u8], at: usize) -> u32
+    requires { ⌜ at + 2 ≤ length (now s) ⌝ }
+    ensures { λ r. ⌜ (r ≡ be16 (now (s .entry)) at) × (r < 65536) ⌝ }
+{
+    wide(s[at]) * 256 + wide(s[at + 1])
+}
+
+// The 32-bit number at a place, the high byte first.
+pub fn read32(s: &[u8], at: usize) -> u32
+    requires { ⌜ at + 4 ≤ length (now s) ⌝ }
+    ensures { λ r. ⌜ r ≡ be32 (now (s .entry)) at ⌝ }
+{
+    read16(s, at) * 65536 + read16(s, at + 2)
+}
+
+// The place of the first byte b at or after at, or the end.
+pub fn find(s: &[u8], at: usize, b: u8) -> usize
+    requires { ⌜ at ≤ length (now s) ⌝ }
+    ensures { λ r. ⌜ (r ≡ at + before b (drop at (now (s .entry)))) × (r ≤ length (now (s .entry))) ⌝ }
+{
+    let mut i = at;
+    while i < s.len() {
+        if s[i] == b {
+            return i;
+        }
+        i += 1;
+    }
+    i
+}
+
+// Whether two texts are equal.
+pub fn same(a: &[u8], b: &[u8]) -> bool
+    ensures { λ r. ⌜ r ≡ eqList (now (a .entry)) (now (b .entry)) ⌝ }
+{
+    let mut i = 0;
+    while i < a.len() {
+        if b.len() <= i {
+            return false;
+        }
+        if a[i] != b[i] {
+            return false;
+        }
+        i += 1;
+    }
+    b.len() <= i
+}
+
+// How many bytes two texts have in common at their beginning.
+pub fn common(s: &[u8], t: &[u8]) -> usize
+    ensures { λ r. ⌜ (r ≡ Names.common (now (s .entry)) (now (t .entry))) × (r ≤ length (now (s .entry))) × (r ≤ length (now (t .entry))) ⌝ }
+{
+    let mut i = 0;
+    while i < s.len() {
+        if t.len() <= i {
+            return i;
+        }
+        if s[i] != t[i] {
+            return i;
+        }
+        i += 1;
+    }
+    i
+}
+
+// How s stands to t, as unsigned bytes. What they have in common does not count.
+pub fn compare(s: &[u8], t: &[u8]) -> Order
+    ensures { λ r. ⌜ r ≡ Names.compare (now (s .entry)) (now (t .entry)) ⌝ }
+{
+    let n = common(s, t);
+    if s.len() <= n {
+        if t.len() <= n {
+            return Order::Same;
+        }
+        return Order::Below;
+    }
+    if t.len() <= n {
+        return Order::Above;
+    }
+    if s[n] < t[n] {
+        return Order::Below;
+    }
+    Order::Above
+}
+
+// Whether every byte from a to e is NUL.
+pub fn all_zero(s: &[u8], a: usize, e: usize) -> bool
+    requires { ⌜ (a ≤ e) × (e ≤ length (now s)) ⌝ }
+    ensures { λ r. ⌜ r ≡ zeros (take (e - a) (drop a (now (s .entry)))) ⌝ }
+{
+    let mut i = a;
+    while i < e {
+        if s[i] != 0 {
+            return false;
+        }
+        i += 1;
+    }
+    true
+}
+
+// Whether c may stand between two slashes.
+fn component_ok(c: &[u8]) -> bool
+    ensures { λ r. ⌜ r ≡ Names.okComponent (now (c .entry)) ⌝ }
+{
+    if same(c, b"") {
+        return false;
+    }
+    if same(c, b".") {
+        return false;
+    }
+    if same(c, b"..") {
+        return false;
+    }
+    if same(c, b".git") {
+        return false;
+    }
+    true
+}
+
+// Whether s is a name. One bad component ends the look at the whole name.
+pub fn name_ok(s: &[u8]) -> bool
+    ensures { λ r. ⌜ r ≡ Names.okName (now (s .entry)) ⌝ }
+{
+    if LONGEST < s.len() {
+        return false;
+    }
+    let mut at = 0;
+    'components: loop {
+        let mut e = at;
+        while e < s.len() {
+            if s[e] == 0 {
+                break 'components;
+            }
+            if s[e] == 47 {
+                break;
+            }
+            e += 1;
+        }
+        if component_ok(&s[at..e]) {
+            if e == s.len() {
+                return true;
+            }
+            at = e + 1;
+        } else {
+            break 'components;
+        }
+    }
+    false
+}
+
+// The length field of a name of n bytes.
+pub fn length_field(n: usize) -> u32
+    ensures { λ r. ⌜ r ≡ Names.lengthField n ⌝ }
+{
+    if n < 4095 {
+        return n as u32;
+    }
+    4095
+}
+
+// The workspace from n to its 8,192nd byte is zero.
+pub fn clear_from(work: &mut [u8], n: usize)
+    requires { ⌜ (n ≤ 8192) × (8192 ≤ length (now work)) ⌝ }
+    ensures { λ _. ⌜ now (work .exit) ≡ take n (now (work .entry)) ++ (replicate (8192 - n) 0 ++ drop 8192 (now (work .entry))) ⌝ }
+{
+    let mut i = n;
+    while i < LONGEST {
+        work[i] = 0;
+        i += 1;
+    }
+}
+
+// The first 8,192 bytes of the workspace are zero.
+pub fn clear(work: &mut [u8])
+    requires { ⌜ 8192 ≤ length (now work) ⌝ }
+    ensures { λ _. ⌜ now (work .exit) ≡ replicate 8192 0 ++ drop 8192 (now (work .entry)) ⌝ }
+{
+    clear_from(work, 0);
+}
+
+// The bytes of s stand at a place of the workspace.
+pub fn copy_to(work: &mut [u8], at: usize, s: &[u8])
+    requires { ⌜ at + length (now s) ≤ length (now work) ⌝ }
+    ensures { λ _. ⌜ now (work .exit) ≡ take at (now (work .entry)) ++ (now (s .entry) ++ drop (at + length (now (s .entry))) (now (work .entry))) ⌝ }
+{
+    let mut i = 0;
+    while i < s.len() {
+        work[at + i] = s[i];
+        i += 1;
+    }
+}
