@@ -2,3 +2,5 @@
 pub mod Numbers
 pub mod Readings
 pub mod Nodes
+pub mod Names
+pub mod Lists

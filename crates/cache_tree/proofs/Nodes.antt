@@ -8,8 +8,8 @@ use native.Mathlib.Nat.{add-zero, add-assoc}
 use native.Mathlib.Omega.{arith}
 use lib.ListN.{length, getD, take, drop, replicate, length-take, length-drop}
 use lib.Seq.{take-all}
-use lib.Dec.{eqb, leb}
-use borrow.Author.Tests.{eq-eqb, ne-eqb, le-leb, lt-leb, lt-ltb, le-ltb}
+use lib.Dec.{eqb, leb, ltb}
+use borrow.Author.Tests.{eq-eqb, ne-eqb, le-leb, lt-leb, lt-ltb, le-ltb, ltb-true}
 use Rattle.format.specs.Bytes.{before, decimal, value}
 use Rattle.format.specs.Records as Records
 use Rattle.format.specs.Reading.{Read, bad, good, need, shift, bind}
@@ -24,7 +24,7 @@ use Rattle.cache_tree.specs.declared.node.Node.{Node}
 use Rattle.cache_tree.specs.declared.node.NodeRead.{NodeRead}
 use Rattle.cache_tree.specs.declared.node.NodeRead.the-variants as R
 use Rattle.cache_tree.specs.Answers.{numberIn, isValid, counted, objectLength, countTo, countAt, subtreesAt, nodeOf, nodeAt}
-use Rattle.cache_tree.proofs.Readings.{Took, count-took, subtrees-took, node-took, drop-to}
+use Rattle.cache_tree.proofs.Readings.{need-inv, bind-inv, Took, count-took, subtrees-took, node-took, drop-to}
 
 -- ---- texts
 
@@ -321,3 +321,60 @@ module _ (d : List ℕ) (at z : ℕ) (named : z ≡ at + before 0 (drop at d)) (
           let o : c .of ≡ Records.invalid = invalid-of (c .of) (c .is-valid ∙ e) in
           let zero-count : n ≡ 0 = sym (c .is-count) ∙ ap counted o in
           rw zero-count (to-object Records.invalid o ∙ from-invalid d at z object k 0 (omega arith) (omega arith) l)
+
+-- ---- what a node's answer says of the format's reading
+
+pub record NodeIs (d : List ℕ) (at : ℕ) (node : Node) : Type 0 where
+  pub head : Head
+  pub reads : readNode 20 0 (drop at d) ≡ good head (node .next - at)
+  pub name : head .node .name ≡ take (node .nul - at) (drop at d)
+  pub subtrees : head .subtrees ≡ node .subtrees
+  pub named : at ≤ node .nul
+  pub ended : node .nul < node .next
+  pub within : node .next ≤ length d
+
+text-is : (b n p : ℕ) (s t : List ℕ) (m : ℕ) → readText b n p s ≡ good t m → (t ≡ take (before b s) s) × (m ≡ before b s + 1) × (before b s < length s)
+unfolding readText
+text-is b n p s t m e = need-inv (ltb (before b s) (length s)) n p m t _ e (λ l r. (cc, cc, ltb-true _ _ l))
+
+-- the name of a node that was read
+pub node-named : (w p : ℕ) (s : List ℕ) (h : Head) (m : ℕ) → readNode w p s ≡ good h m → (h .node .name ≡ take (before 0 s) s) × (before 0 s < m) × (before 0 s < length s)
+unfolding readNode
+node-named w p s h m e =
+    bind-inv (readText 0 15 p s) _ h m e λ name a a′ q r i.
+    bind-inv (readCount p (drop a s)) _ h a′ r λ count b b′ q₁ r₁ i₁.
+    bind-inv (readSubtrees p (drop b (drop a s))) _ h b′ r₁ λ k c c′ q₂ r₂ i₂.
+    bind-inv (readObject w p count (drop c (drop b (drop a s)))) _ h c′ r₂ λ object o o′ q₃ r₃ i₃.
+    let t = text-is 0 15 p s name a q in
+    let same : record { node = record { name = name; count = count; object = object }; subtrees = k } ≡ h = cc in
+    let t₁ : a ≡ before 0 s + 1 = t .1 in
+    (sym (ap (λ (x : Head). x .node .name) same) ∙ t .0, omega arith, t .2)
+
+module _ (d : List ℕ) (at : ℕ) (inside : at ≤ length d) where
+  node-is-by : (node : Node) (x : Read Head) → readNode 20 0 (drop at d) ≡ x → R.Good node ≡ nodeAt at x → NodeIs d at node
+  unfolding nodeAt
+  node-is-by node (bad n p) q e = let z : _≡_ {A = ℕ} 0 1 = cc in absurd (omega arith)
+  node-is-by node (good h m) q e =
+      let is : node ≡ nodeOf at h m = cc in
+      let nul : node .nul ≡ at + length (h .node .name) = ap (λ (n : Node). n .nul) is in
+      let next : node .next ≡ at + m = ap (λ (n : Node). n .next) is in
+      let l : length (drop at d) ≡ length d - at = length-drop at d in
+      let b : (1 ≤ m) × (m ≤ length (drop at d)) = node-took 20 0 (drop at d) .of h m q in
+      let g = node-named 20 0 (drop at d) h m q in
+      let g₁ : before 0 (drop at d) < m = g .1 in
+      let g₂ : before 0 (drop at d) < length (drop at d) = g .2 in
+      let k : length (h .node .name) ≡ before 0 (drop at d) = ap length (g .0) ∙ simp length-take (omega arith) in
+      let j : node .nul - at ≡ before 0 (drop at d) = omega arith in
+      let i : m ≡ node .next - at = omega arith in
+      record {
+        head = h;
+        reads = q ∙ ap (λ (n : ℕ). good h n) i;
+        name = g .0 ∙ ap (λ (n : ℕ). take n (drop at d)) (sym j);
+        subtrees = sym (ap (λ (n : Node). n .subtrees) is);
+        named = omega arith;
+        ended = omega arith;
+        within = omega arith;
+      }
+
+  pub node-is : (node : Node) → R.Good node ≡ nodeAt at (readNode 20 0 (drop at d)) → NodeIs d at node
+  node-is node e = node-is-by node _ refl e

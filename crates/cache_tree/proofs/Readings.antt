@@ -20,10 +20,27 @@ use Rattle.format.specs.Reader.{readText, countIn, needSome, readCount, readSub
 pub drop-to : (d : List ℕ) (at m next : ℕ) → next ≡ at + m → drop m (drop at d) ≡ drop next d
 drop-to d at m next e = drop-drop m at d ∙ ap (λ (n : ℕ). drop n d) (sym e)
 
--- ---- how many bytes a reading takes
+-- ---- taking a reading apart
 
-no-good {ℓ} : {A : Type 0} {X : Type ℓ} (n p m : ℕ) (a : A) → bad n p ≡ good a m → X
+pub no-good {ℓ} : {A : Type 0} {X : Type ℓ} (n p m : ℕ) (a : A) → bad n p ≡ good a m → X
 no-good n p m a e = let z : _≡_ {A = ℕ} 0 1 = cc in absurd (omega arith)
+
+pub need-inv {ℓ} : {A : Type 0} {X : Type ℓ} (b : Bool) (n p m : ℕ) (a : A) (r : Read A) → need b n p r ≡ good a m → (b ≡ true → r ≡ good a m → X) → X
+unfolding need
+need-inv true n p m a r e f = f refl e
+need-inv false n p m a r e f = no-good n p m a e
+
+shift-inv {ℓ} : {A : Type 0} {X : Type ℓ} (k m : ℕ) (a : A) (r : Read A) → shift k r ≡ good a m → ((n : ℕ) → r ≡ good a n → m ≡ k + n → X) → X
+unfolding shift
+shift-inv k m a (bad n p) e f = no-good n p m a e
+shift-inv k m a (good b n) e f = let q : b ≡ a = cc in let l : m ≡ k + n = cc in f n (ap (λ (c : _). good c n) q) l
+
+pub bind-inv {ℓ} : {A B : Type 0} {X : Type ℓ} (r : Read A) (k : A → ℕ → Read B) (b : B) (j : ℕ) → bind r k ≡ good b j → ((a : A) (m n : ℕ) → r ≡ good a m → k a m ≡ good b n → j ≡ m + n → X) → X
+unfolding bind
+bind-inv (bad n p) k b j e f = no-good n p j b e
+bind-inv (good a m) k b j e f = shift-inv m j b (k a m) e (λ n q l. f a m n refl q l)
+
+-- ---- how many bytes a reading takes
 
 -- from least to most bytes, where it is no refusal
 pub record Took {A : Type 0} (least most : ℕ) (r : Read A) : Type 0 where

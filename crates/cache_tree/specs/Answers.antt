@@ -1,14 +1,16 @@
 -- The format's readings as this crate's functions answer them. Every fault is 15, so an answer has no number.
-use mathlib.Core.List.{List}
+use mathlib.Core.List.{List, [], _∷_}
 use mathlib.Core.Bool.{Bool, true, false, cond, _&&_}
 use mathlib.Core.Option.{Option, none, some}
-use Prim.Native.Nat.{ℕ, _+_, _-_}
-use lib.ListN.{length}
+use Prim.Native.Nat.{ℕ, zero, suc, _+_, _-_}
+use lib.ListN.{length, drop}
 use lib.Dec.{leb}
 use Rattle.format.specs.Bytes.{digits, decimal, valueFrom, value}
 use Rattle.format.specs.Records as Records
-use Rattle.format.specs.Reading.{Read, bad, good}
-use Rattle.format.specs.Reader.{Head}
+use Rattle.format.specs.Records.{Forest, nil, tree, Item, items}
+use Rattle.format.specs.Layout.{okNodeName}
+use Rattle.format.specs.Reading.{Read, bad, good, need, bind}
+use Rattle.format.specs.Reader.{Head, readNode, readForest}
 use Rattle.cache_tree.specs.declared.number.Number.{Number}
 use Rattle.cache_tree.specs.declared.number.Number.the-variants as N
 use Rattle.cache_tree.specs.declared.node.Count.{Count}
@@ -18,6 +20,8 @@ use Rattle.cache_tree.specs.declared.node.Subtrees.the-variants as S
 use Rattle.cache_tree.specs.declared.node.Node.{Node}
 use Rattle.cache_tree.specs.declared.node.NodeRead.{NodeRead}
 use Rattle.cache_tree.specs.declared.node.NodeRead.the-variants as R
+use Rattle.cache_tree.specs.declared.list.ListRead.{ListRead}
+use Rattle.cache_tree.specs.declared.list.ListRead.the-variants as L
 
 -- ---- decimals
 
@@ -71,3 +75,35 @@ nodeOf at h m = record {
 unfoldable pub nodeAt : ℕ → Read Head → NodeRead
 nodeAt at (bad n p) = R.Bad
 nodeAt at (good h m) = R.Good (nodeOf at h m)
+
+-- ---- lists of siblings
+
+-- one node and all below it, with at most so many levels
+unfoldable pub readOne : ℕ → List ℕ → Read Forest
+readOne zero s = bad 15 0
+readOne (suc levels) s =
+    bind (readNode 20 0 s) λ h m.
+    need (okNodeName (h .node .name)) 15 0 (bind (readForest 20 0 levels (h .subtrees) (drop m s)) λ kids n. good (tree (h .node) kids nil) 0)
+
+-- how many nodes there are
+unfoldable pub size : Forest → ℕ
+size nil = 0
+size (tree n kids more) = suc (size kids + size more)
+
+-- the first of two that is not 0
+abbrev pub either : ℕ → ℕ → ℕ
+either zero b = b
+either (suc a) b = suc a
+
+-- the level of the item that is the kth from 1 on; 0 where there is none
+unfoldable pub levelIn : ℕ → List Item → ℕ
+levelIn zero [] = 0
+levelIn (suc k) [] = 0
+levelIn zero (i ∷ is) = 0
+levelIn (suc zero) (i ∷ is) = i .level
+levelIn (suc (suc k)) (i ∷ is) = levelIn (suc k) is
+
+-- siblings that begin at a place, on a level
+unfoldable pub listAt : ℕ → ℕ → ℕ → Read Forest → ListRead
+listAt at level want (bad n p) = L.Bad
+listAt at level want (good f m) = L.Good (at + m) (size f) (levelIn want (items level f))

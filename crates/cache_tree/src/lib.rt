@@ -1,3 +1,4 @@
 // The cache tree: reading the data of the TREE extension.
+pub mod list;
 pub mod node;
 pub mod number;
