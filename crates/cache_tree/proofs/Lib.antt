@@ -4,3 +4,4 @@ pub mod Readings
 pub mod Nodes
 pub mod Names
 pub mod Lists
+pub mod Flat
