@@ -14,10 +14,12 @@ use Rattle.format.specs.Records.{Node, Forest, nil, tree, width, Item, items}
 use Rattle.format.specs.Layout.{has, distinct, okNodeName}
 use Rattle.format.specs.Reading.{Read, bad, good, need, shift, bind}
 use Rattle.format.specs.Reader.{Head, readText, readNode, readSiblings, readForest}
-use Rattle.cache_tree.specs.Answers.{size}
+use Rattle.cache_tree.specs.declared.node.Node as Code
+use Rattle.cache_tree.specs.declared.node.NodeRead.the-variants as R
+use Rattle.cache_tree.specs.Answers.{size, nodeAt}
 use Rattle.cache_tree.specs.Flat.{onNode, placeOf, lengthOf, treesLength, nameOf, restOf, namesOf, hasName, namesDiffer, allDiffer}
-use Rattle.cache_tree.proofs.Readings.{no-good, need-inv, bind-inv, Took, node-took}
-use Rattle.cache_tree.proofs.Nodes.{node-named}
+use Rattle.cache_tree.proofs.Readings.{no-good, need-inv, bind-inv, Took, node-took, drop-to}
+use Rattle.cache_tree.proofs.Nodes.{node-named, NodeIs, no-node}
 use Rattle.cache_tree.proofs.Lists.{items-size}
 
 -- ---- k nodes with all below them, with no fuel
@@ -232,3 +234,51 @@ reads-item s _ _ _ (reads-more {h = h} {kids = kids} {after = after} {a = a} {b 
     let p : placeOf (suc j) s ≡ a + (b + placeOf i (drop b (drop a s))) = place-step j s h a q ∙ ap (λ (x : ℕ). a + x) (ap (λ (x : ℕ). placeOf x (drop a s)) e ∙ reads-places _ _ _ _ r i) in
     let w : j ≡ length xs + i = omega arith in
     shown-at _ _ _ _ (reads-item _ _ _ _ t l i z (omega arith)) (drops a b _ s ∙ ap (λ (x : ℕ). drop x s) (sym p)) (sym (ap (λ (x : ℕ). getD (xs ++ items l after) x z) w ∙ getD-append-add xs (items l after) i z)))
+
+-- ---- from a place on
+
+module _ (d : List ℕ) (place left : ℕ) where
+  pub place-end : left ≤ 0 → place + placeOf left (drop place d) ≡ place
+  place-end h = let z : left ≡ 0 = omega arith in rw (z, place-none (drop place d), add-zero place)
+
+  pub trees-end : left ≤ 0 → place + treesLength left (drop place d) ≡ place
+  trees-end h = let z : left ≡ 0 = omega arith in rw (z, trees-none (drop place d), add-zero place)
+
+  module _ (some : 0 < left) where
+    more-is : left ≡ suc (left - 1)
+    more-is = omega arith
+
+    module _ (node : Code.Node) (is : NodeIs d place node) where
+      rest-is : drop (node .next - place) (drop place d) ≡ drop (node .next) d
+      rest-is = let a = is .named in let b = is .ended in drop-to d place (node .next - place) (node .next) (omega arith)
+
+      pub place-more : place + placeOf left (drop place d) ≡ node .next + placeOf (left - 1) (drop (node .next) d)
+      place-more =
+          let a = is .named in
+          let b = is .ended in
+          let e : placeOf left (drop place d) ≡ node .next - place + placeOf (left - 1) (drop (node .next) d) =
+              ap (λ (k : ℕ). placeOf k (drop place d)) more-is ∙ place-step (left - 1) (drop place d) (is .head) (node .next - place) (is .reads) ∙ rw rest-is in
+          omega arith
+
+      pub trees-more : place + treesLength left (drop place d) ≡ node .next + treesLength (left - 1 + node .subtrees) (drop (node .next) d)
+      trees-more =
+          let a = is .named in
+          let b = is .ended in
+          let e : treesLength left (drop place d) ≡ node .next - place + treesLength (left - 1 + node .subtrees) (drop (node .next) d) =
+              ap (λ (k : ℕ). treesLength k (drop place d)) more-is ∙ trees-step (left - 1) (drop place d) (is .head) (node .next - place) (is .reads) ∙ rw (rest-is, is .subtrees) in
+          omega arith
+
+    module _ (inside : place ≤ length d) (none : R.Bad ≡ nodeAt place (readNode 20 0 (drop place d))) where
+      pub place-stop : place + placeOf left (drop place d) ≡ length d
+      place-stop =
+          no-node d place none λ n p q.
+          let e : placeOf left (drop place d) ≡ length (drop place d) = ap (λ (k : ℕ). placeOf k (drop place d)) more-is ∙ place-bad (left - 1) n p (drop place d) q in
+          let l : length (drop place d) ≡ length d - place = length-drop place d in
+          omega arith
+
+      pub trees-stop : place + treesLength left (drop place d) ≡ length d
+      trees-stop =
+          no-node d place none λ n p q.
+          let e : treesLength left (drop place d) ≡ length (drop place d) = ap (λ (k : ℕ). treesLength k (drop place d)) more-is ∙ trees-bad (left - 1) n p (drop place d) q in
+          let l : length (drop place d) ≡ length d - place = length-drop place d in
+          omega arith

@@ -378,3 +378,11 @@ module _ (d : List ℕ) (at : ℕ) (inside : at ≤ length d) where
 
   pub node-is : (node : Node) → R.Good node ≡ nodeAt at (readNode 20 0 (drop at d)) → NodeIs d at node
   node-is node e = node-is-by node _ refl e
+
+no-node-by {ℓ} : {X : Type ℓ} (at : ℕ) (x : Read Head) → R.Bad ≡ nodeAt at x → ((n p : ℕ) → x ≡ bad n p → X) → X
+unfolding nodeAt
+no-node-by at (bad n p) e f = f n p refl
+no-node-by at (good h m) e f = let z : _≡_ {A = ℕ} 0 1 = cc in absurd (omega arith)
+
+pub no-node {ℓ} : {X : Type ℓ} (d : List ℕ) (at : ℕ) → R.Bad ≡ nodeAt at (readNode 20 0 (drop at d)) → ((n p : ℕ) → readNode 20 0 (drop at d) ≡ bad n p → X) → X
+no-node d at e f = no-node-by at (readNode 20 0 (drop at d)) e f

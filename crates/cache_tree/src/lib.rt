@@ -2,3 +2,4 @@
 pub mod list;
 pub mod node;
 pub mod number;
+pub mod walk;
