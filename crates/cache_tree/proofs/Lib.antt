@@ -5,3 +5,4 @@ pub mod Nodes
 pub mod Names
 pub mod Lists
 pub mod Flat
+pub mod Orders
