@@ -6,3 +6,4 @@ pub mod Names
 pub mod Lists
 pub mod Flat
 pub mod Orders
+pub mod Differ

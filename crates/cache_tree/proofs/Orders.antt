@@ -180,3 +180,18 @@ module _ (s t : List ℕ) (n : ℕ) (is : n ≡ common s t) where
   pub slash-other : n ≤ length s → n < length s → n < length t → slashBelow s t ≡ ltb (getD s n 0) (getD t n 0)
   slash-other few h l = slash-rest ∙ rw (drop-cons t n 0 l, drop-cons s n 0 h) (compare-first (getD s n 0) (getD t n 0) (drop (suc n) s ++ (47 ∷ [])) (drop (suc n) t ++ (47 ∷ []))
       ∙ first-ltb (getD s n 0) (getD t n 0) _ (λ e. absurd (common-ends s t n is few h l e)))
+
+-- ---- names by length
+
+module _ (s t : List ℕ) where
+  pub length-less : length s < length t → lengthBelow s t ≡ true
+  unfolding lengthBelow
+  length-less h = first-less (length s) (length t) _ h
+
+  pub length-more : length t < length s → lengthBelow s t ≡ false
+  unfolding lengthBelow
+  length-more h = first-more (length s) (length t) _ h
+
+  pub length-same : length s ≡ length t → lengthBelow s t ≡ isBelow (compare s t)
+  unfolding lengthBelow
+  length-same h = first-same (length s) (length t) _ h

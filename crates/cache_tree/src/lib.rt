@@ -2,4 +2,5 @@
 pub mod list;
 pub mod node;
 pub mod number;
+pub mod siblings;
 pub mod walk;
