@@ -104,7 +104,7 @@ forest-reads (suc l) (suc k) s f m e =
 
 -- ---- what stands where
 
-place-none : (s : List ℕ) → placeOf 0 s ≡ 0
+pub place-none : (s : List ℕ) → placeOf 0 s ≡ 0
 unfolding placeOf
 place-none s = refl
 
@@ -210,7 +210,7 @@ pub record Shown (s : List ℕ) (i : Item) : Type 0 where
   pub taken : ℕ
   pub reads : readNode 20 0 s ≡ good (record { node = i .node; subtrees = i .subtrees }) taken
 
-shown-at : (s t : List ℕ) (i j : Item) → Shown s i → s ≡ t → i ≡ j → Shown t j
+pub shown-at : (s t : List ℕ) (i j : Item) → Shown s i → s ≡ t → i ≡ j → Shown t j
 shown-at s t i j x e f = rw (← e, ← f) x
 
 below-or : {P : Type 0} (j n : ℕ) → (j < n → P) → ((i : ℕ) → j ≡ n + i → P) → P

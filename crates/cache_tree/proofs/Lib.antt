@@ -7,3 +7,4 @@ pub mod Lists
 pub mod Flat
 pub mod Orders
 pub mod Differ
+pub mod Shape

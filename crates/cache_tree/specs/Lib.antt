@@ -2,3 +2,4 @@
 pub mod Answers
 pub mod Flat
 pub mod Orders
+pub mod Shape
