@@ -8,3 +8,4 @@ pub mod Flat
 pub mod Orders
 pub mod Differ
 pub mod Shape
+pub mod Faults

@@ -189,9 +189,9 @@ module _ (d : List ℕ) (want : ℕ) where
             let f : distinct (are .of .subtrees) ≡ true = sym (nodes-differ d (are .of) next (are .reads)) ∙ ap (λ (k : ℕ). allDiffer k d) (sym (are .nodes)) ∙ differs in
             rw (are .reads, eq-eqb _ _ whole, f)
 
-        pub tree-shown : want < n → treeOf want d (readShape 20 0 d) ≡ T.Good n (placeOf want d) level
+        pub tree-shown : (place : ℕ) → place ≡ placeOf want d → want < n → treeOf want d (readShape 20 0 d) ≡ T.Good n place level
         unfolding treeOf
-        tree-shown h = rw (shape-is, ← (are .nodes), ← (are .leveled), lt-ltb _ _ h)
+        tree-shown place e h = rw (shape-is, ← (are .nodes), ← (are .leveled), lt-ltb _ _ h, e)
 
         pub tree-other : n ≤ want → treeOf want d (readShape 20 0 d) ≡ T.Good n 0 level
         unfolding treeOf

@@ -29,3 +29,8 @@ nodesAt want (good t m) = L.Good m (length (treeItems t)) (levelIn (suc want) (t
 unfoldable pub treeOf : ℕ → List ℕ → Read Tree → TreeRead
 treeOf want d (bad n p) = T.Bad
 treeOf want d (good t m) = T.Good (length (treeItems t)) (cond (ltb want (length (treeItems t))) (placeOf want d) 0) (levelIn (suc want) (treeItems t))
+
+-- the same reading of data at the place p; every fault is 15
+abbrev pub placed : {A : Type 0} → ℕ → Read A → Read A
+placed p (bad n q) = bad 15 p
+placed p (good a m) = good a m

@@ -62,7 +62,7 @@ fn read_nodes(d: &[u8], want: u32) -> ListRead
 // The whole data but for its entry counts. want is the number of a node, from 0 on; the seed is any number.
 pub fn read_tree(d: &[u8], work: &mut [u8], seed: u64, want: u32) -> TreeRead
     requires { ⌜ (length (now d) ≤ 16777216) × (8192 ≤ length (now work)) ⌝ }
-    ensures { λ r. ⌜ (r ≡ treeOf want (now (d .entry)) (readShape 20 0 (now (d .entry)))) × (drop 8192 (now (work .exit)) ≡ drop 8192 (now (work .entry))) ⌝ }
+    ensures { λ r. ⌜ ((p : ℕ) → r ≡ treeOf want (now (d .entry)) (readShape 20 p (now (d .entry)))) × (drop 8192 (now (work .exit)) ≡ drop 8192 (now (work .entry))) ⌝ }
 {
     let read = read_nodes(d, want);
     match read {
