@@ -20,6 +20,10 @@ use Rattle.extensions.specs.Heads.{part, known}
 pub part-length : (b : List ℕ) (a e : ℕ) → a ≤ e → e ≤ length b → length (part b a e) ≡ e - a
 part-length b a e h i = let l = length-drop a b in length-take-le (e - a) (drop a b) (omega arith)
 
+-- a test of the signature, as the code cuts it out
+pub four-bytes : (b : List ℕ) (at : ℕ) (s : List ℕ) (r : Bool) {t : Bool} → r ≡ eqList (part b at (at + 4)) s → r ≡ t → eqList (take 4 (drop at b)) s ≡ t
+four-bytes b at s r e f = let four : at + 4 - at ≡ 4 = omega arith in rw four at (sym e) ∙ f
+
 module _ (b : List ℕ) (at : ℕ) (inside : at ≤ length b) (ns : List (List ℕ)) (k : Seen) where
   pub head-short : length b - at < 8 → readExtension 20 ns k at (drop at b) ≡ bad 12 at
   unfolding readExtension need
