@@ -1,6 +1,6 @@
 -- The tests of an extension's head, one after another.
 use mathlib.Core.Path.{_≡_, refl, sym, ap, _∙_}
-use mathlib.Core.List.{List, []}
+use mathlib.Core.List.{List}
 use mathlib.Core.Bool.{Bool, true, false, cond, not, _&&_}
 use Prim.Native.Nat.{ℕ, _+_, _-_, _≤_, _<_}
 use native.Mathlib.Omega.{arith}
@@ -11,10 +11,10 @@ use borrow.Author.Tests.{le-leb, lt-leb}
 use Rattle.format.specs.Bytes.{be32, eqList}
 use Rattle.format.specs.Layout.{TREE, REUC, Extension, cacheTree, resolveUndo, other, optional}
 use Rattle.format.specs.Reading.{Read, bad, good, need, shift, bind}
-use Rattle.format.specs.Reader.{Seen, readTree, readUndos, readData, readExtension}
+use Rattle.format.specs.Reader.{Seen, readTree, readData, readExtension}
 use Rattle.fields.proofs.Laws.{be32-drop}
 use Rattle.spelling_extensions.proofs.Answers.{same-size}
-use Rattle.extensions.specs.Heads.{part, known}
+use Rattle.extensions.specs.Heads.{part, undosIn, known}
 
 -- a part's length
 pub part-length : (b : List ℕ) (a e : ℕ) → a ≤ e → e ≤ length b → length (part b a e) ≡ e - a
@@ -56,9 +56,6 @@ module _ (b : List ℕ) (at : ℕ) (inside : at ≤ length b) (ns : List (List �
       head-high h i = rw (eight, size-is, whole, first-byte, le-leb 65 (getD b at 0) h, lt-leb (getD b at 0) 90 i)
 
       module _ (low : 65 ≤ getD b at 0) (high : getD b at 0 ≤ 90) (end : ℕ) (ends : end ≡ at + 4 + 4 + size) where
-        pub ends-inside : (at + 8 ≤ end) × (end ≤ length b)
-        ends-inside = (omega arith, omega arith)
-
         data-is : take size (drop 8 (drop at b)) ≡ part b (at + 8) end
         data-is = let e : end - (at + 8) ≡ size = omega arith in rw (e, drop-drop 8 at b)
 
@@ -74,7 +71,7 @@ module _ (b : List ℕ) (at : ℕ) (inside : at ≤ length b) (ns : List (List �
         module _ (no-tree : eqList (take 4 (drop at b)) TREE ≡ false) where
           pub head-undo : eqList (take 4 (drop at b)) REUC ≡ true
               → readExtension 20 ns k at (drop at b)
-              ≡ known (k .resolveUndo) at (readUndos 20 at (length (part b (at + 8) end)) [] (part b (at + 8) end)) resolveUndo
+              ≡ known (k .resolveUndo) at (undosIn at (part b (at + 8) end)) resolveUndo
           unfolding readData known
           head-undo e = read-rest ∙ rw (no-tree, e)
 

