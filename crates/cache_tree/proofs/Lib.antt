@@ -1,0 +1,7 @@
+-- Laws that the functions' proofs cite.
+pub mod Numbers
+pub mod Readings
+pub mod Nodes
+pub mod Names
+pub mod Lists
+pub mod Flat
