@@ -1,0 +1,2 @@
+// The counts of a cache tree against the entries: refusal 16.
+pub mod child;
