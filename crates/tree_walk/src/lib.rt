@@ -1,2 +1,3 @@
 // The counts of a cache tree against the entries: refusal 16.
 pub mod child;
+pub mod survey;
