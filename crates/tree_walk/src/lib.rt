@@ -1,3 +1,4 @@
 // The counts of a cache tree against the entries: refusal 16.
 pub mod child;
+pub mod front;
 pub mod survey;
