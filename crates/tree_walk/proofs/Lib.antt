@@ -2,3 +2,4 @@
 pub mod Siblings
 pub mod Trees
 pub mod Ahead
+pub mod Components

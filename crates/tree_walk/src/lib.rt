@@ -1,4 +1,5 @@
 // The counts of a cache tree against the entries: refusal 16.
 pub mod child;
 pub mod front;
+pub mod look;
 pub mod survey;
