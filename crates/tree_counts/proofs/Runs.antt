@@ -153,7 +153,7 @@ within-sorted q a (s ∷ ss) h =
     (λ e. rw e)
 
 -- a run is of the names of the directory one further down
-enter-begins : (q c s : List ℕ) → begins (enter q c) s ≡ (begins q s && under c (drop (length q) s))
+pub enter-begins : (q c s : List ℕ) → begins (enter q c) s ≡ (begins q s && under c (drop (length q) s))
 enter-begins q c s = begins-append q (c ++ (47 ∷ [])) s ∙ rw (under-begins c (drop (length q) s))
 
 module _ (q c : List ℕ) where

@@ -3,3 +3,4 @@ pub mod Siblings
 pub mod Trees
 pub mod Ahead
 pub mod Components
+pub mod Steps

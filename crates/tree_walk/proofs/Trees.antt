@@ -192,7 +192,7 @@ survey-same a b m n f e i = rw (e, i)
 demand-same : (a b : Bool) (k x y : ℕ) → a ≡ b → x ≡ y → cond a (k + x) 0 ≡ cond b (k + y) 0
 demand-same a b k x y e i = rw (e, i)
 
-reads-at : (s t : List ℕ) (f : Forest) (k j m : ℕ) → Reads s f k m → s ≡ t → k ≡ j → Reads t f j m
+pub reads-at : (s t : List ℕ) (f : Forest) (k j m : ℕ) → Reads s f k m → s ≡ t → k ≡ j → Reads t f j m
 reads-at s t f k j m r e i = rw (← e, ← i) r
 
 module _ (d : List ℕ) (v : Bool) (f : Forest) where

@@ -3,3 +3,4 @@ pub mod child;
 pub mod front;
 pub mod look;
 pub mod survey;
+pub mod walk;

@@ -1,0 +1,703 @@
+use Prim.Native.Nat.{ℕ, _<_}
+use borrow.Fn.Kinds.{In}
+use borrow.Fn.PlainCycle.{Measures, is, falls, and}
+use Rattle.tree_walk.proofs.walk.walk_directory.Reads as walk-directory
+use Rattle.tree_walk.proofs.walk.walk_directory.Kinds as walk-directory-kinds
+use Rattle.tree_walk.proofs.walk.+walk_directory+walk_part.Lts-walk_directory as walk-directory-lts
+use Rattle.tree_walk.proofs.walk.walk_part.Reads as walk-part
+use Rattle.tree_walk.proofs.walk.walk_part.Kinds as walk-part-kinds
+use Rattle.tree_walk.proofs.walk.+walk_directory+walk_part.Lts-walk_part as walk-part-lts
+use Rattle.cache_tree.proofs.node.read_node.Reads as read-node-reads
+use Rattle.tree_walk.proofs.front.advance.Reads as advance-reads
+use Rattle.tree_walk.proofs.front.pass.Reads as pass-reads
+use Rattle.tree_walk.proofs.front.stays.Reads as stays-reads
+use Rattle.tree_walk.proofs.look.look_up.Reads as look-up-reads
+use Rattle.tree_walk.proofs.walk.add_node.Reads as add-node-reads
+use Rattle.tree_walk.proofs.walk.ended.Reads as ended-reads
+use Rattle.tree_walk.proofs.walk.join.Reads as join-reads
+use Rattle.tree_walk.proofs.walk.told.Reads as told-reads
+use Rattle.tree_walk.proofs.walk.+walk_directory+walk_part.{statement}
+use Rattle.tree_walk.proofs.walk.+walk_directory+walk_part.Tie.{close}
+
+abbrev μ-walk-directory : Measures 3 walk-directory-kinds.ps ℕ
+μ-walk-directory κs a = ?
+
+abbrev μ-walk-part : Measures 3 walk-part-kinds.ps ℕ
+μ-walk-part κs a = ?
+
+abbrev walk-directory-at : ℕ → In 3 walk-directory-kinds.ps
+walk-directory-at t =
+    and
+    3
+    walk-directory-kinds.ps
+    (is 3 walk-directory-kinds.ps μ-walk-directory t)
+    walk-directory.Pre
+
+abbrev walk-directory-below : ℕ → In 3 walk-directory-kinds.ps
+walk-directory-below t =
+    and
+    3
+    walk-directory-kinds.ps
+    (falls 3 walk-directory-kinds.ps _<_ μ-walk-directory t)
+    walk-directory.Pre
+
+abbrev walk-part-at : ℕ → In 3 walk-part-kinds.ps
+walk-part-at t = and 3 walk-part-kinds.ps (is 3 walk-part-kinds.ps μ-walk-part t) walk-part.Pre
+
+abbrev walk-part-below : ℕ → In 3 walk-part-kinds.ps
+walk-part-below t =
+    and 3 walk-part-kinds.ps (falls 3 walk-part-kinds.ps _<_ μ-walk-part t) walk-part.Pre
+
+abbrev walk-directory-Inv-loop : walk-directory-lts.InvT-loop
+walk-directory-Inv-loop d at k valid b v work₀ q r₀ front₀ work r front = ?
+
+abbrev walk-directory-μ-loop : walk-directory-lts.MeasureT-loop
+walk-directory-μ-loop d at k valid b v work₀ q r₀ front₀ work r front = ?
+
+-- src/walk.rt:152:9
+walk-directory-walk-part-requires : (t : ℕ) → walk-directory-lts.Need-walk-part-requires (
+  walk-part-below t,
+  walk-part.Post,
+  stays-reads.Asked,
+  stays-reads.Learnt,
+  join-reads.Asked,
+  join-reads.Learnt,
+) (walk-directory-at t) walk-directory.Post walk-directory-Inv-loop walk-directory-μ-loop
+walk-directory-walk-part-requires t c κs = ?
+
+-- src/walk.rt:154:5
+walk-directory-loop-holds : (t : ℕ) → walk-directory-lts.Need-loop-holds (
+  walk-part-below t,
+  walk-part.Post,
+  stays-reads.Asked,
+  stays-reads.Learnt,
+  join-reads.Asked,
+  join-reads.Learnt,
+) (walk-directory-at t) walk-directory.Post walk-directory-Inv-loop walk-directory-μ-loop
+walk-directory-loop-holds t c = ?
+
+-- src/walk.rt:154:11
+walk-directory-stays-requires : (t : ℕ) → walk-directory-lts.Need-stays-requires (
+  walk-part-below t,
+  walk-part.Post,
+  stays-reads.Asked,
+  stays-reads.Learnt,
+  join-reads.Asked,
+  join-reads.Learnt,
+) (walk-directory-at t) walk-directory.Post walk-directory-Inv-loop walk-directory-μ-loop
+walk-directory-stays-requires t c κs = ?
+
+-- src/walk.rt:155:13
+walk-directory-walk-part-requires-2 : (t : ℕ) → walk-directory-lts.Need-walk-part-requires-2 (
+  walk-part-below t,
+  walk-part.Post,
+  stays-reads.Asked,
+  stays-reads.Learnt,
+  join-reads.Asked,
+  join-reads.Learnt,
+) (walk-directory-at t) walk-directory.Post walk-directory-Inv-loop walk-directory-μ-loop
+walk-directory-walk-part-requires-2 t c κs = ?
+
+-- src/walk.rt:156:9
+walk-directory-join-requires : (t : ℕ) → walk-directory-lts.Need-join-requires (
+  walk-part-below t,
+  walk-part.Post,
+  stays-reads.Asked,
+  stays-reads.Learnt,
+  join-reads.Asked,
+  join-reads.Learnt,
+) (walk-directory-at t) walk-directory.Post walk-directory-Inv-loop walk-directory-μ-loop
+walk-directory-join-requires t c κs = ?
+
+-- src/walk.rt:154:5
+walk-directory-loop-less : (t : ℕ) → walk-directory-lts.Need-loop-less (
+  walk-part-below t,
+  walk-part.Post,
+  stays-reads.Asked,
+  stays-reads.Learnt,
+  join-reads.Asked,
+  join-reads.Learnt,
+) (walk-directory-at t) walk-directory.Post walk-directory-Inv-loop walk-directory-μ-loop
+walk-directory-loop-less t c = ?
+
+-- src/walk.rt:154:5
+walk-directory-loop-again : (t : ℕ) → walk-directory-lts.Need-loop-again (
+  walk-part-below t,
+  walk-part.Post,
+  stays-reads.Asked,
+  stays-reads.Learnt,
+  join-reads.Asked,
+  join-reads.Learnt,
+) (walk-directory-at t) walk-directory.Post walk-directory-Inv-loop walk-directory-μ-loop
+walk-directory-loop-again t c = ?
+
+-- src/walk.rt:148:1
+walk-directory-same-length : (t : ℕ) → walk-directory-lts.Need-same-length (
+  walk-part-below t,
+  walk-part.Post,
+  stays-reads.Asked,
+  stays-reads.Learnt,
+  join-reads.Asked,
+  join-reads.Learnt,
+) (walk-directory-at t) walk-directory.Post walk-directory-Inv-loop walk-directory-μ-loop
+walk-directory-same-length t c = ?
+
+-- src/walk.rt:148:1
+walk-directory-returns : (t : ℕ) → walk-directory-lts.Need-returns (
+  walk-part-below t,
+  walk-part.Post,
+  stays-reads.Asked,
+  stays-reads.Learnt,
+  join-reads.Asked,
+  join-reads.Learnt,
+) (walk-directory-at t) walk-directory.Post walk-directory-Inv-loop walk-directory-μ-loop
+walk-directory-returns t c = ?
+
+-- src/walk.rt:123:9
+walk-part-look-up-requires : (t : ℕ) → walk-part-lts.Need-look-up-requires (
+  look-up-reads.Asked,
+  look-up-reads.Learnt,
+  advance-reads.Asked,
+  advance-reads.Learnt,
+  told-reads.Asked,
+  told-reads.Learnt,
+  pass-reads.Asked,
+  pass-reads.Learnt,
+  read-node-reads.Asked,
+  read-node-reads.Learnt,
+  ended-reads.Asked,
+  ended-reads.Learnt,
+  walk-directory-below t,
+  walk-directory.Post,
+  add-node-reads.Asked,
+  add-node-reads.Learnt,
+) (walk-part-at t) walk-part.Post
+walk-part-look-up-requires t c κs = ?
+
+-- src/walk.rt:126:38
+walk-part-enum-told : (t : ℕ) → walk-part-lts.Need-enum-told (
+  look-up-reads.Asked,
+  look-up-reads.Learnt,
+  advance-reads.Asked,
+  advance-reads.Learnt,
+  told-reads.Asked,
+  told-reads.Learnt,
+  pass-reads.Asked,
+  pass-reads.Learnt,
+  read-node-reads.Asked,
+  read-node-reads.Learnt,
+  ended-reads.Asked,
+  ended-reads.Learnt,
+  walk-directory-below t,
+  walk-directory.Post,
+  add-node-reads.Asked,
+  add-node-reads.Learnt,
+) (walk-part-at t) walk-part.Post
+walk-part-enum-told t c = ?
+
+-- src/walk.rt:126:17
+walk-part-advance-requires : (t : ℕ) → walk-part-lts.Need-advance-requires (
+  look-up-reads.Asked,
+  look-up-reads.Learnt,
+  advance-reads.Asked,
+  advance-reads.Learnt,
+  told-reads.Asked,
+  told-reads.Learnt,
+  pass-reads.Asked,
+  pass-reads.Learnt,
+  read-node-reads.Asked,
+  read-node-reads.Learnt,
+  ended-reads.Asked,
+  ended-reads.Learnt,
+  walk-directory-below t,
+  walk-directory.Post,
+  add-node-reads.Asked,
+  add-node-reads.Learnt,
+) (walk-part-at t) walk-part.Post
+walk-part-advance-requires t c κs = ?
+
+-- src/walk.rt:127:13
+walk-part-told-requires : (t : ℕ) → walk-part-lts.Need-told-requires (
+  look-up-reads.Asked,
+  look-up-reads.Learnt,
+  advance-reads.Asked,
+  advance-reads.Learnt,
+  told-reads.Asked,
+  told-reads.Learnt,
+  pass-reads.Asked,
+  pass-reads.Learnt,
+  read-node-reads.Asked,
+  read-node-reads.Learnt,
+  ended-reads.Asked,
+  ended-reads.Learnt,
+  walk-directory-below t,
+  walk-directory.Post,
+  add-node-reads.Asked,
+  add-node-reads.Learnt,
+) (walk-part-at t) walk-part.Post
+walk-part-told-requires t c κs = ?
+
+-- src/walk.rt:129:23
+walk-part-enum-known-look : (t : ℕ) → walk-part-lts.Need-enum-known-look (
+  look-up-reads.Asked,
+  look-up-reads.Learnt,
+  advance-reads.Asked,
+  advance-reads.Learnt,
+  told-reads.Asked,
+  told-reads.Learnt,
+  pass-reads.Asked,
+  pass-reads.Learnt,
+  read-node-reads.Asked,
+  read-node-reads.Learnt,
+  ended-reads.Asked,
+  ended-reads.Learnt,
+  walk-directory-below t,
+  walk-directory.Post,
+  add-node-reads.Asked,
+  add-node-reads.Learnt,
+) (walk-part-at t) walk-part.Post
+walk-part-enum-known-look t c = ?
+
+-- src/walk.rt:130:17
+walk-part-pass-requires : (t : ℕ) → walk-part-lts.Need-pass-requires (
+  look-up-reads.Asked,
+  look-up-reads.Learnt,
+  advance-reads.Asked,
+  advance-reads.Learnt,
+  told-reads.Asked,
+  told-reads.Learnt,
+  pass-reads.Asked,
+  pass-reads.Learnt,
+  read-node-reads.Asked,
+  read-node-reads.Learnt,
+  ended-reads.Asked,
+  ended-reads.Learnt,
+  walk-directory-below t,
+  walk-directory.Post,
+  add-node-reads.Asked,
+  add-node-reads.Learnt,
+) (walk-part-at t) walk-part.Post
+walk-part-pass-requires t c κs = ?
+
+-- src/walk.rt:132:13
+walk-part-told-requires-2 : (t : ℕ) → walk-part-lts.Need-told-requires-2 (
+  look-up-reads.Asked,
+  look-up-reads.Learnt,
+  advance-reads.Asked,
+  advance-reads.Learnt,
+  told-reads.Asked,
+  told-reads.Learnt,
+  pass-reads.Asked,
+  pass-reads.Learnt,
+  read-node-reads.Asked,
+  read-node-reads.Learnt,
+  ended-reads.Asked,
+  ended-reads.Learnt,
+  walk-directory-below t,
+  walk-directory.Post,
+  add-node-reads.Asked,
+  add-node-reads.Learnt,
+) (walk-part-at t) walk-part.Post
+walk-part-told-requires-2 t c κs = ?
+
+-- src/walk.rt:134:21
+walk-part-enum-known-look-2 : (t : ℕ) → walk-part-lts.Need-enum-known-look-2 (
+  look-up-reads.Asked,
+  look-up-reads.Learnt,
+  advance-reads.Asked,
+  advance-reads.Learnt,
+  told-reads.Asked,
+  told-reads.Learnt,
+  pass-reads.Asked,
+  pass-reads.Learnt,
+  read-node-reads.Asked,
+  read-node-reads.Learnt,
+  ended-reads.Asked,
+  ended-reads.Learnt,
+  walk-directory-below t,
+  walk-directory.Post,
+  add-node-reads.Asked,
+  add-node-reads.Learnt,
+) (walk-part-at t) walk-part.Post
+walk-part-enum-known-look-2 t c = ?
+
+-- src/walk.rt:135:17
+walk-part-read-node-requires : (t : ℕ) → walk-part-lts.Need-read-node-requires (
+  look-up-reads.Asked,
+  look-up-reads.Learnt,
+  advance-reads.Asked,
+  advance-reads.Learnt,
+  told-reads.Asked,
+  told-reads.Learnt,
+  pass-reads.Asked,
+  pass-reads.Learnt,
+  read-node-reads.Asked,
+  read-node-reads.Learnt,
+  ended-reads.Asked,
+  ended-reads.Learnt,
+  walk-directory-below t,
+  walk-directory.Post,
+  add-node-reads.Asked,
+  add-node-reads.Learnt,
+) (walk-part-at t) walk-part.Post
+walk-part-read-node-requires t c κs = ?
+
+-- src/walk.rt:137:49
+walk-part-enum-told-2 : (t : ℕ) → walk-part-lts.Need-enum-told-2 (
+  look-up-reads.Asked,
+  look-up-reads.Learnt,
+  advance-reads.Asked,
+  advance-reads.Learnt,
+  told-reads.Asked,
+  told-reads.Learnt,
+  pass-reads.Asked,
+  pass-reads.Learnt,
+  read-node-reads.Asked,
+  read-node-reads.Learnt,
+  ended-reads.Asked,
+  ended-reads.Learnt,
+  walk-directory-below t,
+  walk-directory.Post,
+  add-node-reads.Asked,
+  add-node-reads.Learnt,
+) (walk-part-at t) walk-part.Post
+walk-part-enum-told-2 t c = ?
+
+-- src/walk.rt:137:49
+walk-part-ended-requires : (t : ℕ) → walk-part-lts.Need-ended-requires (
+  look-up-reads.Asked,
+  look-up-reads.Learnt,
+  advance-reads.Asked,
+  advance-reads.Learnt,
+  told-reads.Asked,
+  told-reads.Learnt,
+  pass-reads.Asked,
+  pass-reads.Learnt,
+  read-node-reads.Asked,
+  read-node-reads.Learnt,
+  ended-reads.Asked,
+  ended-reads.Learnt,
+  walk-directory-below t,
+  walk-directory.Post,
+  add-node-reads.Asked,
+  add-node-reads.Learnt,
+) (walk-part-at t) walk-part.Post
+walk-part-ended-requires t c κs = ?
+
+-- src/walk.rt:137:34
+walk-part-told-requires-3 : (t : ℕ) → walk-part-lts.Need-told-requires-3 (
+  look-up-reads.Asked,
+  look-up-reads.Learnt,
+  advance-reads.Asked,
+  advance-reads.Learnt,
+  told-reads.Asked,
+  told-reads.Learnt,
+  pass-reads.Asked,
+  pass-reads.Learnt,
+  read-node-reads.Asked,
+  read-node-reads.Learnt,
+  ended-reads.Asked,
+  ended-reads.Learnt,
+  walk-directory-below t,
+  walk-directory.Post,
+  add-node-reads.Asked,
+  add-node-reads.Learnt,
+) (walk-part-at t) walk-part.Post
+walk-part-told-requires-3 t c κs = ?
+
+-- src/walk.rt:138:32
+walk-part-enum-known-read : (t : ℕ) → walk-part-lts.Need-enum-known-read (
+  look-up-reads.Asked,
+  look-up-reads.Learnt,
+  advance-reads.Asked,
+  advance-reads.Learnt,
+  told-reads.Asked,
+  told-reads.Learnt,
+  pass-reads.Asked,
+  pass-reads.Learnt,
+  read-node-reads.Asked,
+  read-node-reads.Learnt,
+  ended-reads.Asked,
+  ended-reads.Learnt,
+  walk-directory-below t,
+  walk-directory.Post,
+  add-node-reads.Asked,
+  add-node-reads.Learnt,
+) (walk-part-at t) walk-part.Post
+walk-part-enum-known-read t c = ?
+
+-- src/walk.rt:139:25
+walk-part-walk-directory-requires : (t : ℕ) → walk-part-lts.Need-walk-directory-requires (
+  look-up-reads.Asked,
+  look-up-reads.Learnt,
+  advance-reads.Asked,
+  advance-reads.Learnt,
+  told-reads.Asked,
+  told-reads.Learnt,
+  pass-reads.Asked,
+  pass-reads.Learnt,
+  read-node-reads.Asked,
+  read-node-reads.Learnt,
+  ended-reads.Asked,
+  ended-reads.Learnt,
+  walk-directory-below t,
+  walk-directory.Post,
+  add-node-reads.Asked,
+  add-node-reads.Learnt,
+) (walk-part-at t) walk-part.Post
+walk-part-walk-directory-requires t c κs = ?
+
+-- src/walk.rt:140:21
+walk-part-add-node-requires : (t : ℕ) → walk-part-lts.Need-add-node-requires (
+  look-up-reads.Asked,
+  look-up-reads.Learnt,
+  advance-reads.Asked,
+  advance-reads.Learnt,
+  told-reads.Asked,
+  told-reads.Learnt,
+  pass-reads.Asked,
+  pass-reads.Learnt,
+  read-node-reads.Asked,
+  read-node-reads.Learnt,
+  ended-reads.Asked,
+  ended-reads.Learnt,
+  walk-directory-below t,
+  walk-directory.Post,
+  add-node-reads.Asked,
+  add-node-reads.Learnt,
+) (walk-part-at t) walk-part.Post
+walk-part-add-node-requires t c κs = ?
+
+-- src/walk.rt:119:1
+walk-part-same-length : (t : ℕ) → walk-part-lts.Need-same-length (
+  look-up-reads.Asked,
+  look-up-reads.Learnt,
+  advance-reads.Asked,
+  advance-reads.Learnt,
+  told-reads.Asked,
+  told-reads.Learnt,
+  pass-reads.Asked,
+  pass-reads.Learnt,
+  read-node-reads.Asked,
+  read-node-reads.Learnt,
+  ended-reads.Asked,
+  ended-reads.Learnt,
+  walk-directory-below t,
+  walk-directory.Post,
+  add-node-reads.Asked,
+  add-node-reads.Learnt,
+) (walk-part-at t) walk-part.Post
+walk-part-same-length t c = ?
+
+-- src/walk.rt:119:1
+walk-part-returns : (t : ℕ) → walk-part-lts.Need-returns (
+  look-up-reads.Asked,
+  look-up-reads.Learnt,
+  advance-reads.Asked,
+  advance-reads.Learnt,
+  told-reads.Asked,
+  told-reads.Learnt,
+  pass-reads.Asked,
+  pass-reads.Learnt,
+  read-node-reads.Asked,
+  read-node-reads.Learnt,
+  ended-reads.Asked,
+  ended-reads.Learnt,
+  walk-directory-below t,
+  walk-directory.Post,
+  add-node-reads.Asked,
+  add-node-reads.Learnt,
+) (walk-part-at t) walk-part.Post
+walk-part-returns t c = ?
+
+-- src/walk.rt:119:1
+walk-part-same-length-2 : (t : ℕ) → walk-part-lts.Need-same-length-2 (
+  look-up-reads.Asked,
+  look-up-reads.Learnt,
+  advance-reads.Asked,
+  advance-reads.Learnt,
+  told-reads.Asked,
+  told-reads.Learnt,
+  pass-reads.Asked,
+  pass-reads.Learnt,
+  read-node-reads.Asked,
+  read-node-reads.Learnt,
+  ended-reads.Asked,
+  ended-reads.Learnt,
+  walk-directory-below t,
+  walk-directory.Post,
+  add-node-reads.Asked,
+  add-node-reads.Learnt,
+) (walk-part-at t) walk-part.Post
+walk-part-same-length-2 t c = ?
+
+-- src/walk.rt:119:1
+walk-part-returns-2 : (t : ℕ) → walk-part-lts.Need-returns-2 (
+  look-up-reads.Asked,
+  look-up-reads.Learnt,
+  advance-reads.Asked,
+  advance-reads.Learnt,
+  told-reads.Asked,
+  told-reads.Learnt,
+  pass-reads.Asked,
+  pass-reads.Learnt,
+  read-node-reads.Asked,
+  read-node-reads.Learnt,
+  ended-reads.Asked,
+  ended-reads.Learnt,
+  walk-directory-below t,
+  walk-directory.Post,
+  add-node-reads.Asked,
+  add-node-reads.Learnt,
+) (walk-part-at t) walk-part.Post
+walk-part-returns-2 t c = ?
+
+-- src/walk.rt:119:1
+walk-part-same-length-3 : (t : ℕ) → walk-part-lts.Need-same-length-3 (
+  look-up-reads.Asked,
+  look-up-reads.Learnt,
+  advance-reads.Asked,
+  advance-reads.Learnt,
+  told-reads.Asked,
+  told-reads.Learnt,
+  pass-reads.Asked,
+  pass-reads.Learnt,
+  read-node-reads.Asked,
+  read-node-reads.Learnt,
+  ended-reads.Asked,
+  ended-reads.Learnt,
+  walk-directory-below t,
+  walk-directory.Post,
+  add-node-reads.Asked,
+  add-node-reads.Learnt,
+) (walk-part-at t) walk-part.Post
+walk-part-same-length-3 t c = ?
+
+-- src/walk.rt:119:1
+walk-part-returns-3 : (t : ℕ) → walk-part-lts.Need-returns-3 (
+  look-up-reads.Asked,
+  look-up-reads.Learnt,
+  advance-reads.Asked,
+  advance-reads.Learnt,
+  told-reads.Asked,
+  told-reads.Learnt,
+  pass-reads.Asked,
+  pass-reads.Learnt,
+  read-node-reads.Asked,
+  read-node-reads.Learnt,
+  ended-reads.Asked,
+  ended-reads.Learnt,
+  walk-directory-below t,
+  walk-directory.Post,
+  add-node-reads.Asked,
+  add-node-reads.Learnt,
+) (walk-part-at t) walk-part.Post
+walk-part-returns-3 t c = ?
+
+-- src/walk.rt:119:1
+walk-part-same-length-4 : (t : ℕ) → walk-part-lts.Need-same-length-4 (
+  look-up-reads.Asked,
+  look-up-reads.Learnt,
+  advance-reads.Asked,
+  advance-reads.Learnt,
+  told-reads.Asked,
+  told-reads.Learnt,
+  pass-reads.Asked,
+  pass-reads.Learnt,
+  read-node-reads.Asked,
+  read-node-reads.Learnt,
+  ended-reads.Asked,
+  ended-reads.Learnt,
+  walk-directory-below t,
+  walk-directory.Post,
+  add-node-reads.Asked,
+  add-node-reads.Learnt,
+) (walk-part-at t) walk-part.Post
+walk-part-same-length-4 t c = ?
+
+-- src/walk.rt:119:1
+walk-part-returns-4 : (t : ℕ) → walk-part-lts.Need-returns-4 (
+  look-up-reads.Asked,
+  look-up-reads.Learnt,
+  advance-reads.Asked,
+  advance-reads.Learnt,
+  told-reads.Asked,
+  told-reads.Learnt,
+  pass-reads.Asked,
+  pass-reads.Learnt,
+  read-node-reads.Asked,
+  read-node-reads.Learnt,
+  ended-reads.Asked,
+  ended-reads.Learnt,
+  walk-directory-below t,
+  walk-directory.Post,
+  add-node-reads.Asked,
+  add-node-reads.Learnt,
+) (walk-part-at t) walk-part.Post
+walk-part-returns-4 t c = ?
+
+pub +walk-directory+walk-part-spec : {M : Type 1} → statement M
++walk-directory+walk-part-spec = close μ-walk-directory μ-walk-part (λ t. walk-directory-lts.spec (
+  walk-part-below t,
+  walk-part.Post,
+  stays-reads.Asked,
+  stays-reads.Learnt,
+  join-reads.Asked,
+  join-reads.Learnt,
+)
+    (walk-directory-at t)
+    walk-directory.Post
+    walk-directory-Inv-loop
+    walk-directory-μ-loop
+    (walk-directory-walk-part-requires t)
+    (walk-directory-loop-holds t)
+    (walk-directory-stays-requires t)
+    (walk-directory-walk-part-requires-2 t)
+    (walk-directory-join-requires t)
+    (walk-directory-loop-less t)
+    (walk-directory-loop-again t)
+    (walk-directory-same-length t)
+    (walk-directory-returns t))
+    λ t. walk-part-lts.spec (
+      look-up-reads.Asked,
+      look-up-reads.Learnt,
+      advance-reads.Asked,
+      advance-reads.Learnt,
+      told-reads.Asked,
+      told-reads.Learnt,
+      pass-reads.Asked,
+      pass-reads.Learnt,
+      read-node-reads.Asked,
+      read-node-reads.Learnt,
+      ended-reads.Asked,
+      ended-reads.Learnt,
+      walk-directory-below t,
+      walk-directory.Post,
+      add-node-reads.Asked,
+      add-node-reads.Learnt,
+    )
+    (walk-part-at t)
+    walk-part.Post
+    (walk-part-look-up-requires t)
+    (walk-part-enum-told t)
+    (walk-part-advance-requires t)
+    (walk-part-told-requires t)
+    (walk-part-enum-known-look t)
+    (walk-part-pass-requires t)
+    (walk-part-told-requires-2 t)
+    (walk-part-enum-known-look-2 t)
+    (walk-part-read-node-requires t)
+    (walk-part-enum-told-2 t)
+    (walk-part-ended-requires t)
+    (walk-part-told-requires-3 t)
+    (walk-part-enum-known-read t)
+    (walk-part-walk-directory-requires t)
+    (walk-part-add-node-requires t)
+    (walk-part-same-length t)
+    (walk-part-returns t)
+    (walk-part-same-length-2 t)
+    (walk-part-returns-2 t)
+    (walk-part-same-length-3 t)
+    (walk-part-returns-3 t)
+    (walk-part-same-length-4 t)
+    (walk-part-returns-4 t)
