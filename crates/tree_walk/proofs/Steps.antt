@@ -74,6 +74,9 @@ module _ (c : List ℕ) (f : Forest) (free : (s : List ℕ) → under c s ≡ tr
 
 -- ---- one part of a directory
 
+pub part-in : (q c x : List ℕ) → begins q x ≡ true → under c (drop (length q) x) ≡ true → begins (enter q c) x ≡ true
+part-in q c x in-q uc = enter-begins q c x ∙ ap₂ _&&_ in-q uc
+
 module _ (valid : Bool) (f : Forest) (q x : List ℕ) (xs whole done : List (List ℕ)) (v : ℕ) (b work : List ℕ) (r : Tally)
     (in-q : begins q x ≡ true) (h : Passed f q whole done (x ∷ xs)) where
   -- a name with no further "/"
@@ -92,8 +95,8 @@ module _ (valid : Bool) (f : Forest) (q x : List ℕ) (xs whole done : List (Lis
 
   -- the names under the component c
   module _ (sound : Sound f) (c : List ℕ) (lc : lacks 47 c ≡ true) (uc : under c (drop (length q) x) ≡ true) where
-    pub part-in : begins (enter q c) x ≡ true
-    part-in = enter-begins q c x ∙ ap₂ _&&_ in-q uc
+    in-part : begins (enter q c) x ≡ true
+    in-part = part-in q c x in-q uc
 
     part-last : (s : List ℕ) → begins (enter q c) s ≡ true → begins q s ≡ true
     part-last s i = and-inv (begins q s) (under c (drop (length q) s)) (sym (enter-begins q c s) ∙ i) .0
@@ -103,7 +106,7 @@ module _ (valid : Bool) (f : Forest) (q x : List ℕ) (xs whole done : List (Lis
 
     run-some : 1 ≤ length (runIn q c (x ∷ xs))
     unfolding runIn span
-    run-some = rw part-in (omega arith)
+    run-some = rw in-part (omega arith)
 
     -- where no sibling has it
     pub moved-missing : child c f ≡ none → r .ok ≡ not valid → r .met ≡ 0 → r .count ≡ length (within (enter q c) (x ∷ xs))
@@ -129,13 +132,13 @@ module _ (valid : Bool) (f : Forest) (q x : List ℕ) (xs whole done : List (Lis
         → r .count ≡ w .count → r .front ≡ w .front → Moved valid f q whole done v b work r
     moved-found t found a sorted w tally ok met count front =
         let m : matched (done ++ runIn q c (x ∷ xs)) f ≡ matched done f + (weight (t .root .count) + w .met) =
-            matched-run f q c a whole done x xs t lc found sorted part-in h sound ∙ rw (tally .met) in
+            matched-run f q c a whole done x xs t lc found sorted in-part h sound ∙ rw (tally .met) in
         record {
           now-done = done ++ runIn q c (x ∷ xs);
           rest = beyond (begins (enter q c)) (x ∷ xs);
           last = tally .left .last;
-          passed = passed-run f q c a whole done x xs t lc found sorted part-in h;
-          ok = judge-run f q c a whole done x xs t lc found sorted part-in h sound valid ∙ rw (ok, tally .ok, tally .count);
+          passed = passed-run f q c a whole done x xs t lc found sorted in-part h;
+          ok = judge-run f q c a whole done x xs t lc found sorted in-part h sound valid ∙ rw (ok, tally .ok, tally .count);
           met = m ∙ ap (λ (n : ℕ). matched done f + n) (sym (met (omega (arith, matched-most (done ++ runIn q c (x ∷ xs)) f))));
           count = length-append done (runIn q c (x ∷ xs)) ∙ omega (arith, count, tally .count, run-length);
           in-it = part-last (tally .left .last) (tally .left .in-it);

@@ -161,7 +161,7 @@ node-at node place own h r q e =
     says-is (valid n) m = refl
     says-is invalid m = refl
 
-no-bad : (place own : ℕ) (h : Head) (r : Read Head) → r ≡ good h own → R.Bad ≡ nodeAt place r → ⊥
+pub no-bad : (place own : ℕ) (h : Head) (r : Read Head) → r ≡ good h own → R.Bad ≡ nodeAt place r → ⊥
 unfolding nodeAt
 no-bad place own h r q e = let z : _≡_ {A = ℕ} 0 1 = bad-good (e ∙ ap (nodeAt place) q) in omega arith
   where

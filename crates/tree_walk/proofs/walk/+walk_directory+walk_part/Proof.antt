@@ -1,4 +1,12 @@
-use Prim.Native.Nat.{ℕ, _<_}
+use mathlib.Core.Path.{_≡_, refl, sym, ap, _∙_}
+use native.Mathlib.Omega.{arith}
+use denote.Ref.{now}
+use borrow.Author.Needs.{needs}
+use lib.ListN.{length}
+use Rattle.cache_tree.proofs.Nodes.{node-is}
+use Rattle.tree_walk.proofs.Ahead.{stays-some}
+use Rattle.tree_walk.proofs.Parts.{part-file, part-missing, part-lost, part-found, Looping, loop-start, loop-ready, loop-on, loop-end}
+use Prim.Native.Nat.{ℕ, _+_, _*_, _-_, _≤_, _<_}
 use borrow.Fn.Kinds.{In}
 use borrow.Fn.PlainCycle.{Measures, is, falls, and}
 use Rattle.tree_walk.proofs.walk.walk_directory.Reads as walk-directory
@@ -20,10 +28,10 @@ use Rattle.tree_walk.proofs.walk.+walk_directory+walk_part.{statement}
 use Rattle.tree_walk.proofs.walk.+walk_directory+walk_part.Tie.{close}
 
 abbrev μ-walk-directory : Measures 3 walk-directory-kinds.ps ℕ
-μ-walk-directory κs a = ?
+μ-walk-directory κs a = 2 * (length (now (a .0)) - a .1 .0) + 1
 
 abbrev μ-walk-part : Measures 3 walk-part-kinds.ps ℕ
-μ-walk-part κs a = ?
+μ-walk-part κs a = 2 * (length (now (a .0)) - a .1 .0)
 
 abbrev walk-directory-at : ℕ → In 3 walk-directory-kinds.ps
 walk-directory-at t =
@@ -49,10 +57,11 @@ walk-part-below t =
     and 3 walk-part-kinds.ps (falls 3 walk-part-kinds.ps _<_ μ-walk-part t) walk-part.Pre
 
 abbrev walk-directory-Inv-loop : walk-directory-lts.InvT-loop
-walk-directory-Inv-loop d at k valid b v work₀ q r₀ front₀ work r front = ?
+walk-directory-Inv-loop d at k valid b v work₀ q r₀ front₀ work r front =
+    (front ≡ r .front) × (r₀ .count + r₀ .front .ahead ≤ 4294967296) × (8192 ≤ length work₀) × Looping d at k valid b v work₀ q r₀ work r
 
 abbrev walk-directory-μ-loop : walk-directory-lts.MeasureT-loop
-walk-directory-μ-loop d at k valid b v work₀ q r₀ front₀ work r front = ?
+walk-directory-μ-loop d at k valid b v work₀ q r₀ front₀ work r front = front .ahead
 
 -- src/walk.rt:152:9
 walk-directory-walk-part-requires : (t : ℕ) → walk-directory-lts.Need-walk-part-requires (
@@ -63,7 +72,10 @@ walk-directory-walk-part-requires : (t : ℕ) → walk-directory-lts.Need-walk-p
   join-reads.Asked,
   join-reads.Learnt,
 ) (walk-directory-at t) walk-directory.Post walk-directory-Inv-loop walk-directory-μ-loop
-walk-directory-walk-part-requires t c κs = ?
+walk-directory-walk-part-requires t c κs =
+    let st = c .before .before .before .before in
+    let ready = st .pre .1 in
+    (omega (arith, st .pre .0), (ready, omega arith, ready .inside))
 
 -- src/walk.rt:154:5
 walk-directory-loop-holds : (t : ℕ) → walk-directory-lts.Need-loop-holds (
@@ -74,7 +86,12 @@ walk-directory-loop-holds : (t : ℕ) → walk-directory-lts.Need-loop-holds (
   join-reads.Asked,
   join-reads.Learnt,
 ) (walk-directory-at t) walk-directory.Post walk-directory-Inv-loop walk-directory-μ-loop
-walk-directory-loop-holds t c = ?
+walk-directory-loop-holds t c =
+    let w = c .before .before .before in
+    let part = w .walk-part .ensures in
+    let st = w .before .before .before .before .before in
+    let ready = st .pre .1 in
+    (refl, omega (arith, part .kept .fewer, ready .fits .few), omega (arith, part .kept .long, ready .room), loop-start _ _ _ _ _ _ _ _ _ (part .kept .fits) (part .kept .least) (part .kept .most))
 
 -- src/walk.rt:154:11
 walk-directory-stays-requires : (t : ℕ) → walk-directory-lts.Need-stays-requires (
@@ -85,7 +102,7 @@ walk-directory-stays-requires : (t : ℕ) → walk-directory-lts.Need-stays-requ
   join-reads.Asked,
   join-reads.Learnt,
 ) (walk-directory-at t) walk-directory.Post walk-directory-Inv-loop walk-directory-μ-loop
-walk-directory-stays-requires t c κs = ?
+walk-directory-stays-requires t c κs = search needs
 
 -- src/walk.rt:155:13
 walk-directory-walk-part-requires-2 : (t : ℕ) → walk-directory-lts.Need-walk-part-requires-2 (
@@ -96,7 +113,14 @@ walk-directory-walk-part-requires-2 : (t : ℕ) → walk-directory-lts.Need-walk
   join-reads.Asked,
   join-reads.Learnt,
 ) (walk-directory-at t) walk-directory.Post walk-directory-Inv-loop walk-directory-μ-loop
-walk-directory-walk-part-requires-2 t c κs = ?
+walk-directory-walk-part-requires-2 t c κs =
+    let l = c .before .before .before in
+    let st = l .before .before .before .before .before .before .before .before .before in
+    let ready = st .pre .1 in
+    let same = l .loop .inv .0 in
+    let h = l .loop .inv .3 in
+    let on = rw same at (sym (c .before .before .stays .ensures) ∙ c .before .if1 .taken) in
+    (omega (arith, st .pre .0), (rw same (loop-ready _ _ _ _ _ _ _ _ _ _ _ h _ _ ready (l .loop .inv .2) on), h .least, h .most))
 
 -- src/walk.rt:156:9
 walk-directory-join-requires : (t : ℕ) → walk-directory-lts.Need-join-requires (
@@ -107,7 +131,15 @@ walk-directory-join-requires : (t : ℕ) → walk-directory-lts.Need-join-requir
   join-reads.Asked,
   join-reads.Learnt,
 ) (walk-directory-at t) walk-directory.Post walk-directory-Inv-loop walk-directory-μ-loop
-walk-directory-join-requires t c κs = ?
+walk-directory-join-requires t c κs =
+    let l = c .before .before .before .before .before .before in
+    let st = l .before .before .before .before .before .before .before .before .before in
+    let ready = st .pre .1 in
+    let same = l .loop .inv .0 in
+    let h = l .loop .inv .3 in
+    let part = c .before .before .walk-part2 .ensures in
+    let fewer = rw same at (part .kept .fewer) in
+    omega (arith, h .fewer, l .loop .inv .1)
 
 -- src/walk.rt:154:5
 walk-directory-loop-less : (t : ℕ) → walk-directory-lts.Need-loop-less (
@@ -118,7 +150,14 @@ walk-directory-loop-less : (t : ℕ) → walk-directory-lts.Need-loop-less (
   join-reads.Asked,
   join-reads.Learnt,
 ) (walk-directory-at t) walk-directory.Post walk-directory-Inv-loop walk-directory-μ-loop
-walk-directory-loop-less t c = ?
+walk-directory-loop-less t c =
+    let l = c .before .before .before .before .before .before .before .before in
+    let st = l .before .before .before .before .before .before .before .before .before in
+    let ready = st .pre .1 in
+    let same = l .loop .inv .0 in
+    let h = l .loop .inv .3 in
+    let part = c .before .before .before .before .walk-part2 .ensures in
+    rw (c .before .join .ensures .front) (part .kept .less)
 
 -- src/walk.rt:154:5
 walk-directory-loop-again : (t : ℕ) → walk-directory-lts.Need-loop-again (
@@ -129,7 +168,15 @@ walk-directory-loop-again : (t : ℕ) → walk-directory-lts.Need-loop-again (
   join-reads.Asked,
   join-reads.Learnt,
 ) (walk-directory-at t) walk-directory.Post walk-directory-Inv-loop walk-directory-μ-loop
-walk-directory-loop-again t c = ?
+walk-directory-loop-again t c =
+    let l = c .before .before .before .before .before .before .before .before in
+    let st = l .before .before .before .before .before .before .before .before .before in
+    let ready = st .pre .1 in
+    let same = l .loop .inv .0 in
+    let h = l .loop .inv .3 in
+    let part = rw same at (c .before .before .before .before .walk-part2 .ensures) in
+    let on = rw same at (sym (c .before .before .before .before .before .before .before .stays .ensures) ∙ c .before .before .before .before .before .before .if1 .taken) in
+    (refl, l .loop .inv .1, l .loop .inv .2, loop-on _ _ _ _ _ _ _ _ _ _ _ h (ready .small) on _ _ _ part (c .before .join .ensures))
 
 -- src/walk.rt:148:1
 walk-directory-same-length : (t : ℕ) → walk-directory-lts.Need-same-length (
@@ -140,7 +187,7 @@ walk-directory-same-length : (t : ℕ) → walk-directory-lts.Need-same-length (
   join-reads.Asked,
   join-reads.Learnt,
 ) (walk-directory-at t) walk-directory.Post walk-directory-Inv-loop walk-directory-μ-loop
-walk-directory-same-length t c = ?
+walk-directory-same-length t c = c .before .before .loop .inv .3 .long ∙ c .before .before .before .before .before .before .walk-part .ensures .kept .long
 
 -- src/walk.rt:148:1
 walk-directory-returns : (t : ℕ) → walk-directory-lts.Need-returns (
@@ -151,7 +198,15 @@ walk-directory-returns : (t : ℕ) → walk-directory-lts.Need-returns (
   join-reads.Asked,
   join-reads.Learnt,
 ) (walk-directory-at t) walk-directory.Post walk-directory-Inv-loop walk-directory-μ-loop
-walk-directory-returns t c = ?
+walk-directory-returns t c =
+    let l = c .before .before in
+    let st = l .before .before .before .before .before .before .before .before .before in
+    let ready = st .pre .1 in
+    let same = l .loop .inv .0 in
+    let h = l .loop .inv .3 in
+    let part = l .before .before .before .before .walk-part .ensures in
+    let off = rw same at (sym (c .before .stays .ensures) ∙ c .if1 .left) in
+    loop-end _ _ _ _ _ _ _ _ _ _ _ h off _ _ part
 
 -- src/walk.rt:123:9
 walk-part-look-up-requires : (t : ℕ) → walk-part-lts.Need-look-up-requires (
@@ -172,7 +227,7 @@ walk-part-look-up-requires : (t : ℕ) → walk-part-lts.Need-look-up-requires (
   add-node-reads.Asked,
   add-node-reads.Learnt,
 ) (walk-part-at t) walk-part.Post
-walk-part-look-up-requires t c κs = ?
+walk-part-look-up-requires t c κs = search needs
 
 -- src/walk.rt:126:38
 walk-part-enum-told : (t : ℕ) → walk-part-lts.Need-enum-told (
@@ -193,7 +248,7 @@ walk-part-enum-told : (t : ℕ) → walk-part-lts.Need-enum-told (
   add-node-reads.Asked,
   add-node-reads.Learnt,
 ) (walk-part-at t) walk-part.Post
-walk-part-enum-told t c = ?
+walk-part-enum-told t c = search needs
 
 -- src/walk.rt:126:17
 walk-part-advance-requires : (t : ℕ) → walk-part-lts.Need-advance-requires (
@@ -214,7 +269,7 @@ walk-part-advance-requires : (t : ℕ) → walk-part-lts.Need-advance-requires (
   add-node-reads.Asked,
   add-node-reads.Learnt,
 ) (walk-part-at t) walk-part.Post
-walk-part-advance-requires t c κs = ?
+walk-part-advance-requires t c κs = search needs
 
 -- src/walk.rt:127:13
 walk-part-told-requires : (t : ℕ) → walk-part-lts.Need-told-requires (
@@ -235,7 +290,7 @@ walk-part-told-requires : (t : ℕ) → walk-part-lts.Need-told-requires (
   add-node-reads.Asked,
   add-node-reads.Learnt,
 ) (walk-part-at t) walk-part.Post
-walk-part-told-requires t c κs = ?
+walk-part-told-requires t c κs = search needs
 
 -- src/walk.rt:129:23
 walk-part-enum-known-look : (t : ℕ) → walk-part-lts.Need-enum-known-look (
@@ -256,7 +311,7 @@ walk-part-enum-known-look : (t : ℕ) → walk-part-lts.Need-enum-known-look (
   add-node-reads.Asked,
   add-node-reads.Learnt,
 ) (walk-part-at t) walk-part.Post
-walk-part-enum-known-look t c = ?
+walk-part-enum-known-look t c = search needs
 
 -- src/walk.rt:130:17
 walk-part-pass-requires : (t : ℕ) → walk-part-lts.Need-pass-requires (
@@ -277,7 +332,7 @@ walk-part-pass-requires : (t : ℕ) → walk-part-lts.Need-pass-requires (
   add-node-reads.Asked,
   add-node-reads.Learnt,
 ) (walk-part-at t) walk-part.Post
-walk-part-pass-requires t c κs = ?
+walk-part-pass-requires t c κs = search needs
 
 -- src/walk.rt:132:13
 walk-part-told-requires-2 : (t : ℕ) → walk-part-lts.Need-told-requires-2 (
@@ -298,7 +353,7 @@ walk-part-told-requires-2 : (t : ℕ) → walk-part-lts.Need-told-requires-2 (
   add-node-reads.Asked,
   add-node-reads.Learnt,
 ) (walk-part-at t) walk-part.Post
-walk-part-told-requires-2 t c κs = ?
+walk-part-told-requires-2 t c κs = search needs
 
 -- src/walk.rt:134:21
 walk-part-enum-known-look-2 : (t : ℕ) → walk-part-lts.Need-enum-known-look-2 (
@@ -319,7 +374,7 @@ walk-part-enum-known-look-2 : (t : ℕ) → walk-part-lts.Need-enum-known-look-2
   add-node-reads.Asked,
   add-node-reads.Learnt,
 ) (walk-part-at t) walk-part.Post
-walk-part-enum-known-look-2 t c = ?
+walk-part-enum-known-look-2 t c = search needs
 
 -- src/walk.rt:135:17
 walk-part-read-node-requires : (t : ℕ) → walk-part-lts.Need-read-node-requires (
@@ -340,7 +395,9 @@ walk-part-read-node-requires : (t : ℕ) → walk-part-lts.Need-read-node-requir
   add-node-reads.Asked,
   add-node-reads.Learnt,
 ) (walk-part-at t) walk-part.Post
-walk-part-read-node-requires t c κs = ?
+walk-part-read-node-requires t c κs =
+    let look = rw (c .before .look2 .given .1) at (c .before .before .before .look-up .ensures) in
+    look .most
 
 -- src/walk.rt:137:49
 walk-part-enum-told-2 : (t : ℕ) → walk-part-lts.Need-enum-told-2 (
@@ -361,7 +418,7 @@ walk-part-enum-told-2 : (t : ℕ) → walk-part-lts.Need-enum-told-2 (
   add-node-reads.Asked,
   add-node-reads.Learnt,
 ) (walk-part-at t) walk-part.Post
-walk-part-enum-told-2 t c = ?
+walk-part-enum-told-2 t c = search needs
 
 -- src/walk.rt:137:49
 walk-part-ended-requires : (t : ℕ) → walk-part-lts.Need-ended-requires (
@@ -382,7 +439,7 @@ walk-part-ended-requires : (t : ℕ) → walk-part-lts.Need-ended-requires (
   add-node-reads.Asked,
   add-node-reads.Learnt,
 ) (walk-part-at t) walk-part.Post
-walk-part-ended-requires t c κs = ?
+walk-part-ended-requires t c κs = search needs
 
 -- src/walk.rt:137:34
 walk-part-told-requires-3 : (t : ℕ) → walk-part-lts.Need-told-requires-3 (
@@ -403,7 +460,7 @@ walk-part-told-requires-3 : (t : ℕ) → walk-part-lts.Need-told-requires-3 (
   add-node-reads.Asked,
   add-node-reads.Learnt,
 ) (walk-part-at t) walk-part.Post
-walk-part-told-requires-3 t c κs = ?
+walk-part-told-requires-3 t c κs = search needs
 
 -- src/walk.rt:138:32
 walk-part-enum-known-read : (t : ℕ) → walk-part-lts.Need-enum-known-read (
@@ -424,7 +481,7 @@ walk-part-enum-known-read : (t : ℕ) → walk-part-lts.Need-enum-known-read (
   add-node-reads.Asked,
   add-node-reads.Learnt,
 ) (walk-part-at t) walk-part.Post
-walk-part-enum-known-read t c = ?
+walk-part-enum-known-read t c = search needs
 
 -- src/walk.rt:139:25
 walk-part-walk-directory-requires : (t : ℕ) → walk-part-lts.Need-walk-directory-requires (
@@ -445,7 +502,15 @@ walk-part-walk-directory-requires : (t : ℕ) → walk-part-lts.Need-walk-direct
   add-node-reads.Asked,
   add-node-reads.Learnt,
 ) (walk-part-at t) walk-part.Post
-walk-part-walk-directory-requires t c κs = ?
+walk-part-walk-directory-requires t c κs =
+    let k = c .before .before .before .before .before in
+    let u = k .before .before .before in
+    let st = u .before .before .before .before .before in
+    let ready = st .pre .1 .0 in
+    let look = rw (k .before .look2 .given .1) at (u .look-up .ensures) in
+    let is = node-is _ _ (look .most) _ (sym (c .before .before .read .given .1) ∙ c .before .before .before .before .read-node .ensures) in
+    (omega (arith, st .pre .0, look .least, is .named, is .ended, is .within),
+    record { inside = is .within; small = ready .small; fits = ready .fits; room = ready .room; some = ready .some; long = look .within })
 
 -- src/walk.rt:140:21
 walk-part-add-node-requires : (t : ℕ) → walk-part-lts.Need-add-node-requires (
@@ -466,7 +531,7 @@ walk-part-add-node-requires : (t : ℕ) → walk-part-lts.Need-add-node-requires
   add-node-reads.Asked,
   add-node-reads.Learnt,
 ) (walk-part-at t) walk-part.Post
-walk-part-add-node-requires t c κs = ?
+walk-part-add-node-requires t c κs = search needs
 
 -- src/walk.rt:119:1
 walk-part-same-length : (t : ℕ) → walk-part-lts.Need-same-length (
@@ -487,7 +552,7 @@ walk-part-same-length : (t : ℕ) → walk-part-lts.Need-same-length (
   add-node-reads.Asked,
   add-node-reads.Learnt,
 ) (walk-part-at t) walk-part.Post
-walk-part-same-length t c = ?
+walk-part-same-length t c = search needs
 
 -- src/walk.rt:119:1
 walk-part-returns : (t : ℕ) → walk-part-lts.Need-returns (
@@ -508,7 +573,11 @@ walk-part-returns : (t : ℕ) → walk-part-lts.Need-returns (
   add-node-reads.Asked,
   add-node-reads.Learnt,
 ) (walk-part-at t) walk-part.Post
-walk-part-returns t c = ?
+walk-part-returns t c =
+    let u = c .before .before .before .before .before .before .before in
+    let st = u .before .before .before .before .before in
+    let look = rw (c .before .before .before .before .before .enum-told .given .1) at (u .look-up .ensures) in
+    rw (c .told .ensures) (part-file _ _ _ _ _ _ _ _ _ _ _ _ (st .pre .1 .0) (st .pre .1 .1) (st .pre .1 .2) look _ (c .before .before .before .advance .ensures))
 
 -- src/walk.rt:119:1
 walk-part-same-length-2 : (t : ℕ) → walk-part-lts.Need-same-length-2 (
@@ -529,7 +598,7 @@ walk-part-same-length-2 : (t : ℕ) → walk-part-lts.Need-same-length-2 (
   add-node-reads.Asked,
   add-node-reads.Learnt,
 ) (walk-part-at t) walk-part.Post
-walk-part-same-length-2 t c = ?
+walk-part-same-length-2 t c = search needs
 
 -- src/walk.rt:119:1
 walk-part-returns-2 : (t : ℕ) → walk-part-lts.Need-returns-2 (
@@ -550,7 +619,11 @@ walk-part-returns-2 : (t : ℕ) → walk-part-lts.Need-returns-2 (
   add-node-reads.Asked,
   add-node-reads.Learnt,
 ) (walk-part-at t) walk-part.Post
-walk-part-returns-2 t c = ?
+walk-part-returns-2 t c =
+    let u = c .before .before .before .before .before .before .before .before .before in
+    let st = u .before .before .before .before .before in
+    let look = rw (c .before .before .before .before .before .before .before .look .given .1) at (u .look-up .ensures) in
+    rw (c .told2 .ensures) (part-missing _ _ _ _ _ _ _ _ _ _ _ _ (st .pre .1 .0) (st .pre .1 .1) (st .pre .1 .2) _ look _ (c .before .before .before .before .pass .ensures))
 
 -- src/walk.rt:119:1
 walk-part-same-length-3 : (t : ℕ) → walk-part-lts.Need-same-length-3 (
@@ -571,7 +644,7 @@ walk-part-same-length-3 : (t : ℕ) → walk-part-lts.Need-same-length-3 (
   add-node-reads.Asked,
   add-node-reads.Learnt,
 ) (walk-part-at t) walk-part.Post
-walk-part-same-length-3 t c = ?
+walk-part-same-length-3 t c = search needs
 
 -- src/walk.rt:119:1
 walk-part-returns-3 : (t : ℕ) → walk-part-lts.Need-returns-3 (
@@ -592,7 +665,12 @@ walk-part-returns-3 : (t : ℕ) → walk-part-lts.Need-returns-3 (
   add-node-reads.Asked,
   add-node-reads.Learnt,
 ) (walk-part-at t) walk-part.Post
-walk-part-returns-3 t c = ?
+walk-part-returns-3 t c =
+    let k = c .before .before .before .before .before in
+    let u = k .before .before .before in
+    let st = u .before .before .before .before .before in
+    let look = rw (k .before .look2 .given .1) at (u .look-up .ensures) in
+    rw (c .told3 .ensures, c .before .ended .ensures) (part-lost _ _ _ _ _ _ _ _ _ _ _ (st .args .work .now) (st .pre .1 .0) (st .pre .1 .1) (st .pre .1 .2) _ _ _ look (sym (c .before .before .enum-told2 .given .1) ∙ c .before .before .before .before .read-node .ensures))
 
 -- src/walk.rt:119:1
 walk-part-same-length-4 : (t : ℕ) → walk-part-lts.Need-same-length-4 (
@@ -613,7 +691,7 @@ walk-part-same-length-4 : (t : ℕ) → walk-part-lts.Need-same-length-4 (
   add-node-reads.Asked,
   add-node-reads.Learnt,
 ) (walk-part-at t) walk-part.Post
-walk-part-same-length-4 t c = ?
+walk-part-same-length-4 t c = c .before .before .before .walk-directory .ensures .kept .long
 
 -- src/walk.rt:119:1
 walk-part-returns-4 : (t : ℕ) → walk-part-lts.Need-returns-4 (
@@ -634,7 +712,12 @@ walk-part-returns-4 : (t : ℕ) → walk-part-lts.Need-returns-4 (
   add-node-reads.Asked,
   add-node-reads.Learnt,
 ) (walk-part-at t) walk-part.Post
-walk-part-returns-4 t c = ?
+walk-part-returns-4 t c =
+    let k = c .before .before .before .before .before .before .before .before .before in
+    let u = k .before .before .before in
+    let st = u .before .before .before .before .before in
+    let look = rw (k .before .look2 .given .1) at (u .look-up .ensures) in
+    part-found _ _ _ _ _ _ _ _ _ _ _ _ (st .pre .1 .0) (st .pre .1 .1) (st .pre .1 .2) _ _ _ look _ (sym (c .before .before .before .before .before .before .read .given .1) ∙ c .before .before .before .before .before .before .before .before .read-node .ensures) _ (c .before .before .before .walk-directory .ensures) _ (c .add-node .ensures)
 
 pub +walk-directory+walk-part-spec : {M : Type 1} → statement M
 +walk-directory+walk-part-spec = close μ-walk-directory μ-walk-part (λ t. walk-directory-lts.spec (
