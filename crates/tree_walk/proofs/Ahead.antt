@@ -135,9 +135,11 @@ module _ (v : ℕ) (b : List ℕ) (q : List ℕ) (xs : List (List ℕ)) where
     pass-end x i e =
         let out : leads (begins q) (h .rest) ≡ false = sym (stays-is v b work s (h .last) q (h .rest) (h .after) (h .in-it)) ∙ e in
         let n : length (within q (h .rest)) ≡ 0 = ap length (within-end q (h .rest) out) in
-        let m : length (within q (x ∷ xs)) ≡ 1 + length (within q xs) = ap length (within-step q x xs i) ∙ omega arith in
-        (omega (arith, h .counted), record {
-          last = h .last;
-          in-it = h .in-it;
-          after = subst (After v b work s (h .last)) (sym (beyond-end (begins q) (h .rest) out) ∙ h .left ∙ sym (beyond-step q x xs i)) (h .after);
-        })
+        let m : length (within q (x ∷ xs)) ≡ 1 + length (within q xs) = ap length (within-step q x xs i) ∙ omega arith in (
+          omega (arith, h .counted),
+          record {
+            last = h .last;
+            in-it = h .in-it;
+            after = subst (After v b work s (h .last)) (sym (beyond-end (begins q) (h .rest) out) ∙ h .left ∙ sym (beyond-step q x xs i)) (h .after);
+          },
+        )

@@ -5,3 +5,4 @@ pub mod Ahead
 pub mod Components
 pub mod Steps
 pub mod Parts
+pub mod Wholes

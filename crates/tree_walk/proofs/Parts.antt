@@ -1,16 +1,16 @@
 -- What the walk leaves behind of one part of a directory, by what was found of it.
 use mathlib.Core.Path.{_≡_, refl, sym, ap, subst, _∙_}
 use mathlib.Core.List.{List, [], _∷_, _++_}
-use mathlib.Core.Bool.{Bool, true, false, cond, not, _&&_}
+use mathlib.Core.Bool.{Bool, true, false, not, _&&_}
 use mathlib.Core.Option.{none, some}
-use Prim.Native.Nat.{ℕ, _+_, _-_, _≤_, _<_}
+use Prim.Native.Nat.{ℕ, _+_, _-_, _≤_}
 use native.Mathlib.Omega.{arith}
 use lib.ListN.{length, drop, length-append, length-drop}
-use lib.Dec.{eqb, leb, ltb}
+use lib.Dec.{leb, ltb}
 use borrow.Author.Tests.{leb-true}
 use Rattle.format.specs.Bytes.{lacks}
-use Rattle.format.specs.Records.{Forest, nil, Tree}
-use Rattle.format.specs.Layout.{bit, distinct, under}
+use Rattle.format.specs.Records.{Forest, nil}
+use Rattle.format.specs.Layout.{distinct, under}
 use Rattle.format.specs.Reader.{readNode}
 use Rattle.cache_tree.specs.declared.node.Node.{Node}
 use Rattle.cache_tree.specs.declared.node.NodeRead.the-variants as R
@@ -18,8 +18,8 @@ use Rattle.cache_tree.specs.Answers.{nodeAt}
 use Rattle.cache_tree.proofs.Readings.{drop-to}
 use Rattle.cache_tree.proofs.Flat.{Reads, reads-none}
 use Rattle.entries_run.specs.Steps.{nameAt}
-use Rattle.tree_counts.specs.Judge.{isValid, says, weight, positive, child}
-use Rattle.tree_counts.specs.Runs.{sortedFrom, begins, within, enter, Passed}
+use Rattle.tree_counts.specs.Judge.{isValid, says, child}
+use Rattle.tree_counts.specs.Runs.{sortedFrom, begins, enter, Passed}
 use Rattle.tree_counts.proofs.Tests.{and-inv}
 use Rattle.tree_counts.proofs.Siblings.{Sound}
 use Rattle.tree_counts.proofs.Walk.{child-sound}
@@ -30,10 +30,10 @@ use Rattle.tree_walk.specs.declared.front.Passage.{Passage}
 use Rattle.tree_walk.specs.declared.look.Look.{Look}
 use Rattle.tree_walk.specs.declared.look.Look.the-variants as L
 use Rattle.tree_walk.specs.declared.walk.Tally.{Tally}
-use Rattle.tree_walk.specs.Siblings.{TreeAt, Last, FoundAt}
-use Rattle.tree_walk.specs.Ahead.{Fits, Ahead, Advanced, Left, Went}
+use Rattle.tree_walk.specs.Siblings.{Last, FoundAt}
+use Rattle.tree_walk.specs.Ahead.{Fits, Ahead, Advanced, Went}
 use Rattle.tree_walk.specs.Components.{component, Component, Looked, LookedUp}
-use Rattle.tree_walk.specs.Steps.{Joined, NodeAdded, Moved, Tallied, Ready, Kept, PartWalked, DirectoryWalked}
+use Rattle.tree_walk.specs.Steps.{Joined, NodeAdded, Moved, Tallied, Ready, PartWalked, DirectoryWalked}
 use Rattle.tree_walk.proofs.Trees.{NodeAt, node-at, no-bad, reads-at}
 use Rattle.tree_walk.proofs.Ahead.{fits-end, stays-some, stays-in}
 use Rattle.tree_walk.proofs.Steps.{moved-file, part-in, moved-missing, moved-found, reads-most, Walking, walk-first, walk-join, walk-end}

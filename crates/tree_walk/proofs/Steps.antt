@@ -1,16 +1,15 @@
 -- Laws of the walk over the names in a directory.
 use mathlib.Core.Path.{_≡_, refl, sym, ap, ap₂, subst, _∙_}
 use mathlib.Core.List.{List, [], _∷_, _++_, append-nil, append-assoc}
-use mathlib.Core.Bool.{Bool, true, false, cond, not, _&&_, _||_, and-assoc, and-true}
+use mathlib.Core.Bool.{Bool, true, false, cond, not, _&&_, and-true}
 use mathlib.Core.Option.{none, some}
-use Prim.Native.Nat.{ℕ, zero, suc, _+_, _-_, _≤_, _<_}
-use native.Mathlib.Nat.{add-zero}
+use Prim.Native.Nat.{ℕ, _+_, _-_, _≤_, _<_}
 use native.Mathlib.Omega.{arith}
-use lib.ListN.{length, take, drop, length-append, length-drop}
-use Rattle.format.specs.Bytes.{before, lacks}
+use lib.ListN.{length, drop, length-append, length-drop}
+use Rattle.format.specs.Bytes.{lacks}
 use lib.Dec.{eqb, leb, ltb}
 use Rattle.format.specs.Records.{Count, valid, invalid, Forest, Tree}
-use Rattle.format.specs.Layout.{bit, under, inside}
+use Rattle.format.specs.Layout.{bit, under}
 use Rattle.tree_counts.specs.Judge.{isValid, says, weight, positive, child, reached, judge, matched}
 use Rattle.tree_counts.specs.Runs.{sortedFrom, begins, leads, every, span, beyond, within, enter, runIn, Passed}
 use Rattle.tree_counts.proofs.Tests.{by-test, and-inv}
@@ -18,15 +17,12 @@ use Rattle.tree_counts.proofs.Names.{under-slash}
 use Rattle.tree_counts.proofs.Siblings.{Sound, file-unreached}
 use Rattle.tree_counts.proofs.Counts.{matched-most}
 use Rattle.tree_counts.proofs.Walk.{judge-start, matched-start, inside-length, child-free, judge-pass, matched-pass, judge-file, matched-file}
-use Rattle.tree_counts.proofs.Directory.{component-lacks, component-under}
-use Rattle.tree_counts.proofs.Runs.{enter-begins, runIn-every, runIn-inside, beyond-step, passed-name, passed-run, judge-run, matched-run, passed-end}
+use Rattle.tree_counts.proofs.Runs.{enter-begins, runIn-every, runIn-inside, passed-name, passed-run, judge-run, matched-run, passed-end}
 use Rattle.cache_tree.specs.declared.node.Node.{Node}
 use Rattle.cache_tree.proofs.Readings.{node-took}
 use Rattle.cache_tree.proofs.Flat.{Reads, reads-none, reads-more}
-use Rattle.tree_walk.specs.declared.front.Front.{Front}
 use Rattle.tree_walk.specs.declared.walk.Tally.{Tally}
 use Rattle.tree_walk.specs.Ahead.{After, Left}
-use Rattle.tree_walk.specs.Components.{component, Component}
 use Rattle.tree_walk.proofs.Ahead.{stays-is}
 use Rattle.tree_walk.specs.Steps.{NodeAdded, Joined, Moved, Tallied}
 
@@ -132,7 +128,7 @@ module _ (valid : Bool) (f : Forest) (q x : List ℕ) (xs whole done : List (Lis
         → r .count ≡ w .count → r .front ≡ w .front → Moved valid f q whole done v b work r
     moved-found t found a sorted w tally ok met count front =
         let m : matched (done ++ runIn q c (x ∷ xs)) f ≡ matched done f + (weight (t .root .count) + w .met) =
-            matched-run f q c a whole done x xs t lc found sorted in-part h sound ∙ rw (tally .met) in
+        matched-run f q c a whole done x xs t lc found sorted in-part h sound ∙ rw (tally .met) in
         record {
           now-done = done ++ runIn q c (x ∷ xs);
           rest = beyond (begins (enter q c)) (x ∷ xs);

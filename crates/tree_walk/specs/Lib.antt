@@ -4,3 +4,4 @@ pub mod Trees
 pub mod Ahead
 pub mod Components
 pub mod Steps
+pub mod Answers

@@ -1,7 +1,7 @@
 -- The walk over the names in a directory, part by part: a name with no further "/", or the names under one component. q is the directory's name,
 -- with its last "/".
 use mathlib.Core.Path.{_≡_}
-use mathlib.Core.List.{List, [], _∷_}
+use mathlib.Core.List.{List, _∷_}
 use mathlib.Core.Bool.{Bool, true, cond, _&&_}
 use Prim.Native.Nat.{ℕ, _+_, _≤_, _<_}
 use lib.ListN.{length, drop}

@@ -35,7 +35,18 @@ fn look_in(d: &[u8], at: usize, k: u32, place: usize, left: u32, name: &[u8], q:
 }
 
 // The same of the first name ahead, which is in the workspace in version 4, else in the body.
-pub fn look_up(d: &[u8], at: usize, k: u32, place: usize, left: u32, b: &[u8], v: u32, work: &[u8], q: usize, s: Front) -> Look
+pub fn look_up(
+    d: &[u8],
+    at: usize,
+    k: u32,
+    place: usize,
+    left: u32,
+    b: &[u8],
+    v: u32,
+    work: &[u8],
+    q: usize,
+    s: Front,
+) -> Look
     requires { ⌜ (at ≤ place) × (place ≤ length (now d)) × (length (now d) ≤ 16777216) × Fits (now b) s × (8192 ≤ length (now work)) × (q ≤ s .cursor .len) ⌝ }
     ensures { λ r. ⌜ LookedUp (now (d .entry)) at k place left (nameAt v (now (b .entry)) (now (work .entry)) (s .cursor .start) (s .cursor .len)) (s .cursor .len) q r ⌝ }
 {

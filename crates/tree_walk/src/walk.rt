@@ -37,7 +37,7 @@ fn plus(a: u32, b: u32) -> u32
     a + b
 }
 
-fn both(a: bool, b: bool) -> bool
+pub(crate) fn both(a: bool, b: bool) -> bool
     ensures { λ r. ⌜ r ≡ (a && b) ⌝ }
 {
     if a {
@@ -47,7 +47,7 @@ fn both(a: bool, b: bool) -> bool
 }
 
 // Whether a valid node counts n entries.
-fn agrees(valid: bool, count: u32, n: usize) -> bool
+pub(crate) fn agrees(valid: bool, count: u32, n: usize) -> bool
     ensures { λ r. ⌜ r ≡ cond valid (eqb count n) true ⌝ }
 {
     if valid {
@@ -116,7 +116,19 @@ fn add_node(node: Node, t: Tally, place: usize, left: u32) -> Tally
 
 // One part of a directory's entries: the first ahead where it has no further "/" after its first q bytes, or all in the directory of its next
 // component. k nodes stand at a place; the node above them is valid or not.
-fn walk_part(d: &[u8], at: usize, k: u32, valid: bool, place: usize, left: u32, b: &[u8], v: u32, work: &mut [u8], q: usize, s: Front) -> Tally
+fn walk_part(
+    d: &[u8],
+    at: usize,
+    k: u32,
+    valid: bool,
+    place: usize,
+    left: u32,
+    b: &[u8],
+    v: u32,
+    work: &mut [u8],
+    q: usize,
+    s: Front,
+) -> Tally
     requires { ⌜ Ready (now d) at (now b) (now work) q s × (at ≤ place) × (place ≤ length (now d)) ⌝ }
     ensures { λ r. ⌜ PartWalked (now (d .entry)) at k valid place left (now (b .entry)) v (now (work .entry)) q s (now (work .exit)) r ⌝ }
 {
@@ -136,7 +148,17 @@ fn walk_part(d: &[u8], at: usize, k: u32, valid: bool, place: usize, left: u32, 
             match read {
                 NodeRead::Bad => told(false, 0, ended(s), place, left),
                 NodeRead::Good(node) => {
-                    let t = walk_directory(d, node.next, node.subtrees, node.valid, b, v, work, e, s);
+                    let t = walk_directory(
+                        d,
+                        node.next,
+                        node.subtrees,
+                        node.valid,
+                        b,
+                        v,
+                        work,
+                        e,
+                        s,
+                    );
                     add_node(node, t, p, l)
                 }
             }
@@ -145,7 +167,17 @@ fn walk_part(d: &[u8], at: usize, k: u32, valid: bool, place: usize, left: u32, 
 }
 
 // All of a directory's entries that are ahead, of which the first is one. k nodes stand at a place; the node above them is valid or not.
-fn walk_directory(d: &[u8], at: usize, k: u32, valid: bool, b: &[u8], v: u32, work: &mut [u8], q: usize, s: Front) -> Tally
+pub(crate) fn walk_directory(
+    d: &[u8],
+    at: usize,
+    k: u32,
+    valid: bool,
+    b: &[u8],
+    v: u32,
+    work: &mut [u8],
+    q: usize,
+    s: Front,
+) -> Tally
     requires { ⌜ Ready (now d) at (now b) (now work) q s ⌝ }
     ensures { λ r. ⌜ DirectoryWalked (now (d .entry)) at k valid (now (b .entry)) v (now (work .entry)) q s (now (work .exit)) r ⌝ }
 {

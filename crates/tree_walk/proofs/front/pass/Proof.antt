@@ -64,9 +64,16 @@ loop-again c =
     let on = sym (a .before .before .before .stays .ensures) ∙ a .before .before .if1 .taken in
     let some : 1 ≤ l .loop .front .ahead = stays-some (l .loop .front) (l .before .before .before .before .before .before .before .args .q) on in
     let fewer = t .fewer in
-    let long = t .long in
-    (t .fits, omega arith, l .loop .inv .2, omega arith, omega arith, t .long ∙ l .loop .inv .5, t .past ∙ l .loop .inv .6,
-    λ last xs p h i e. pass-on _ _ p xs _ _ _ (l .loop .inv .7 last xs p h i e) _ _ (ap (λ (k : ℕ). ltb 0 (l .loop .front .ahead) && leb k (l .loop .front .common)) e ∙ on) t)
+    let long = t .long in (
+      t .fits,
+      omega arith,
+      l .loop .inv .2,
+      omega arith,
+      omega arith,
+      t .long ∙ l .loop .inv .5,
+      t .past ∙ l .loop .inv .6,
+      λ last xs p h i e. pass-on _ _ p xs _ _ _ (l .loop .inv .7 last xs p h i e) _ _ (ap (λ (k : ℕ). ltb 0 (l .loop .front .ahead) && leb k (l .loop .front .common)) e ∙ on) t,
+    )
 
 same-length : tie.Need-same-length Inv-loop μ-loop
 same-length c = search needs

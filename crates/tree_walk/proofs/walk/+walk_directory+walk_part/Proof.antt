@@ -1,12 +1,13 @@
-use mathlib.Core.Path.{_≡_, refl, sym, ap, _∙_}
+-- The proof that the two functions of the walk meet their contracts. A directory is walked part by part, and a part that has a node is the
+-- directory of that node. The measure is what is left of the tree's data: the nodes below a node stand after it.
+use mathlib.Core.Path.{_≡_, refl, sym, _∙_}
 use native.Mathlib.Omega.{arith}
 use denote.Ref.{now}
 use borrow.Author.Needs.{needs}
 use lib.ListN.{length}
 use Rattle.cache_tree.proofs.Nodes.{node-is}
-use Rattle.tree_walk.proofs.Ahead.{stays-some}
 use Rattle.tree_walk.proofs.Parts.{part-file, part-missing, part-lost, part-found, Looping, loop-start, loop-ready, loop-on, loop-end}
-use Prim.Native.Nat.{ℕ, _+_, _*_, _-_, _≤_, _<_}
+use Prim.Native.Nat.{ℕ, _+_, _*_, _-_, _≤_}
 use borrow.Fn.Kinds.{In}
 use borrow.Fn.PlainCycle.{Measures, is, falls, and}
 use Rattle.tree_walk.proofs.walk.walk_directory.Reads as walk-directory
@@ -63,7 +64,6 @@ walk-directory-Inv-loop d at k valid b v work₀ q r₀ front₀ work r front =
 abbrev walk-directory-μ-loop : walk-directory-lts.MeasureT-loop
 walk-directory-μ-loop d at k valid b v work₀ q r₀ front₀ work r front = front .ahead
 
--- src/walk.rt:152:9
 walk-directory-walk-part-requires : (t : ℕ) → walk-directory-lts.Need-walk-part-requires (
   walk-part-below t,
   walk-part.Post,
@@ -77,7 +77,6 @@ walk-directory-walk-part-requires t c κs =
     let ready = st .pre .1 in
     (omega (arith, st .pre .0), (ready, omega arith, ready .inside))
 
--- src/walk.rt:154:5
 walk-directory-loop-holds : (t : ℕ) → walk-directory-lts.Need-loop-holds (
   walk-part-below t,
   walk-part.Post,
@@ -93,7 +92,6 @@ walk-directory-loop-holds t c =
     let ready = st .pre .1 in
     (refl, omega (arith, part .kept .fewer, ready .fits .few), omega (arith, part .kept .long, ready .room), loop-start _ _ _ _ _ _ _ _ _ (part .kept .fits) (part .kept .least) (part .kept .most))
 
--- src/walk.rt:154:11
 walk-directory-stays-requires : (t : ℕ) → walk-directory-lts.Need-stays-requires (
   walk-part-below t,
   walk-part.Post,
@@ -104,7 +102,6 @@ walk-directory-stays-requires : (t : ℕ) → walk-directory-lts.Need-stays-requ
 ) (walk-directory-at t) walk-directory.Post walk-directory-Inv-loop walk-directory-μ-loop
 walk-directory-stays-requires t c κs = search needs
 
--- src/walk.rt:155:13
 walk-directory-walk-part-requires-2 : (t : ℕ) → walk-directory-lts.Need-walk-part-requires-2 (
   walk-part-below t,
   walk-part.Post,
@@ -122,7 +119,6 @@ walk-directory-walk-part-requires-2 t c κs =
     let on = rw same at (sym (c .before .before .stays .ensures) ∙ c .before .if1 .taken) in
     (omega (arith, st .pre .0), (rw same (loop-ready _ _ _ _ _ _ _ _ _ _ _ h _ _ ready (l .loop .inv .2) on), h .least, h .most))
 
--- src/walk.rt:156:9
 walk-directory-join-requires : (t : ℕ) → walk-directory-lts.Need-join-requires (
   walk-part-below t,
   walk-part.Post,
@@ -141,7 +137,6 @@ walk-directory-join-requires t c κs =
     let fewer = rw same at (part .kept .fewer) in
     omega (arith, h .fewer, l .loop .inv .1)
 
--- src/walk.rt:154:5
 walk-directory-loop-less : (t : ℕ) → walk-directory-lts.Need-loop-less (
   walk-part-below t,
   walk-part.Post,
@@ -159,7 +154,6 @@ walk-directory-loop-less t c =
     let part = c .before .before .before .before .walk-part2 .ensures in
     rw (c .before .join .ensures .front) (part .kept .less)
 
--- src/walk.rt:154:5
 walk-directory-loop-again : (t : ℕ) → walk-directory-lts.Need-loop-again (
   walk-part-below t,
   walk-part.Post,
@@ -178,7 +172,6 @@ walk-directory-loop-again t c =
     let on = rw same at (sym (c .before .before .before .before .before .before .before .stays .ensures) ∙ c .before .before .before .before .before .before .if1 .taken) in
     (refl, l .loop .inv .1, l .loop .inv .2, loop-on _ _ _ _ _ _ _ _ _ _ _ h (ready .small) on _ _ _ part (c .before .join .ensures))
 
--- src/walk.rt:148:1
 walk-directory-same-length : (t : ℕ) → walk-directory-lts.Need-same-length (
   walk-part-below t,
   walk-part.Post,
@@ -189,7 +182,6 @@ walk-directory-same-length : (t : ℕ) → walk-directory-lts.Need-same-length (
 ) (walk-directory-at t) walk-directory.Post walk-directory-Inv-loop walk-directory-μ-loop
 walk-directory-same-length t c = c .before .before .loop .inv .3 .long ∙ c .before .before .before .before .before .before .walk-part .ensures .kept .long
 
--- src/walk.rt:148:1
 walk-directory-returns : (t : ℕ) → walk-directory-lts.Need-returns (
   walk-part-below t,
   walk-part.Post,
@@ -208,7 +200,6 @@ walk-directory-returns t c =
     let off = rw same at (sym (c .before .stays .ensures) ∙ c .if1 .left) in
     loop-end _ _ _ _ _ _ _ _ _ _ _ h off _ _ part
 
--- src/walk.rt:123:9
 walk-part-look-up-requires : (t : ℕ) → walk-part-lts.Need-look-up-requires (
   look-up-reads.Asked,
   look-up-reads.Learnt,
@@ -229,7 +220,6 @@ walk-part-look-up-requires : (t : ℕ) → walk-part-lts.Need-look-up-requires (
 ) (walk-part-at t) walk-part.Post
 walk-part-look-up-requires t c κs = search needs
 
--- src/walk.rt:126:38
 walk-part-enum-told : (t : ℕ) → walk-part-lts.Need-enum-told (
   look-up-reads.Asked,
   look-up-reads.Learnt,
@@ -250,7 +240,6 @@ walk-part-enum-told : (t : ℕ) → walk-part-lts.Need-enum-told (
 ) (walk-part-at t) walk-part.Post
 walk-part-enum-told t c = search needs
 
--- src/walk.rt:126:17
 walk-part-advance-requires : (t : ℕ) → walk-part-lts.Need-advance-requires (
   look-up-reads.Asked,
   look-up-reads.Learnt,
@@ -271,7 +260,6 @@ walk-part-advance-requires : (t : ℕ) → walk-part-lts.Need-advance-requires (
 ) (walk-part-at t) walk-part.Post
 walk-part-advance-requires t c κs = search needs
 
--- src/walk.rt:127:13
 walk-part-told-requires : (t : ℕ) → walk-part-lts.Need-told-requires (
   look-up-reads.Asked,
   look-up-reads.Learnt,
@@ -292,7 +280,6 @@ walk-part-told-requires : (t : ℕ) → walk-part-lts.Need-told-requires (
 ) (walk-part-at t) walk-part.Post
 walk-part-told-requires t c κs = search needs
 
--- src/walk.rt:129:23
 walk-part-enum-known-look : (t : ℕ) → walk-part-lts.Need-enum-known-look (
   look-up-reads.Asked,
   look-up-reads.Learnt,
@@ -313,7 +300,6 @@ walk-part-enum-known-look : (t : ℕ) → walk-part-lts.Need-enum-known-look (
 ) (walk-part-at t) walk-part.Post
 walk-part-enum-known-look t c = search needs
 
--- src/walk.rt:130:17
 walk-part-pass-requires : (t : ℕ) → walk-part-lts.Need-pass-requires (
   look-up-reads.Asked,
   look-up-reads.Learnt,
@@ -334,7 +320,6 @@ walk-part-pass-requires : (t : ℕ) → walk-part-lts.Need-pass-requires (
 ) (walk-part-at t) walk-part.Post
 walk-part-pass-requires t c κs = search needs
 
--- src/walk.rt:132:13
 walk-part-told-requires-2 : (t : ℕ) → walk-part-lts.Need-told-requires-2 (
   look-up-reads.Asked,
   look-up-reads.Learnt,
@@ -355,7 +340,6 @@ walk-part-told-requires-2 : (t : ℕ) → walk-part-lts.Need-told-requires-2 (
 ) (walk-part-at t) walk-part.Post
 walk-part-told-requires-2 t c κs = search needs
 
--- src/walk.rt:134:21
 walk-part-enum-known-look-2 : (t : ℕ) → walk-part-lts.Need-enum-known-look-2 (
   look-up-reads.Asked,
   look-up-reads.Learnt,
@@ -376,7 +360,6 @@ walk-part-enum-known-look-2 : (t : ℕ) → walk-part-lts.Need-enum-known-look-2
 ) (walk-part-at t) walk-part.Post
 walk-part-enum-known-look-2 t c = search needs
 
--- src/walk.rt:135:17
 walk-part-read-node-requires : (t : ℕ) → walk-part-lts.Need-read-node-requires (
   look-up-reads.Asked,
   look-up-reads.Learnt,
@@ -399,7 +382,6 @@ walk-part-read-node-requires t c κs =
     let look = rw (c .before .look2 .given .1) at (c .before .before .before .look-up .ensures) in
     look .most
 
--- src/walk.rt:137:49
 walk-part-enum-told-2 : (t : ℕ) → walk-part-lts.Need-enum-told-2 (
   look-up-reads.Asked,
   look-up-reads.Learnt,
@@ -420,7 +402,6 @@ walk-part-enum-told-2 : (t : ℕ) → walk-part-lts.Need-enum-told-2 (
 ) (walk-part-at t) walk-part.Post
 walk-part-enum-told-2 t c = search needs
 
--- src/walk.rt:137:49
 walk-part-ended-requires : (t : ℕ) → walk-part-lts.Need-ended-requires (
   look-up-reads.Asked,
   look-up-reads.Learnt,
@@ -441,7 +422,6 @@ walk-part-ended-requires : (t : ℕ) → walk-part-lts.Need-ended-requires (
 ) (walk-part-at t) walk-part.Post
 walk-part-ended-requires t c κs = search needs
 
--- src/walk.rt:137:34
 walk-part-told-requires-3 : (t : ℕ) → walk-part-lts.Need-told-requires-3 (
   look-up-reads.Asked,
   look-up-reads.Learnt,
@@ -462,7 +442,6 @@ walk-part-told-requires-3 : (t : ℕ) → walk-part-lts.Need-told-requires-3 (
 ) (walk-part-at t) walk-part.Post
 walk-part-told-requires-3 t c κs = search needs
 
--- src/walk.rt:138:32
 walk-part-enum-known-read : (t : ℕ) → walk-part-lts.Need-enum-known-read (
   look-up-reads.Asked,
   look-up-reads.Learnt,
@@ -483,7 +462,6 @@ walk-part-enum-known-read : (t : ℕ) → walk-part-lts.Need-enum-known-read (
 ) (walk-part-at t) walk-part.Post
 walk-part-enum-known-read t c = search needs
 
--- src/walk.rt:139:25
 walk-part-walk-directory-requires : (t : ℕ) → walk-part-lts.Need-walk-directory-requires (
   look-up-reads.Asked,
   look-up-reads.Learnt,
@@ -508,11 +486,11 @@ walk-part-walk-directory-requires t c κs =
     let st = u .before .before .before .before .before in
     let ready = st .pre .1 .0 in
     let look = rw (k .before .look2 .given .1) at (u .look-up .ensures) in
-    let is = node-is _ _ (look .most) _ (sym (c .before .before .read .given .1) ∙ c .before .before .before .before .read-node .ensures) in
-    (omega (arith, st .pre .0, look .least, is .named, is .ended, is .within),
-    record { inside = is .within; small = ready .small; fits = ready .fits; room = ready .room; some = ready .some; long = look .within })
+    let is = node-is _ _ (look .most) _ (sym (c .before .before .read .given .1) ∙ c .before .before .before .before .read-node .ensures) in (
+      omega (arith, st .pre .0, look .least, is .named, is .ended, is .within),
+      record { inside = is .within; small = ready .small; fits = ready .fits; room = ready .room; some = ready .some; long = look .within },
+    )
 
--- src/walk.rt:140:21
 walk-part-add-node-requires : (t : ℕ) → walk-part-lts.Need-add-node-requires (
   look-up-reads.Asked,
   look-up-reads.Learnt,
@@ -533,7 +511,6 @@ walk-part-add-node-requires : (t : ℕ) → walk-part-lts.Need-add-node-requires
 ) (walk-part-at t) walk-part.Post
 walk-part-add-node-requires t c κs = search needs
 
--- src/walk.rt:119:1
 walk-part-same-length : (t : ℕ) → walk-part-lts.Need-same-length (
   look-up-reads.Asked,
   look-up-reads.Learnt,
@@ -554,7 +531,6 @@ walk-part-same-length : (t : ℕ) → walk-part-lts.Need-same-length (
 ) (walk-part-at t) walk-part.Post
 walk-part-same-length t c = search needs
 
--- src/walk.rt:119:1
 walk-part-returns : (t : ℕ) → walk-part-lts.Need-returns (
   look-up-reads.Asked,
   look-up-reads.Learnt,
@@ -579,7 +555,6 @@ walk-part-returns t c =
     let look = rw (c .before .before .before .before .before .enum-told .given .1) at (u .look-up .ensures) in
     rw (c .told .ensures) (part-file _ _ _ _ _ _ _ _ _ _ _ _ (st .pre .1 .0) (st .pre .1 .1) (st .pre .1 .2) look _ (c .before .before .before .advance .ensures))
 
--- src/walk.rt:119:1
 walk-part-same-length-2 : (t : ℕ) → walk-part-lts.Need-same-length-2 (
   look-up-reads.Asked,
   look-up-reads.Learnt,
@@ -600,7 +575,6 @@ walk-part-same-length-2 : (t : ℕ) → walk-part-lts.Need-same-length-2 (
 ) (walk-part-at t) walk-part.Post
 walk-part-same-length-2 t c = search needs
 
--- src/walk.rt:119:1
 walk-part-returns-2 : (t : ℕ) → walk-part-lts.Need-returns-2 (
   look-up-reads.Asked,
   look-up-reads.Learnt,
@@ -625,7 +599,6 @@ walk-part-returns-2 t c =
     let look = rw (c .before .before .before .before .before .before .before .look .given .1) at (u .look-up .ensures) in
     rw (c .told2 .ensures) (part-missing _ _ _ _ _ _ _ _ _ _ _ _ (st .pre .1 .0) (st .pre .1 .1) (st .pre .1 .2) _ look _ (c .before .before .before .before .pass .ensures))
 
--- src/walk.rt:119:1
 walk-part-same-length-3 : (t : ℕ) → walk-part-lts.Need-same-length-3 (
   look-up-reads.Asked,
   look-up-reads.Learnt,
@@ -646,7 +619,6 @@ walk-part-same-length-3 : (t : ℕ) → walk-part-lts.Need-same-length-3 (
 ) (walk-part-at t) walk-part.Post
 walk-part-same-length-3 t c = search needs
 
--- src/walk.rt:119:1
 walk-part-returns-3 : (t : ℕ) → walk-part-lts.Need-returns-3 (
   look-up-reads.Asked,
   look-up-reads.Learnt,
@@ -672,7 +644,6 @@ walk-part-returns-3 t c =
     let look = rw (k .before .look2 .given .1) at (u .look-up .ensures) in
     rw (c .told3 .ensures, c .before .ended .ensures) (part-lost _ _ _ _ _ _ _ _ _ _ _ (st .args .work .now) (st .pre .1 .0) (st .pre .1 .1) (st .pre .1 .2) _ _ _ look (sym (c .before .before .enum-told2 .given .1) ∙ c .before .before .before .before .read-node .ensures))
 
--- src/walk.rt:119:1
 walk-part-same-length-4 : (t : ℕ) → walk-part-lts.Need-same-length-4 (
   look-up-reads.Asked,
   look-up-reads.Learnt,
@@ -693,7 +664,6 @@ walk-part-same-length-4 : (t : ℕ) → walk-part-lts.Need-same-length-4 (
 ) (walk-part-at t) walk-part.Post
 walk-part-same-length-4 t c = c .before .before .before .walk-directory .ensures .kept .long
 
--- src/walk.rt:119:1
 walk-part-returns-4 : (t : ℕ) → walk-part-lts.Need-returns-4 (
   look-up-reads.Asked,
   look-up-reads.Learnt,
