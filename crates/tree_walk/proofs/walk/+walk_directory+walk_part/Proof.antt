@@ -7,7 +7,7 @@ use borrow.Author.Needs.{needs}
 use lib.ListN.{length}
 use Rattle.cache_tree.proofs.Nodes.{node-is}
 use Rattle.tree_walk.proofs.Parts.{part-file, part-missing, part-lost, part-found, Looping, loop-start, loop-ready, loop-on, loop-end}
-use Prim.Native.Nat.{ℕ, _+_, _*_, _-_, _≤_}
+use Prim.Native.Nat.{ℕ, _+_, _*_, _-_, _≤_, _<_}
 use borrow.Fn.Kinds.{In}
 use borrow.Fn.PlainCycle.{Measures, is, falls, and}
 use Rattle.tree_walk.proofs.walk.walk_directory.Reads as walk-directory
