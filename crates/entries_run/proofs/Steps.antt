@@ -64,7 +64,8 @@ module _ (v n : ℕ) (k : Key) (p : ℕ) (s : List ℕ) (more : 0 < n) where
   unfolding bind
   run-refused j e = run-more ∙ rw e
 
-  run-on : (e : Entry) (m : ℕ) → readEntry 20 v k p s ≡ good e m → readEntries 20 v n k p s ≡ inFront (e ∷ []) m (readEntries 20 v (n - 1) (keyOf e) (p + m) (drop m s))
+  run-on : (e : Entry) (m : ℕ) → readEntry 20 v k p s ≡ good e m
+      → readEntries 20 v n k p s ≡ inFront (e ∷ []) m (readEntries 20 v (n - 1) (keyOf e) (p + m) (drop m s))
   unfolding bind
   run-on e m q = run-more ∙ rw q (shift-front e m _)
 
@@ -73,7 +74,8 @@ module _ (v : ℕ) (b w : List ℕ) (c : Cursor) (w′ : List ℕ) (n : ℕ) (mo
   pub entries-bad : (m : ℕ) → Stepped v b w c w′ (N.Bad m) → runFrom v n b w c ≡ bad m (c .at)
   entries-bad m t = run-refused v n _ (c .at) _ more m (t .same (c .at))
 
-  pub entries-good : (st : Step) → Stepped v b w c w′ (N.Good st) → runFrom v n b w c ≡ inFront (entryAt v b w′ (c .at) st ∷ []) (st .next .at - c .at) (runFrom v (n - 1) b w′ (st .next))
+  pub entries-good : (st : Step) → Stepped v b w c w′ (N.Good st)
+      → runFrom v n b w c ≡ inFront (entryAt v b w′ (c .at) st ∷ []) (st .next .at - c .at) (runFrom v (n - 1) b w′ (st .next))
   unfolding entryOf
   entries-good st t =
       let f : Found v b w c w′ st = t .found st refl in
@@ -124,12 +126,14 @@ module _ (v : ℕ) (b : List ℕ) where
     walked-on count few = let sum : length es + (count - length es) ≡ count = omega arith in rw sum at (h .whole (count - length es))
 
     -- where all entries are read, es are the first of them
-    pub walked-take : (count : ℕ) (all : List Entry) (m : ℕ) → readEntries 20 v count start 12 (drop 12 b) ≡ good all m → length es ≤ count → es ≡ take (length es) all
+    pub walked-take : (count : ℕ) (all : List Entry) (m : ℕ) → readEntries 20 v count start 12 (drop 12 b) ≡ good all m → length es ≤ count
+        → es ≡ take (length es) all
     walked-take count all m e few = front-inv _ _ _ _ _ (sym (walked-on count few) ∙ e) (λ gs l q parts sum. rw (← parts) (sym (take-append-seam es gs)))
 
     module _ (w′ : List ℕ) where
       -- a step that refuses
-      pub walked-bad : (m : ℕ) → Stepped v b w c w′ (N.Bad m) → (count : ℕ) → length es < count → readEntries 20 v count start 12 (drop 12 b) ≡ bad m (c .at)
+      pub walked-bad : (m : ℕ) → Stepped v b w c w′ (N.Bad m) → (count : ℕ) → length es < count
+          → readEntries 20 v count start 12 (drop 12 b) ≡ bad m (c .at)
       unfolding inFront
       walked-bad m t count more = walked-on count (omega arith) ∙ rw (entries-bad v b w c w′ (count - length es) (omega arith) m t)
 
@@ -156,7 +160,8 @@ module _ (v : ℕ) (b : List ℕ) where
 
 -- ---- entry number k
 
-module _ (v : ℕ) (b : List ℕ) (k : ℕ) (es : List Entry) (w : List ℕ) (c : Cursor) (h : Walked v b es w c) (w′ w₀ : List ℕ) (long : length w′ ≡ length w₀) (past : drop 8192 w′ ≡ drop 8192 w₀) where
+module _ (v : ℕ) (b : List ℕ) (k : ℕ) (es : List Entry) (w : List ℕ) (c : Cursor) (h : Walked v b es w c)
+    (w′ w₀ : List ℕ) (long : length w′ ≡ length w₀) (past : drop 8192 w′ ≡ drop 8192 w₀) where
   pub sought-bad : (n p : ℕ) → length es ≤ k → Stepped v b w c w′ (N.Bad n) → Reaches v b w₀ k w′ (S.Bad n p)
   sought-bad n p few t =
       record {

@@ -154,7 +154,8 @@ pub record Placed (b : List ℕ) (at : ℕ) (st : Step) : Type 0 where
 
 -- of a body with more than k entries, entry k was found
 pub record Reaches (v : ℕ) (b work : List ℕ) (k : ℕ) (work′ : List ℕ) (r : Sought) : Type 0 where
-  pub entry : (count : ℕ) (es : List Entry) (m : ℕ) → readEntries 20 v count start 12 (drop 12 b) ≡ good es m → k < count → getElem? es k ≡ soughtIn v b work′ r
+  pub entry : (count : ℕ) (es : List Entry) (m : ℕ) → readEntries 20 v count start 12 (drop 12 b) ≡ good es m → k < count
+      → getElem? es k ≡ soughtIn v b work′ r
   pub placed : (at : ℕ) (st : Step) → r ≡ S.Good at st → Placed b at st
   pub long : length work′ ≡ length work
   pub past : drop 8192 work′ ≡ drop 8192 work
