@@ -3,7 +3,7 @@ use mathlib.Core.Path.{_≡_, refl, sym, ap, _∙_}
 use mathlib.Core.List.{List, [], _∷_, _++_, append-assoc, append-nil}
 use mathlib.Core.Bool.{Bool, true, false, cond}
 use mathlib.Core.Option.{some}
-use Prim.Native.Nat.{ℕ, suc, _+_, _-_, _≤_, _<_}
+use Prim.Native.Nat.{ℕ, suc, _+_, _-_, _/_, _%_, _≤_, _<_}
 use native.Mathlib.Nat.{add-assoc, zero-add}
 use native.Mathlib.Omega.{arith}
 use lib.ListN.{length, take, drop, getElem?, length-append}
@@ -16,8 +16,9 @@ use Rattle.spelling_entries.proofs.Reading.{bad-good, good-inv}
 use Rattle.entries_run.specs.declared.Cursor.{Cursor}
 use Rattle.entries_run.specs.declared.Step.{Step}
 use Rattle.entries_run.specs.declared.Next.the-variants as N
+use Rattle.entries_run.specs.declared.Run.the-variants as R
 use Rattle.entries_run.specs.declared.Sought.the-variants as S
-use Rattle.entries_run.specs.Steps.{nameAt, entryAt, Inside, Room, Found, Stepped, firstCursor, runFrom, Placed, Reaches}
+use Rattle.entries_run.specs.Steps.{nameAt, entryAt, Inside, Room, Found, Stepped, firstCursor, runFrom, runOf, Placed, Reaches}
 
 -- ---- entries in front
 
@@ -157,6 +158,25 @@ module _ (v : ℕ) (b : List ℕ) where
             let sum : length (es ++ (entryAt v b w′ (c .at) st ∷ [])) + (count - length es - 1) ≡ count = rw length-append (omega arith) in
             front-inv _ _ _ _ _ (sym (rw sum at (walked-more .whole (count - length es - 1))) ∙ e) λ gs l q parts rest.
             rw (← parts) (getElem?-seam es gs _)
+
+-- ---- what callers read from answers
+
+module _ (v : ℕ) (b w : List ℕ) (at : ℕ) (st : Step) where
+  pub entryAt-name : entryAt v b w at st .name ≡ nameAt v b w (st .next .start) (st .next .len)
+  unfolding entryOf
+  entryAt-name = refl
+
+  pub entryAt-stage : entryAt v b w at st .stage ≡ st .flags / 4096 % 4
+  unfolding entryOf
+  entryAt-stage = refl
+
+pub runOf-bad : (res : Read (List Entry)) (n p : ℕ) → R.Bad n p ≡ runOf res → res ≡ bad n p
+runOf-bad (bad m q) n p e = cc
+runOf-bad (good es m) n p e = let z : _≡_ {A = ℕ} 0 1 = cc in absurd (omega arith)
+
+pub runOf-good : {X : Type 0} (res : Read (List Entry)) (end : ℕ) → R.Good end ≡ runOf res → ((es : List Entry) (m : ℕ) → res ≡ good es m → end ≡ 12 + m → X) → X
+runOf-good (bad m q) end e f = let z : _≡_ {A = ℕ} 0 1 = cc in absurd (omega arith)
+runOf-good (good es m) end e f = f es m refl (cc)
 
 -- ---- entry number k
 
