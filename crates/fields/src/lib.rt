@@ -81,11 +81,11 @@ pub fn common(s: &[u8], t: &[u8]) -> usize
     i
 }
 
-// How s stands to t, as unsigned bytes. What they have in common does not count.
-pub fn compare(s: &[u8], t: &[u8]) -> Order
+// How s stands to t, as unsigned bytes, where they have n in common at their beginning.
+pub fn order_after(s: &[u8], t: &[u8], n: usize) -> Order
+    requires { ⌜ (n ≡ Names.common (now s) (now t)) × (n ≤ length (now s)) ⌝ }
     ensures { λ r. ⌜ r ≡ Names.compare (now (s .entry)) (now (t .entry)) ⌝ }
 {
-    let n = common(s, t);
     if s.len() <= n {
         if t.len() <= n {
             return Order::Same;
@@ -99,6 +99,14 @@ pub fn compare(s: &[u8], t: &[u8]) -> Order
         return Order::Below;
     }
     Order::Above
+}
+
+// How s stands to t, as unsigned bytes. What they have in common does not count.
+pub fn compare(s: &[u8], t: &[u8]) -> Order
+    ensures { λ r. ⌜ r ≡ Names.compare (now (s .entry)) (now (t .entry)) ⌝ }
+{
+    let n = common(s, t);
+    order_after(s, t, n)
 }
 
 // Whether every byte from a to e is NUL.

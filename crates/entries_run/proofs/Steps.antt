@@ -1,0 +1,205 @@
+-- Laws of the run of entries, one step after another, for loops over entries.
+use mathlib.Core.Path.{_≡_, refl, sym, ap, _∙_}
+use mathlib.Core.List.{List, [], _∷_, _++_, append-assoc, append-nil}
+use mathlib.Core.Bool.{Bool, true, false, cond}
+use mathlib.Core.Option.{some}
+use Prim.Native.Nat.{ℕ, suc, _+_, _-_, _/_, _%_, _≤_, _<_}
+use native.Mathlib.Nat.{add-assoc, zero-add}
+use native.Mathlib.Omega.{arith}
+use lib.ListN.{length, take, drop, getElem?, length-append}
+use lib.Seq.{drop-drop, take-append-seam}
+use lib.Dec.{eqb}
+use Rattle.format.specs.Records.{Entry, Key, keyOf, start}
+use Rattle.format.specs.Reading.{Read, bad, good, shift, bind}
+use Rattle.format.specs.Reader.{entryOf, readEntry, readEntries}
+use Rattle.spelling_entries.proofs.Reading.{bad-good, good-inv}
+use Rattle.entries_run.specs.declared.Cursor.{Cursor}
+use Rattle.entries_run.specs.declared.Step.{Step}
+use Rattle.entries_run.specs.declared.Next.the-variants as N
+use Rattle.entries_run.specs.declared.Run.the-variants as R
+use Rattle.entries_run.specs.declared.Sought.the-variants as S
+use Rattle.entries_run.specs.Steps.{nameAt, entryAt, Inside, Room, Found, Stepped, firstCursor, runFrom, runOf, Placed, Reaches}
+
+-- ---- entries in front
+
+-- the answer r with the entries es in front, which took m bytes
+unfoldable pub inFront : List Entry → ℕ → Read (List Entry) → Read (List Entry)
+inFront es m (bad n p) = bad n p
+inFront es m (good fs k) = good (es ++ fs) (m + k)
+
+pub front-none : (r : Read (List Entry)) → inFront [] 0 r ≡ r
+unfolding inFront
+front-none (bad n p) = refl
+front-none (good fs k) = ap (good fs) (omega arith)
+
+pub front-front : (es fs : List Entry) (m k : ℕ) (r : Read (List Entry)) → inFront es m (inFront fs k r) ≡ inFront (es ++ fs) (m + k) r
+unfolding inFront
+front-front es fs m k (bad n p) = refl
+front-front es fs m k (good gs l) = rw (append-assoc es fs gs, add-assoc m k l)
+
+pub front-inv : {X : Type 0} (es : List Entry) (m : ℕ) (r : Read (List Entry)) (fs : List Entry) (k : ℕ) → inFront es m r ≡ good fs k
+    → ((gs : List Entry) (l : ℕ) → r ≡ good gs l → es ++ gs ≡ fs → m + l ≡ k → X) → X
+unfolding inFront
+front-inv es m (bad n p) fs k e f = bad-good n p fs k e
+front-inv es m (good gs l) fs k e f = good-inv _ _ _ _ e (λ q s. f gs l refl q s)
+
+-- ---- one entry more
+
+run-suc : (v n : ℕ) (k : Key) (p : ℕ) (s : List ℕ)
+    → readEntries 20 v (suc n) k p s ≡ bind (readEntry 20 v k p s) (λ e m. bind (readEntries 20 v n (keyOf e) (p + m) (drop m s)) (λ es o. good (e ∷ es) 0))
+unfolding readEntries
+run-suc v n k p s = refl
+
+shift-front : (e : Entry) (m : ℕ) (r : Read (List Entry)) → shift m (bind r (λ es o. good (e ∷ es) 0)) ≡ inFront (e ∷ []) m r
+unfolding shift bind inFront
+shift-front e m (bad n p) = refl
+shift-front e m (good es o) = ap (good (e ∷ es)) (omega arith)
+
+module _ (v n : ℕ) (k : Key) (p : ℕ) (s : List ℕ) (more : 0 < n) where
+  run-more : readEntries 20 v n k p s ≡ bind (readEntry 20 v k p s) (λ e m. bind (readEntries 20 v (n - 1) (keyOf e) (p + m) (drop m s)) (λ es o. good (e ∷ es) 0))
+  run-more =
+      let e : n ≡ suc (n - 1) = omega arith in
+      ap (λ (j : ℕ). readEntries 20 v j k p s) e ∙ run-suc v (n - 1) k p s
+
+  run-refused : (j : ℕ) → readEntry 20 v k p s ≡ bad j p → readEntries 20 v n k p s ≡ bad j p
+  unfolding bind
+  run-refused j e = run-more ∙ rw e
+
+  run-on : (e : Entry) (m : ℕ) → readEntry 20 v k p s ≡ good e m
+      → readEntries 20 v n k p s ≡ inFront (e ∷ []) m (readEntries 20 v (n - 1) (keyOf e) (p + m) (drop m s))
+  unfolding bind
+  run-on e m q = run-more ∙ rw q (shift-front e m _)
+
+-- a step from the cursor c, of which n entries are left
+module _ (v : ℕ) (b w : List ℕ) (c : Cursor) (w′ : List ℕ) (n : ℕ) (more : 0 < n) where
+  pub entries-bad : (m : ℕ) → Stepped v b w c w′ (N.Bad m) → runFrom v n b w c ≡ bad m (c .at)
+  entries-bad m t = run-refused v n _ (c .at) _ more m (t .same (c .at))
+
+  pub entries-good : (st : Step) → Stepped v b w c w′ (N.Good st)
+      → runFrom v n b w c ≡ inFront (entryAt v b w′ (c .at) st ∷ []) (st .next .at - c .at) (runFrom v (n - 1) b w′ (st .next))
+  unfolding entryOf
+  entries-good st t =
+      let f : Found v b w c w′ st = t .found st refl in
+      let here : c .at + (st .next .at - c .at) ≡ st .next .at = omega arith in
+      run-on v n _ (c .at) _ more _ _ (t .same (c .at)) ∙ rw (drop-drop (st .next .at - c .at) (c .at) b, here, ← (f .stage))
+
+-- the run from the start
+nameAt-none : (v : ℕ) (b w : List ℕ) (t : Bool) → cond t (take 0 w) (take 0 (drop 0 b)) ≡ []
+nameAt-none v b w true = refl
+nameAt-none v b w false = refl
+
+pub run-first : (v n : ℕ) (b w : List ℕ) → runFrom v n b w firstCursor ≡ readEntries 20 v n start 12 (drop 12 b)
+unfolding nameAt
+run-first v n b w = ap (λ (s : List ℕ). readEntries 20 v n (record { name = s; stage = 0 }) 12 (drop 12 b)) (nameAt-none v b w (eqb v 4))
+
+pub run-none : (v : ℕ) (b w : List ℕ) (c : Cursor) → runFrom v 0 b w c ≡ good [] 0
+unfolding readEntries
+run-none v b w c = refl
+
+pub inside-first : (b w : List ℕ) → Room b w → Inside b firstCursor
+inside-first b w r = record { small = r .most; inside = r .least; behind = omega arith; short = omega arith }
+
+-- ---- entry after entry
+
+-- the entries es lie between the start and the cursor
+pub record Walked (v : ℕ) (b : List ℕ) (es : List Entry) (w : List ℕ) (c : Cursor) : Type 0 where
+  pub after : 12 ≤ c .at
+  pub whole : (n : ℕ) → readEntries 20 v (length es + n) start 12 (drop 12 b) ≡ inFront es (c .at - 12) (runFrom v n b w c)
+
+getElem?-seam : {A : Type 0} (es gs : List A) (e : A) → getElem? ((es ++ (e ∷ [])) ++ gs) (length es) ≡ some e
+getElem?-seam [] gs e = refl
+getElem?-seam (x ∷ es) gs e = getElem?-seam es gs e
+
+module _ (v : ℕ) (b : List ℕ) where
+  pub walked-first : (w : List ℕ) → Walked v b [] w firstCursor
+  walked-first w = record { after = omega arith; whole = λ n. rw zero-add (sym (front-none _ ∙ run-first v n b w)) }
+
+  module _ (es : List Entry) (w : List ℕ) (c : Cursor) (h : Walked v b es w c) where
+    -- the run of so many entries, and of more
+    pub walked-end : readEntries 20 v (length es) start 12 (drop 12 b) ≡ good es (c .at - 12)
+    unfolding inFront
+    walked-end =
+        let none-more : length es + 0 ≡ length es = omega arith in
+        let taken : c .at - 12 + 0 ≡ c .at - 12 = omega arith in
+        rw none-more at (h .whole 0) ∙ rw (run-none v b w c, append-nil es, taken)
+
+    walked-on : (count : ℕ) → length es ≤ count → readEntries 20 v count start 12 (drop 12 b) ≡ inFront es (c .at - 12) (runFrom v (count - length es) b w c)
+    walked-on count few = let sum : length es + (count - length es) ≡ count = omega arith in rw sum at (h .whole (count - length es))
+
+    -- where all entries are read, es are the first of them
+    pub walked-take : (count : ℕ) (all : List Entry) (m : ℕ) → readEntries 20 v count start 12 (drop 12 b) ≡ good all m → length es ≤ count
+        → es ≡ take (length es) all
+    walked-take count all m e few = front-inv _ _ _ _ _ (sym (walked-on count few) ∙ e) (λ gs l q parts sum. rw (← parts) (sym (take-append-seam es gs)))
+
+    module _ (w′ : List ℕ) where
+      -- a step that refuses
+      pub walked-bad : (m : ℕ) → Stepped v b w c w′ (N.Bad m) → (count : ℕ) → length es < count
+          → readEntries 20 v count start 12 (drop 12 b) ≡ bad m (c .at)
+      unfolding inFront
+      walked-bad m t count more = walked-on count (omega arith) ∙ rw (entries-bad v b w c w′ (count - length es) (omega arith) m t)
+
+      -- a step over one entry more
+      module _ (st : Step) (t : Stepped v b w c w′ (N.Good st)) where
+        pub walked-more : Walked v b (es ++ (entryAt v b w′ (c .at) st ∷ [])) w′ (st .next)
+        walked-more =
+            let f : Found v b w c w′ st = t .found st refl in
+            record {
+              after = omega (arith, h .after);
+              whole = λ n.
+                  let count : length (es ++ (entryAt v b w′ (c .at) st ∷ [])) + n ≡ length es + (n + 1) = rw length-append (omega arith) in
+                  let taken : c .at - 12 + (st .next .at - c .at) ≡ st .next .at - 12 = omega (arith, h .after) in
+                  let left : n + 1 - 1 ≡ n = omega arith in
+                  rw (count, h .whole (n + 1), entries-good v b w c w′ (n + 1) (omega arith) st t, left) (front-front es _ _ _ _ ∙ rw taken);
+            }
+
+        pub walked-entry : (count : ℕ) (all : List Entry) (m : ℕ) → readEntries 20 v count start 12 (drop 12 b) ≡ good all m → length es < count
+            → getElem? all (length es) ≡ some (entryAt v b w′ (c .at) st)
+        walked-entry count all m e more =
+            let sum : length (es ++ (entryAt v b w′ (c .at) st ∷ [])) + (count - length es - 1) ≡ count = rw length-append (omega arith) in
+            front-inv _ _ _ _ _ (sym (rw sum at (walked-more .whole (count - length es - 1))) ∙ e) λ gs l q parts rest.
+            rw (← parts) (getElem?-seam es gs _)
+
+-- ---- what callers read from answers
+
+module _ (v : ℕ) (b w : List ℕ) (at : ℕ) (st : Step) where
+  pub entryAt-name : entryAt v b w at st .name ≡ nameAt v b w (st .next .start) (st .next .len)
+  unfolding entryOf
+  entryAt-name = refl
+
+  pub entryAt-stage : entryAt v b w at st .stage ≡ st .flags / 4096 % 4
+  unfolding entryOf
+  entryAt-stage = refl
+
+pub runOf-bad : (res : Read (List Entry)) (n p : ℕ) → R.Bad n p ≡ runOf res → res ≡ bad n p
+runOf-bad (bad m q) n p e = cc
+runOf-bad (good es m) n p e = let z : _≡_ {A = ℕ} 0 1 = cc in absurd (omega arith)
+
+pub runOf-good : {X : Type 0} (res : Read (List Entry)) (end : ℕ) → R.Good end ≡ runOf res → ((es : List Entry) (m : ℕ) → res ≡ good es m → end ≡ 12 + m → X) → X
+runOf-good (bad m q) end e f = let z : _≡_ {A = ℕ} 0 1 = cc in absurd (omega arith)
+runOf-good (good es m) end e f = f es m refl (cc)
+
+-- ---- entry number k
+
+module _ (v : ℕ) (b : List ℕ) (k : ℕ) (es : List Entry) (w : List ℕ) (c : Cursor) (h : Walked v b es w c)
+    (w′ w₀ : List ℕ) (long : length w′ ≡ length w₀) (past : drop 8192 w′ ≡ drop 8192 w₀) where
+  pub sought-bad : (n p : ℕ) → length es ≤ k → Stepped v b w c w′ (N.Bad n) → Reaches v b w₀ k w′ (S.Bad n p)
+  sought-bad n p few t =
+      record {
+        entry = λ count all m e more. bad-good _ _ _ _ (sym (walked-bad v b es w c h w′ n t count (omega arith)) ∙ e);
+        placed = λ at st q. let z : _≡_ {A = ℕ} 0 1 = cc in absurd (omega arith);
+        long = long;
+        past = past;
+      }
+
+  pub sought-good : (st : Step) → length es ≡ k → Stepped v b w c w′ (N.Good st) → Reaches v b w₀ k w′ (S.Good (c .at) st)
+  sought-good st all-of t =
+      let f : Found v b w c w′ st = t .found st refl in
+      let parts : Placed b (c .at) st = record { fixed = omega arith; name = omega arith; short = f .next .short; stage = f .stage } in
+      record {
+        entry = λ count all m e more. rw all-of at (walked-entry v b es w c h w′ st t count all m e (omega arith));
+        placed = λ at other q.
+            let there : c .at ≡ at = cc in
+            let same : st ≡ other = cc in rw (there, same) at parts;
+        long = long;
+        past = past;
+      }

@@ -1,0 +1,99 @@
+-- The proof that `seek_entry` meets its contract. The loop keeps that some entries lie before the cursor, which with those left are k.
+use mathlib.Core.Path.{_≡_, refl, _∙_}
+use mathlib.Core.List.{List, []}
+use Prim.Native.Nat.{_+_}
+use native.Mathlib.Omega.{arith}
+use borrow.Author.Needs.{needs}
+use lib.ListN.{length, drop, length-append}
+use Rattle.format.specs.Records.{Entry}
+use Rattle.entries_run.specs.Steps.{Inside}
+use Rattle.entries_run.proofs.Steps.{inside-first, Walked, walked-first, walked-more, sought-bad, sought-good}
+use Rattle.entries_run.proofs.seek_entry.Statement.{statement}
+use Rattle.entries_run.proofs.seek_entry.Tie as tie
+
+abbrev Inv-loop : tie.InvT-loop
+Inv-loop b v work₀ k c₀ left₀ work c left =
+    Inside b c × (length work ≡ length work₀) × (drop 8192 work ≡ drop 8192 work₀) × ((es : List Entry) × Walked v b es work c × (length es + left ≡ k))
+
+abbrev μ-loop : tie.MeasureT-loop
+μ-loop b v work₀ k c₀ left₀ work c left = left
+
+first-requires : tie.Need-first-requires Inv-loop μ-loop
+first-requires c κs = search needs
+
+loop-holds : tie.Need-loop-holds Inv-loop μ-loop
+loop-holds c =
+    let st = c .before .before .before in
+    let a = st .args in
+    rw (c .first .ensures) (inside-first (a .b .now) (a .work .now) (st .pre), refl, refl, ([], walked-first (a .v) (a .b .now) (a .work .now), omega arith))
+
+next-entry-requires : tie.Need-next-entry-requires Inv-loop μ-loop
+next-entry-requires c κs = (c .before .loop .inv .0, omega arith)
+
+enum-known-g : tie.Need-enum-known-g Inv-loop μ-loop
+enum-known-g c = search needs
+
+same-length : tie.Need-same-length Inv-loop μ-loop
+same-length c = omega arith
+
+returns : tie.Need-returns Inv-loop μ-loop
+returns c =
+    let e = c .before .before .before .before .before in
+    let l = e .before .before in
+    let a = l .before .before .before .before .args in
+    let t = rw (c .before .g .given .1) at (e .next-entry .ensures) in
+    let (es, walked, sum) = l .loop .inv .3 in
+    sought-bad (a .v) (a .b .now) (a .k) es (l .loop .work) (l .loop .c) walked _ _ (t .long ∙ l .loop .inv .1) (t .past ∙ l .loop .inv .2) _ _ (omega (arith, sum)) t
+
+enum-known-g-2 : tie.Need-enum-known-g-2 Inv-loop μ-loop
+enum-known-g-2 c = search needs
+
+same-length-2 : tie.Need-same-length-2 Inv-loop μ-loop
+same-length-2 c = omega arith
+
+returns-2 : tie.Need-returns-2 Inv-loop μ-loop
+returns-2 c =
+    let e = c .before .before .before .before .before .before in
+    let l = e .before .before in
+    let a = l .before .before .before .before .args in
+    let t = rw (c .before .before .g2 .given .1) at (e .next-entry .ensures) in
+    let (es, walked, sum) = l .loop .inv .3 in
+    sought-good (a .v) (a .b .now) (a .k) es (l .loop .work) (l .loop .c) walked _ _ (t .long ∙ l .loop .inv .1) (t .past ∙ l .loop .inv .2) _ (omega (arith, sum, c .if1 .taken)) t
+
+sub-left : tie.Need-sub-left Inv-loop μ-loop
+sub-left c = omega arith
+
+loop-less : tie.Need-loop-less Inv-loop μ-loop
+loop-less c = omega arith
+
+loop-again : tie.Need-loop-again Inv-loop μ-loop
+loop-again c =
+    let e = c .before .before .before .before .before .before .before in
+    let l = e .before .before in
+    let a = l .before .before .before .before .args in
+    let t = rw (c .before .before .before .g2 .given .1) at (e .next-entry .ensures) in
+    let (es, walked, sum) = l .loop .inv .3 in (
+      t .found _ refl .next,
+      t .long ∙ l .loop .inv .1,
+      t .past ∙ l .loop .inv .2,
+      (_, walked-more (a .v) (a .b .now) es (l .loop .work) (l .loop .c) walked _ _ t, rw length-append (omega (arith, sum, c .before .if1 .left))),
+    )
+
+pub seek-entry-spec : {M : Type 1} → statement M
+seek-entry-spec =
+    tie.close
+    (tie.spec
+    Inv-loop
+    μ-loop
+    first-requires
+    loop-holds
+    next-entry-requires
+    enum-known-g
+    same-length
+    returns
+    enum-known-g-2
+    same-length-2
+    returns-2
+    sub-left
+    loop-less
+    loop-again)

@@ -1,0 +1,147 @@
+-- The proof that `suffix` meets its contract.
+use mathlib.Core.Path.{sym, _∙_}
+use native.Mathlib.Omega.{arith}
+use lib.Seq.{length-take-le}
+use borrow.Author.Needs.{needs}
+use Rattle.entries_run.proofs.PackedRests.{Ended, Copied, suffix-cut, suffix-long, suffix-name, suffix-field, suffix-order, suffix-good}
+use Rattle.entries_run.proofs.suffix.Statement.{statement}
+use Rattle.entries_run.proofs.suffix.Tie as tie
+
+-- what is known once the first NUL is found, and once the name is rebuilt
+ended :
+    (c : tie.After-find) →
+    let a = c .before .before .before .before .before .args in
+    Ended (a .b .now) (a .work .now) (a .c) (a .h) (a .n) (a .took) (c .find .result)
+ended c = record { numbered = c .before .before .before .before .before .pre; is-z = c .find .ensures .0; within = c .find .ensures .1 }
+
+copied :
+    (c : tie.After-rebuild) →
+    let m = c .before .before .before .before .before .before .before in
+    let a = m .before .before .before .before .before .args in
+    Copied (a .b .now) (a .work .now) (a .c) (a .h) (a .n) (a .took) (m .find .result) (c .rebuild .last .0) (c .rebuild .result)
+copied c =
+    let e = c .before .before .before .before in
+    record { ended = ended (e .before .before .before); inside = e .before .before .if1 .left; short = e .if2 .left; rebuilt = c .rebuild .ensures }
+
+add-at : tie.Need-add-at
+add-at c = search needs
+
+add-at-2 : tie.Need-add-at-2
+add-at-2 c = search needs
+
+find-requires : tie.Need-find-requires
+find-requires c κs = search needs
+
+returns : tie.Need-returns
+returns c = suffix-cut _ _ _ _ _ _ _ (ended (c .before)) (c .if1 .taken)
+
+sub-len : tie.Need-sub-len
+sub-len c = search needs
+
+sub-len-2 : tie.Need-sub-len-2
+sub-len-2 c = search needs
+
+add-len : tie.Need-add-len
+add-len c = search needs
+
+returns-2 : tie.Need-returns-2
+returns-2 c = suffix-long _ _ _ _ _ _ _ (ended (c .before .before .before)) (c .before .before .if1 .left) (c .if2 .taken)
+
+sub-rebuild : tie.Need-sub-rebuild
+sub-rebuild c = search needs
+
+part-rebuild-start : tie.Need-part-rebuild-start
+part-rebuild-start c = search needs
+
+part-rebuild-end : tie.Need-part-rebuild-end
+part-rebuild-end c = search needs
+
+rebuild-requires : tie.Need-rebuild-requires
+rebuild-requires c κs = search needs
+
+slice-reshare-prefix-name-ok : tie.Need-slice-reshare-prefix-name-ok
+slice-reshare-prefix-name-ok c = search needs
+
+slice-aggregate-name-ok : tie.Need-slice-aggregate-name-ok
+slice-aggregate-name-ok c =
+    let g = c .before .before .before in
+    let e = g .before .before .before .before in
+    sym (length-take-le _ (g .rebuild .last .0) (omega (arith, e .if2 .left, e .before .before .before .before .before .before .before .before .pre .room)))
+
+name-ok-requires : tie.Need-name-ok-requires
+name-ok-requires c κs = search needs
+
+length-field-requires : tie.Need-length-field-requires
+length-field-requires c κs = search needs
+
+add-t28 : tie.Need-add-t28
+add-t28 c = search needs
+
+same-length : tie.Need-same-length
+same-length c = search needs
+
+returns-3 : tie.Need-returns-3
+returns-3 c =
+    let f = c .before .before in
+    let o = f .before .before .before in
+    let g = o .before .before .before .before in
+    suffix-good _ _ _ _ _ _ _ _ _ (copied g) (sym (o .name-ok .ensures) ∙ f .before .before .if3 .taken) (c .before .if4 .taken ∙ f .length-field .ensures) (c .if5 .taken)
+
+same-length-2 : tie.Need-same-length-2
+same-length-2 c = search needs
+
+returns-4 : tie.Need-returns-4
+returns-4 c =
+    let f = c .before .before in
+    let o = f .before .before .before in
+    let g = o .before .before .before .before in
+    suffix-order _ _ _ _ _ _ _ _ _ (copied g) (sym (o .name-ok .ensures) ∙ f .before .before .if3 .taken) (c .before .if4 .taken ∙ f .length-field .ensures) (c .if5 .left)
+
+same-length-3 : tie.Need-same-length-3
+same-length-3 c = search needs
+
+returns-5 : tie.Need-returns-5
+returns-5 c =
+    let f = c .before in
+    let o = f .before .before .before in
+    let g = o .before .before .before .before in
+    suffix-field _ _ _ _ _ _ _ _ _ (copied g) (sym (o .name-ok .ensures) ∙ f .before .before .if3 .taken) (λ q. c .if4 .left (q ∙ sym (f .length-field .ensures)))
+
+same-length-4 : tie.Need-same-length-4
+same-length-4 c = search needs
+
+returns-6 : tie.Need-returns-6
+returns-6 c =
+    let o = c .before in
+    let g = o .before .before .before .before in
+    suffix-name _ _ _ _ _ _ _ _ _ (copied g) (sym (o .name-ok .ensures) ∙ c .if3 .left)
+
+pub suffix-spec : {M : Type 1} → statement M
+suffix-spec =
+    tie.close
+    (tie.spec
+    add-at
+    add-at-2
+    find-requires
+    returns
+    sub-len
+    sub-len-2
+    add-len
+    returns-2
+    sub-rebuild
+    part-rebuild-start
+    part-rebuild-end
+    rebuild-requires
+    slice-reshare-prefix-name-ok
+    slice-aggregate-name-ok
+    name-ok-requires
+    length-field-requires
+    add-t28
+    same-length
+    returns-3
+    same-length-2
+    returns-4
+    same-length-3
+    returns-5
+    same-length-4
+    returns-6)

@@ -1,0 +1,161 @@
+-- Where names stand, and what a step over an entry leaves behind.
+use mathlib.Core.Path.{_≡_}
+use mathlib.Core.List.{List, _++_}
+use mathlib.Core.Bool.{false, cond}
+use mathlib.Core.Option.{Option, none, some}
+use Prim.Native.Nat.{ℕ, _+_, _-_, _/_, _%_, _≤_, _<_}
+use lib.ListN.{length, take, drop, getElem?}
+use lib.Dec.{eqb}
+use Rattle.format.specs.Names.{compare, common, rises}
+use Rattle.format.specs.Records.{Entry, Key, start}
+use Rattle.format.specs.Layout.{fixedLength}
+use Rattle.format.specs.Reading.{Read, bad, good, shift}
+use Rattle.format.specs.Reader.{isSet, readN, entryOf, readTail, readEntry, readEntries}
+use Rattle.entries.specs.declared.Head.{Head}
+use Rattle.entries_run.specs.declared.Cursor.{Cursor}
+use Rattle.entries_run.specs.declared.Step.{Step}
+use Rattle.entries_run.specs.declared.Next.{Next}
+use Rattle.entries_run.specs.declared.Next.the-variants as N
+use Rattle.entries_run.specs.declared.Run.{Run}
+use Rattle.entries_run.specs.declared.Run.the-variants as R
+use Rattle.entries_run.specs.declared.Sought.{Sought}
+use Rattle.entries_run.specs.declared.Sought.the-variants as S
+use Rattle.entries_run.specs.declared.Standing.{Standing}
+
+-- ---- places
+
+-- a name of len bytes: first in the workspace in version 4, at its start in the body b in versions 2 and 3
+unfoldable pub nameAt : ℕ → List ℕ → List ℕ → ℕ → ℕ → List ℕ
+nameAt v b work start len = cond (eqb v 4) (take len work) (take len (drop start b))
+
+-- the name and the stage before a cursor
+abbrev pub keyAt : ℕ → List ℕ → List ℕ → Cursor → Key
+keyAt v b work c = record { name = nameAt v b work (c .start) (c .len); stage = c .stage }
+
+-- the entry at a place, from what a step over it says
+abbrev pub entryAt : ℕ → List ℕ → List ℕ → ℕ → Step → Entry
+entryAt v b work at st = entryOf 20 (drop at b) (st .flags) (st .word) (nameAt v b work (st .next .start) (st .next .len))
+
+-- a cursor in the body b; the name before it ends at or before it
+pub record Inside (b : List ℕ) (c : Cursor) : Type 0 where
+  pub small : length b ≤ 16777216
+  pub inside : c .at ≤ length b
+  pub behind : c .start + c .len ≤ c .at
+  pub short : c .len ≤ 8192
+
+-- and the bytes h before the name of the entry there
+pub record Headed (b : List ℕ) (c : Cursor) (h : Head) : Type 0 where
+  pub cursor : Inside b c
+  pub is : h .length ≡ fixedLength 20 (isSet 16384 (h .flags))
+  pub least : 62 ≤ h .length
+  pub most : h .length ≤ 64
+  pub there : c .at + h .length ≤ length b
+
+-- and the number N after them, in version 4
+pub record Numbered (b work : List ℕ) (c : Cursor) (h : Head) (n took : ℕ) : Type 0 where
+  pub head : Headed b c h
+  pub number : (p : ℕ) → readN p (c .len) (drop (c .at + h .length) b) ≡ good n took
+  pub fits : n ≤ c .len
+  pub more : c .at + h .length + took ≤ length b
+  pub room : 8192 ≤ length work
+
+-- a body and a workspace that the run of entries takes
+pub record Room (b work : List ℕ) : Type 0 where
+  pub least : 12 ≤ length b
+  pub most : length b ≤ 16777216
+  pub room : 8192 ≤ length work
+
+-- ---- two names
+
+-- how the name t, of stage n, stands to the name s, of stage m
+pub record Stands (s t : List ℕ) (m n : ℕ) (r : Standing) : Type 0 where
+  pub rises : r .rises ≡ rises (compare s t) m n
+  pub common : r .common ≡ common s t
+  pub fits : r .common ≤ length s
+
+-- of the first p bytes of the workspace the last n are replaced by s
+pub record Rebuilt (work : List ℕ) (p n : ℕ) (s : List ℕ) (k l : ℕ) (work′ : List ℕ) (r : Standing) : Type 0 where
+  pub rises : r .rises ≡ rises (compare (take p work) (take (p - n) work ++ s)) k l
+  pub common : r .common ≡ common (take p work) (take (p - n) work ++ s)
+  pub held : work′ ≡ take (p - n) work ++ (s ++ drop (p - n + length s) work)
+
+-- ---- one step
+
+-- an answer as the reader gives it, for the entry at a place that the reader calls p
+abbrev pub said : ℕ → List ℕ → List ℕ → ℕ → ℕ → Next → Read Entry
+said v b work at p (N.Bad n) = bad n p
+said v b work at p (N.Good st) = good (entryAt v b work at st) (st .next .at - at)
+
+-- the parts of a step
+pub record Found (v : ℕ) (b work : List ℕ) (c : Cursor) (work′ : List ℕ) (st : Step) : Type 0 where
+  pub next : Inside b (st .next)
+  pub head : st .head ≡ fixedLength 20 (isSet 16384 (st .flags))
+  pub least : 62 ≤ st .head
+  pub ahead : c .at + st .head < st .next .at
+  pub stage : st .next .stage ≡ st .flags / 4096 % 4
+  pub common : st .common ≡ common (nameAt v b work (c .start) (c .len)) (nameAt v b work′ (st .next .start) (st .next .len))
+
+-- what a function leaves behind that reads an entry as read does, at each place: the answer r, and work′, which was work
+pub record Answered (read : ℕ → Read Entry) (v : ℕ) (b work : List ℕ) (c : Cursor) (work′ : List ℕ) (r : Next) : Type 0 where
+  pub same : (p : ℕ) → read p ≡ said v b work′ (c .at) p r
+  pub found : (st : Step) → r ≡ N.Good st → Found v b work c work′ st
+  pub long : length work′ ≡ length work
+  pub past : drop 8192 work′ ≡ drop 8192 work
+  pub plain : eqb v 4 ≡ false → work′ ≡ work
+
+-- what readEntry reads after the bytes h
+unfoldable pub readRest : ℕ → List ℕ → List ℕ → Cursor → Head → ℕ → Read Entry
+readRest v b work c h p = shift (h .length) (readTail 20 v (keyAt v b work c) p (h .length) (h .flags) (h .word) (drop (c .at) b))
+
+-- a step over the entry at a cursor
+abbrev pub Stepped : ℕ → List ℕ → List ℕ → Cursor → List ℕ → Next → Type 0
+Stepped v b work c work′ r = Answered (λ p. readEntry 20 v (keyAt v b work c) p (drop (c .at) b)) v b work c work′ r
+
+-- ---- the run
+
+-- before the first entry stands the empty name
+abbrev pub firstCursor : Cursor
+firstCursor = record { at = 12; start = 0; len = 0; stage = 0 }
+
+-- n entries of the body b, from a cursor on
+abbrev pub runFrom : ℕ → ℕ → List ℕ → List ℕ → Cursor → Read (List Entry)
+runFrom v n b work c = readEntries 20 v n (keyAt v b work c) (c .at) (drop (c .at) b)
+
+-- the answer as the code gives it
+abbrev pub runOf : Read (List Entry) → Run
+runOf (bad n p) = R.Bad n p
+runOf (good es m) = R.Good (12 + m)
+
+-- the end, 0 of a refusal
+abbrev pub endOf : Run → ℕ
+endOf (R.Bad n p) = 0
+endOf (R.Good e) = e
+
+-- what the run of count entries leaves behind
+pub record Ran (v : ℕ) (b work : List ℕ) (count : ℕ) (work′ : List ℕ) (r : Run) : Type 0 where
+  pub same : r ≡ runOf (readEntries 20 v count start 12 (drop 12 b))
+  pub inside : endOf r ≤ length b
+  pub long : length work′ ≡ length work
+  pub past : drop 8192 work′ ≡ drop 8192 work
+
+-- ---- entry number k
+
+-- the entry that was sought
+abbrev pub soughtIn : ℕ → List ℕ → List ℕ → Sought → Option Entry
+soughtIn v b work (S.Bad n p) = none
+soughtIn v b work (S.Good at st) = some (entryAt v b work at st)
+
+-- where the parts of the entry at a place stand
+pub record Placed (b : List ℕ) (at : ℕ) (st : Step) : Type 0 where
+  pub fixed : at + 62 ≤ length b
+  pub name : st .next .start + st .next .len ≤ length b
+  pub short : st .next .len ≤ 8192
+  pub stage : st .next .stage ≡ st .flags / 4096 % 4
+
+-- of a body with more than k entries, entry k was found
+pub record Reaches (v : ℕ) (b work : List ℕ) (k : ℕ) (work′ : List ℕ) (r : Sought) : Type 0 where
+  pub entry : (count : ℕ) (es : List Entry) (m : ℕ) → readEntries 20 v count start 12 (drop 12 b) ≡ good es m → k < count
+      → getElem? es k ≡ soughtIn v b work′ r
+  pub placed : (at : ℕ) (st : Step) → r ≡ S.Good at st → Placed b at st
+  pub long : length work′ ≡ length work
+  pub past : drop 8192 work′ ≡ drop 8192 work

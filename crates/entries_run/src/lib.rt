@@ -1,0 +1,250 @@
+// One entry of any version after another, the run of all entries, and entry number k.
+ghost use mathlib.Core.Path.{_≡_};
+ghost use mathlib.Core.Bool.{false};
+ghost use mathlib.Core.List.{List};
+ghost use Prim.Native.Nat.{ℕ, _+_, _-_, _≤_};
+ghost use lib.ListN.{length};
+ghost use lib.Dec.{eqb};
+ghost use Rattle.entries_run.specs.Steps.{Stands, Rebuilt, Room, Inside, Headed, Numbered, Answered, readRest, Stepped, firstCursor, Ran, Reaches};
+use entries::Fixed;
+use entries::Head;
+use entries::Number;
+use entries::Text;
+use format::Order;
+
+// The place of the next entry, and where the name of the one before stands, with its stage.
+pub struct Cursor {
+    pub at: usize,
+    pub start: usize,
+    pub len: usize,
+    pub stage: u32,
+}
+
+// An entry: the bytes before its name, its flags, its extended word or 0, what its name and the one before have in common, and what comes next.
+pub struct Step {
+    pub head: usize,
+    pub flags: u32,
+    pub word: u32,
+    pub common: usize,
+    pub next: Cursor,
+}
+
+// A refusal's number, or an entry.
+pub enum Next {
+    Bad(u32),
+    Good(Step),
+}
+
+// A refusal's number and place, or the byte where entries end.
+pub enum Run {
+    Bad(u32, usize),
+    Good(usize),
+}
+
+// A refusal's number and place, or an entry and its place.
+pub enum Sought {
+    Bad(u32, usize),
+    Good(usize, Step),
+}
+
+// Whether a name may follow another, and how many bytes they have in common.
+pub struct Standing {
+    pub rises: bool,
+    pub common: usize,
+}
+
+// Before the first entry stands the empty name.
+pub fn first() -> Cursor
+    ensures { λ r. ⌜ r ≡ firstCursor ⌝ }
+{
+    Cursor {
+        at: 12,
+        start: 0,
+        len: 0,
+        stage: 0,
+    }
+}
+
+// Whether a name of stage t may follow the previous one, of stage s, and how many bytes the two have in common.
+fn standing_of(previous: &[u8], name: &[u8], s: u32, t: u32) -> Standing
+    ensures { λ r. ⌜ Stands (now (previous .entry)) (now (name .entry)) s t r ⌝ }
+{
+    let n = fields::common(previous, name);
+    let o = fields::order_after(previous, name, n);
+    match o {
+        Order::Below => Standing {
+            rises: true,
+            common: n,
+        },
+        Order::Same => Standing {
+            rises: s < t,
+            common: n,
+        },
+        Order::Above => Standing {
+            rises: false,
+            common: n,
+        },
+    }
+}
+
+// In the name in the first p bytes of the workspace, the last n are replaced by suffix. The two names are compared before the copy.
+fn rebuild(work: &mut [u8], p: usize, n: usize, suffix: &[u8], s: u32, t: u32) -> Standing
+    requires { ⌜ (n ≤ p) × (p ≤ 8192) × (p - n + length (now suffix) ≤ 8192) × (8192 ≤ length (now work)) ⌝ }
+    ensures { λ r. ⌜ Rebuilt (now (work .entry)) p n (now (suffix .entry)) s t (now (work .exit)) r ⌝ }
+{
+    let kept = p - n;
+    let d = standing_of(&work[kept..p], suffix, s, t);
+    fields::copy_to(work, kept, suffix);
+    Standing {
+        rises: d.rises,
+        common: kept + d.common,
+    }
+}
+
+// The rest of an entry of version 4 after the number N, which is n and took that many bytes.
+fn suffix(b: &[u8], work: &mut [u8], c: Cursor, h: Head, n: usize, took: usize) -> Next
+    requires { ⌜ Numbered (now b) (now work) c h n took ⌝ }
+    ensures { λ r. ⌜ Answered (readRest 4 (now (b .entry)) (now (work .entry)) c h) 4 (now (b .entry)) (now (work .entry)) c (now (work .exit)) r ⌝ }
+{
+    let at = c.at + h.length + took;
+    let z = fields::find(b, at, 0);
+    if z == b.len() {
+        return Next::Bad(6);
+    }
+    let len = c.len - n + (z - at);
+    if fields::LONGEST < len {
+        return Next::Bad(9);
+    }
+    let stage = h.flags / 4096 % 4;
+    let d = rebuild(&mut *work, c.len, n, &b[at..z], c.stage, stage);
+    if fields::name_ok(&work[..len]) {
+        if h.flags % 4096 == fields::length_field(len) {
+            if d.rises {
+                return Next::Good(Step {
+                    head: h.length,
+                    flags: h.flags,
+                    word: h.word,
+                    common: d.common,
+                    next: Cursor {
+                        at: z + 1,
+                        start: 0,
+                        len: len,
+                        stage: stage,
+                    },
+                });
+            }
+            return Next::Bad(11);
+        }
+        return Next::Bad(9);
+    }
+    Next::Bad(9)
+}
+
+// The rest of an entry of version 4 after the bytes h.
+fn packed(b: &[u8], work: &mut [u8], c: Cursor, h: Head) -> Next
+    requires { ⌜ Headed (now b) c h × (8192 ≤ length (now work)) ⌝ }
+    ensures { λ r. ⌜ Answered (readRest 4 (now (b .entry)) (now (work .entry)) c h) 4 (now (b .entry)) (now (work .entry)) c (now (work .exit)) r ⌝ }
+{
+    let m = entries::read_n(b, c.at + h.length, c.len);
+    match m {
+        Number::Bad(n) => Next::Bad(n),
+        Number::Good(n, took) => suffix(b, work, c, h, n, took),
+    }
+}
+
+// The rest of an entry of version 2 or 3 after the bytes h.
+fn plain(b: &[u8], c: Cursor, h: Head) -> Next
+    requires { ⌜ Headed (now b) c h ⌝ }
+    ensures { λ r. ⌜ ((v : ℕ) (work : List ℕ) → eqb v 4 ≡ false → Answered (readRest v (now (b .entry)) work c h) v (now (b .entry)) work c work r) ⌝ }
+{
+    let at = c.at + h.length;
+    let t = entries::read_plain(b, at, h.length, h.flags % 4096);
+    match t {
+        Text::Bad(n) => Next::Bad(n),
+        Text::Good(n, m) => {
+            let a = c.start;
+            let e = a + c.len;
+            let z = at + n;
+            let stage = h.flags / 4096 % 4;
+            let d = standing_of(&b[a..e], &b[at..z], c.stage, stage);
+            if d.rises {
+                return Next::Good(Step {
+                    head: h.length,
+                    flags: h.flags,
+                    word: h.word,
+                    common: d.common,
+                    next: Cursor {
+                        at: at + m,
+                        start: at,
+                        len: n,
+                        stage: stage,
+                    },
+                });
+            }
+            Next::Bad(11)
+        }
+    }
+}
+
+// The entry at a cursor.
+pub fn next_entry(b: &[u8], v: u32, work: &mut [u8], c: Cursor) -> Next
+    requires { ⌜ Inside (now b) c × (8192 ≤ length (now work)) ⌝ }
+    ensures { λ r. ⌜ Stepped v (now (b .entry)) (now (work .entry)) c (now (work .exit)) r ⌝ }
+{
+    let f = entries::read_fixed(b, c.at, v);
+    match f {
+        Fixed::Bad(n) => Next::Bad(n),
+        Fixed::Good(h) => {
+            if v == 4 {
+                return packed(b, work, c, h);
+            }
+            plain(b, c, h)
+        }
+    }
+}
+
+// The run of entries of a body: count of them, from its 12th byte on.
+pub fn run_entries(b: &[u8], v: u32, work: &mut [u8], count: u32) -> Run
+    requires { ⌜ Room (now b) (now work) ⌝ }
+    ensures { λ r. ⌜ Ran v (now (b .entry)) (now (work .entry)) count (now (work .exit)) r ⌝ }
+{
+    let mut c = first();
+    let mut left = count;
+    while 0 < left {
+        let g = next_entry(b, v, &mut *work, c);
+        match g {
+            Next::Bad(n) => {
+                return Run::Bad(n, c.at);
+            }
+            Next::Good(st) => {
+                c = st.next;
+            }
+        }
+        left -= 1;
+    }
+    Run::Good(c.at)
+}
+
+// Entry number k of a body. Every entry before it is read: an entry's place and, in version 4, its name depend on them.
+pub fn seek_entry(b: &[u8], v: u32, work: &mut [u8], k: u32) -> Sought
+    requires { ⌜ Room (now b) (now work) ⌝ }
+    ensures { λ r. ⌜ Reaches v (now (b .entry)) (now (work .entry)) k (now (work .exit)) r ⌝ }
+{
+    let mut c = first();
+    let mut left = k;
+    loop {
+        let g = next_entry(b, v, &mut *work, c);
+        match g {
+            Next::Bad(n) => {
+                return Sought::Bad(n, c.at);
+            }
+            Next::Good(st) => {
+                if left == 0 {
+                    return Sought::Good(c.at, st);
+                }
+                c = st.next;
+            }
+        }
+        left -= 1;
+    }
+}
