@@ -17,7 +17,7 @@ use Rattle.format.specs.Layout.{someStage}
 use Rattle.format.specs.Reading.{Read, bad, good, need, shift, bind}
 use Rattle.format.specs.Reader.{readText, needSome, modeIn, readMode, readStage, readStages, readUndo}
 use Rattle.spelling_entries.proofs.Reading.{by-test, cond-inv, good-inv, need-inv, bind-inv, need-good, bind-good}
-use Rattle.spelling_extensions.proofs.Texts.{same-size}
+use Rattle.spelling_extensions.proofs.Answers.{same-size}
 use Rattle.resolve_undo.specs.declared.ModeFound.the-variants as F
 use Rattle.resolve_undo.specs.declared.ModeRead.{ModeRead}
 use Rattle.resolve_undo.specs.declared.ModeRead.the-variants as M
