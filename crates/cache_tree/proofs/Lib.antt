@@ -1,0 +1,11 @@
+-- Laws that the functions' proofs cite.
+pub mod Numbers
+pub mod Readings
+pub mod Nodes
+pub mod Names
+pub mod Lists
+pub mod Flat
+pub mod Orders
+pub mod Differ
+pub mod Shape
+pub mod Faults

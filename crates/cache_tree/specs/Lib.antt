@@ -1,0 +1,5 @@
+-- What the crate's contracts cite.
+pub mod Answers
+pub mod Flat
+pub mod Orders
+pub mod Shape
