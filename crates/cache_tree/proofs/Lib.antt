@@ -7,5 +7,6 @@ pub mod Lists
 pub mod Flat
 pub mod Orders
 pub mod Differ
+pub mod Bits
 pub mod Shape
 pub mod Faults

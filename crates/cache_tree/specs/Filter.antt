@@ -1,0 +1,48 @@
+-- A filter of 65,536 bits in the workspace: a name that is not marked in it is not among those that were.
+use mathlib.Core.List.{List, [], _∷_}
+use mathlib.Core.Bool.{Bool, true, false, cond, _&&_}
+use Prim.Native.Nat.{ℕ, zero, suc, _+_, _*_, _/_, _%_, _^_}
+use lib.ListN.{getD, set}
+use lib.Bits.{bitOr}
+use lib.Dec.{eqb}
+
+-- one step of the hash of a name
+unfoldable pub stir : ℕ → ℕ
+stir x = (x * 1332534557 % 4294967296 + x * 1332534557 % 4294967296 / 32768) % 4294967296
+
+unfoldable pub hashFrom : ℕ → ℕ → List ℕ → ℕ
+hashFrom key h [] = h
+hashFrom key h (b ∷ s) = hashFrom key (stir (h + b + key)) s
+
+unfoldable pub hashOf : ℕ → List ℕ → ℕ
+hashOf seed s = hashFrom (seed / 4294967296) (seed % 4294967296) s
+
+-- the four bits of a hash: the low half, and then the high half further on each time
+unfoldable pub nextSpot : ℕ → ℕ → ℕ
+nextSpot h i = (i + h / 65536) % 65536
+
+unfoldable pub spot : ℕ → ℕ → ℕ
+spot h zero = h % 65536
+spot h (suc j) = nextSpot h (spot h j)
+
+-- a bit in its byte
+unfoldable pub mask : ℕ → ℕ
+mask i = 1 * 2 ^ (i % 8) % 256
+
+-- whether a bit is set, and the filter with that bit set
+unfoldable pub hasBit : List ℕ → ℕ → Bool
+hasBit w i = eqb (bitOr (getD w (i / 8) 0) (mask i)) (getD w (i / 8) 0)
+
+unfoldable pub setBit : List ℕ → ℕ → List ℕ
+setBit w i = set w (i / 8) (bitOr (getD w (i / 8) 0) (mask i))
+
+unfoldable pub marked : List ℕ → ℕ → Bool
+marked w h = hasBit w (spot h 0) && (hasBit w (spot h 1) && (hasBit w (spot h 2) && hasBit w (spot h 3)))
+
+unfoldable pub markIn : List ℕ → ℕ → List ℕ
+markIn w h = setBit (setBit (setBit (setBit w (spot h 0)) (spot h 1)) (spot h 2)) (spot h 3)
+
+-- whether all of these names are marked
+unfoldable pub allMarked : ℕ → List ℕ → List (List ℕ) → Bool
+allMarked seed w [] = true
+allMarked seed w (x ∷ l) = cond (marked w (hashOf seed x)) (allMarked seed w l) false
