@@ -29,7 +29,7 @@ pub rest-at : (d : List ℕ) (a r : ℕ) → r ≡ a + treesLength 1 (drop a d) 
 unfolding restOf
 rest-at d a r is = ap (λ (n : ℕ). drop n d) is ∙ sym (drop-drop (treesLength 1 (drop a d)) a d)
 
-names-none : (k : ℕ) (s : List ℕ) → k ≤ 0 → namesOf k s ≡ []
+pub names-none : (k : ℕ) (s : List ℕ) → k ≤ 0 → namesOf k s ≡ []
 unfolding namesOf
 names-none k s h = let z : k ≡ 0 = omega arith in rw z
 

@@ -8,5 +8,6 @@ pub mod Flat
 pub mod Orders
 pub mod Differ
 pub mod Bits
+pub mod Apart
 pub mod Shape
 pub mod Faults

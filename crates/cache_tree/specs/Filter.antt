@@ -5,6 +5,7 @@ use Prim.Native.Nat.{ℕ, zero, suc, _+_, _*_, _/_, _%_, _^_}
 use lib.ListN.{getD, set}
 use lib.Bits.{bitOr}
 use lib.Dec.{eqb}
+use Rattle.cache_tree.specs.Flat.{restOf, hasName}
 
 -- one step of the hash of a name
 unfoldable pub stir : ℕ → ℕ
@@ -46,3 +47,13 @@ markIn w h = setBit (setBit (setBit (setBit w (spot h 0)) (spot h 1)) (spot h 2)
 unfoldable pub allMarked : ℕ → List ℕ → List (List ℕ) → Bool
 allMarked seed w [] = true
 allMarked seed w (x ∷ l) = cond (marked w (hashOf seed x)) (allMarked seed w l) false
+
+-- whether none of these names is among the names c
+unfoldable pub apart : List (List ℕ) → List (List ℕ) → Bool
+apart c [] = true
+apart c (x ∷ l) = cond (hasName x c) false (apart c l)
+
+-- what follows k siblings
+unfoldable pub restAfter : ℕ → List ℕ → List ℕ
+restAfter zero s = s
+restAfter (suc k) s = restAfter k (restOf s)

@@ -1,4 +1,5 @@
 // The cache tree: reading the data of the TREE extension. Every fault of the data is refusal 15, so the answers have no number.
+pub mod chunks;
 pub mod filter;
 pub mod list;
 pub mod node;
