@@ -1,9 +1,8 @@
 -- Laws of the filter: what is marked is marked, and stays.
 use mathlib.Core.Path.{_≡_, refl, sym, ap, ap₂, _∙_}
-use mathlib.Core.List.{List, [], _∷_, _++_}
-use mathlib.Core.Bool.{Bool, true, false, cond, _&&_, true≢false}
-use mathlib.Core.Logic.{_⊎_, inl, inr, ⊎-elim}
-use Prim.Native.Nat.{ℕ, zero, suc, _+_, _*_, _/_, _%_, _^_, _≤_, _<_, max}
+use mathlib.Core.List.{List}
+use mathlib.Core.Bool.{Bool, true, false, cond, true≢false}
+use Prim.Native.Nat.{ℕ, zero, suc, _+_, _-_, _*_, _/_, _%_, _≤_, _<_, max}
 use native.Mathlib.Numerals.{add-one}
 use native.Mathlib.Omega.{arith}
 use lib.Arith.{bin-ind}
@@ -12,7 +11,7 @@ use lib.ListN.{length, getD, drop, set, length-set, drop-of-length-le}
 use lib.Seq.{drop-cons, drop-set-lt, getD-set-same, getD-set-other}
 use lib.Dec.{eqb}
 use borrow.Author.Tests.{eqb-true, eqb-false, eq-eqb}
-use Rattle.cache_tree.specs.Filter.{stir, hashFrom, hashOf, nextSpot, spot, mask, hasBit, setBit, marked, markIn, allMarked}
+use Rattle.cache_tree.specs.Filter.{stir, hashFrom, nextSpot, mask, hasBit, setBit, hasBits, setBits, marked, markIn}
 
 -- ---- the hash, byte by byte
 
@@ -25,43 +24,32 @@ module _ (key h : ℕ) (s : List ℕ) (i : ℕ) where
   unfolding hashFrom
   hash-more l = rw (drop-cons s i 0 l, add-one)
 
--- ---- the four bits of a hash
+-- ---- the bits of a hash, one after another
 
-module _ (w : List ℕ) (h a : ℕ) (is-a : a ≡ spot h 0) where
-  pub seen-none : hasBit w a ≡ false → marked w h ≡ false
-  unfolding marked
-  seen-none p = rw (← is-a, p)
+module _ (w : List ℕ) (h i n : ℕ) where
+  pub bits-end : n ≤ 0 → hasBits n w h i ≡ true
+  unfolding hasBits
+  bits-end e = let z : n ≡ 0 = omega arith in rw z
 
-  module _ (has-a : hasBit w a ≡ true) (b : ℕ) (is-b : b ≡ nextSpot h a) where
-    second : b ≡ spot h 1
-    unfolding spot
-    second = is-b ∙ ap (nextSpot h) is-a
+  pub set-end : n ≤ 0 → setBits n w h i ≡ w
+  unfolding setBits
+  set-end e = let z : n ≡ 0 = omega arith in rw z
 
-    pub seen-one : hasBit w b ≡ false → marked w h ≡ false
-    unfolding marked
-    seen-one p = rw (← is-a, has-a, ← second, p)
+module _ (w : List ℕ) (h i : ℕ) where
+  pub bits-not : (n : ℕ) → 0 < n → hasBit w i ≡ false → hasBits n w h i ≡ false
+  unfolding hasBits
+  bits-not zero l e = absurd (omega arith)
+  bits-not (suc n) l e = rw e
 
-    module _ (has-b : hasBit w b ≡ true) (c : ℕ) (is-c : c ≡ nextSpot h b) where
-      third : c ≡ spot h 2
-      unfolding spot
-      third = is-c ∙ ap (nextSpot h) second
+  pub bits-more : (n j : ℕ) → 0 < n → hasBit w i ≡ true → j ≡ nextSpot h i → hasBits n w h i ≡ hasBits (n - 1) w h j
+  unfolding hasBits
+  bits-more zero j l e k = absurd (omega arith)
+  bits-more (suc n) j l e k = let z : suc n - 1 ≡ n = omega arith in rw (e, z, k)
 
-      fourth : (e : ℕ) → e ≡ nextSpot h c → e ≡ spot h 3
-      unfolding spot
-      fourth e is-e = is-e ∙ ap (nextSpot h) third
-
-      pub seen-two : hasBit w c ≡ false → marked w h ≡ false
-      unfolding marked
-      seen-two p = rw (← is-a, has-a, ← second, has-b, ← third, p)
-
-      pub seen-three : hasBit w c ≡ true → (e : ℕ) → e ≡ nextSpot h c → marked w h ≡ hasBit w e
-      unfolding marked
-      seen-three p e is-e = rw (← is-a, has-a, ← second, has-b, ← third, p, ← (fourth e is-e))
-
-pub mark-all : (w x y z u : List ℕ) (h a b c e : ℕ) → a ≡ spot h 0 → b ≡ nextSpot h a → c ≡ nextSpot h b → e ≡ nextSpot h c
-    → x ≡ setBit w a → y ≡ setBit x b → z ≡ setBit y c → u ≡ setBit z e → u ≡ markIn w h
-unfolding markIn spot
-mark-all w x y z u h a b c e ia ib ic ie p q r t = rw (t, r, q, p, ie, ic, ib, ia)
+  pub set-more : (n j : ℕ) (v : List ℕ) → 0 < n → v ≡ setBit w i → j ≡ nextSpot h i → setBits n w h i ≡ setBits (n - 1) v h j
+  unfolding setBits
+  set-more zero j v l e k = absurd (omega arith)
+  set-more (suc n) j v l e k = let z : suc n - 1 ≡ n = omega arith in rw (e, z, k)
 
 -- ---- bits
 
@@ -121,7 +109,7 @@ module _ (w : List ℕ) (room : 8192 ≤ length w) (i : ℕ) (inside : i < 65536
   byte-in : i / 8 < length w
   byte-in = omega arith
 
-  length-bit : length (setBit w i) ≡ length w
+  pub length-bit : length (setBit w i) ≡ length w
   unfolding setBit
   length-bit = simp length-set
 
@@ -137,67 +125,66 @@ module _ (w : List ℕ) (room : 8192 ≤ length w) (i : ℕ) (inside : i < 65536
   unfolding setBit
   rest-bit = let l : i / 8 < 8192 = omega arith in drop-set-lt 8192 w (i / 8) (bitOr (getD w (i / 8) 0) (mask i)) l
 
-spot-below : (h j : ℕ) → spot h j < 65536
-unfolding spot nextSpot
-spot-below h zero = omega arith
-spot-below h (suc j) = omega arith
+next-below : (h i : ℕ) → nextSpot h i < 65536
+unfolding nextSpot
+next-below h i = omega arith
 
--- the filter with some bits of h set
-unfoldable pub markTo : ℕ → List ℕ → ℕ → List ℕ
-markTo zero w h = w
-markTo (suc n) w h = setBit (markTo n w h) (spot h n)
+-- several bits of h, from i on
+module _ (h : ℕ) where
+  room-bit : (w : List ℕ) (i : ℕ) → 8192 ≤ length w → i < 65536 → 8192 ≤ length (setBit w i)
+  room-bit w i room l = omega (arith, length-bit w room i l)
+
+  length-bits : (n : ℕ) (w : List ℕ) (i : ℕ) → 8192 ≤ length w → i < 65536 → length (setBits n w h i) ≡ length w
+  unfolding setBits
+  length-bits zero w i room l = refl
+  length-bits (suc n) w i room l = length-bits n (setBit w i) (nextSpot h i) (room-bit w i room l) (next-below h i) ∙ length-bit w room i l
+
+  rest-bits : (n : ℕ) (w : List ℕ) (i : ℕ) → 8192 ≤ length w → i < 65536 → drop 8192 (setBits n w h i) ≡ drop 8192 w
+  unfolding setBits
+  rest-bits zero w i room l = refl
+  rest-bits (suc n) w i room l = rest-bits n (setBit w i) (nextSpot h i) (room-bit w i room l) (next-below h i) ∙ rest-bit w room i l
+
+  -- a bit that is set stays set
+  stays-bits : (n : ℕ) (w : List ℕ) (i j : ℕ) → 8192 ≤ length w → i < 65536 → hasBit w j ≡ true → hasBit (setBits n w h i) j ≡ true
+  unfolding setBits
+  stays-bits zero w i j room l k = k
+  stays-bits (suc n) w i j room l k = stays-bits n (setBit w i) (nextSpot h i) j (room-bit w i room l) (next-below h i) (bit-stays w room i l j k)
+
+  -- all of them are set
+  in-bits : (n : ℕ) (w : List ℕ) (i : ℕ) → 8192 ≤ length w → i < 65536 → hasBits n (setBits n w h i) h i ≡ true
+  unfolding hasBits setBits
+  in-bits zero w i room l = refl
+  in-bits (suc n) w i room l =
+      rw (stays-bits n (setBit w i) (nextSpot h i) i (room-bit w i room l) (next-below h i) (bit-in w room i l)) (in-bits n (setBit w i) (nextSpot h i) (room-bit w i room l) (next-below h i))
+
+  cond-inv : (a b : Bool) → cond a b false ≡ true → (a ≡ true) × (b ≡ true)
+  cond-inv true b k = (refl, k)
+  cond-inv false b k = absurd (true≢false (sym k))
+
+  -- those of another hash stay set
+  all-stay : (n m : ℕ) (w : List ℕ) (i g j : ℕ) → 8192 ≤ length w → i < 65536 → hasBits m w g j ≡ true → hasBits m (setBits n w h i) g j ≡ true
+  unfolding hasBits
+  all-stay n zero w i g j room l k = refl
+  all-stay n (suc m) w i g j room l k =
+      let c = cond-inv (hasBit w j) (hasBits m w g (nextSpot g j)) k in
+      rw (stays-bits n w i j room l (c .0)) (all-stay n m w i g (nextSpot g j) room l (c .1))
 
 module _ (w : List ℕ) (room : 8192 ≤ length w) (h : ℕ) where
-  length-to : (n : ℕ) → length (markTo n w h) ≡ length w
-  unfolding markTo
-  length-to zero = refl
-  length-to (suc n) = let e = length-to n in length-bit (markTo n w h) (omega arith) (spot h n) (spot-below h n) ∙ e
-
-  room-to : (n : ℕ) → 8192 ≤ length (markTo n w h)
-  room-to n = omega (arith, length-to n)
-
-  rest-to : (n : ℕ) → drop 8192 (markTo n w h) ≡ drop 8192 w
-  unfolding markTo
-  rest-to zero = refl
-  rest-to (suc n) = rest-bit (markTo n w h) (room-to n) (spot h n) (spot-below h n) ∙ rest-to n
-
-  stays-to : (n j : ℕ) → hasBit w j ≡ true → hasBit (markTo n w h) j ≡ true
-  unfolding markTo
-  stays-to zero j k = k
-  stays-to (suc n) j k = bit-stays (markTo n w h) (room-to n) (spot h n) (spot-below h n) j (stays-to n j k)
-
-  -- bit number j is set, and stays set
-  in-to : (n j : ℕ) → j < n → hasBit (markTo n w h) (spot h j) ≡ true
-  unfolding markTo
-  in-to zero j l = absurd (omega arith)
-  in-to (suc n) j l = by (eqb j n) refl (in-to n j)
-    where
-      by : (t : Bool) → eqb j n ≡ t → (j < n → hasBit (markTo n w h) (spot h j) ≡ true) → hasBit (setBit (markTo n w h) (spot h n)) (spot h j) ≡ true
-      by true e f = rw (eqb-true j n e) (bit-in (markTo n w h) (room-to n) (spot h n) (spot-below h n))
-      by false e f = let ne : j ≡ n → ⊥ = eqb-false j n e in bit-stays (markTo n w h) (room-to n) (spot h n) (spot-below h n) (spot h j) (f (omega arith))
-
-  mark-is : markIn w h ≡ markTo 4 w h
-  unfolding markIn markTo
-  mark-is = refl
+  start-below : h % 65536 < 65536
+  start-below = omega arith
 
   pub length-mark : length (markIn w h) ≡ length w
-  length-mark = ap length mark-is ∙ length-to 4
+  unfolding markIn
+  length-mark = length-bits h 8 w (h % 65536) room start-below
 
   pub rest-mark : drop 8192 (markIn w h) ≡ drop 8192 w
-  rest-mark = ap (drop 8192) mark-is ∙ rest-to 4
+  unfolding markIn
+  rest-mark = rest-bits h 8 w (h % 65536) room start-below
 
   pub marked-in : marked (markIn w h) h ≡ true
-  unfolding marked
-  marked-in = rw (mark-is, in-to 4 0 (omega arith), in-to 4 1 (omega arith), in-to 4 2 (omega arith), in-to 4 3 (omega arith))
-
-  and-true : (a b : Bool) → (a && b) ≡ true → (a ≡ true) × (b ≡ true)
-  and-true true b e = (refl, e)
-  and-true false b e = absurd (true≢false (sym e))
+  unfolding marked markIn
+  marked-in = in-bits h 8 w (h % 65536) room start-below
 
   pub marked-stays : (g : ℕ) → marked w g ≡ true → marked (markIn w h) g ≡ true
-  unfolding marked
-  marked-stays g k =
-      let a = and-true (hasBit w (spot g 0)) _ k in
-      let b = and-true (hasBit w (spot g 1)) _ (a .1) in
-      let c = and-true (hasBit w (spot g 2)) _ (b .1) in
-      rw (mark-is, stays-to 4 (spot g 0) (a .0), stays-to 4 (spot g 1) (b .0), stays-to 4 (spot g 2) (c .0), stays-to 4 (spot g 3) (c .1))
+  unfolding marked markIn
+  marked-stays g k = all-stay h 8 8 w (h % 65536) g (g % 65536) room start-below k

@@ -1,6 +1,6 @@
 -- A filter of 65,536 bits in the workspace: a name that is not marked in it is not among those that were.
 use mathlib.Core.List.{List, [], _∷_}
-use mathlib.Core.Bool.{Bool, true, false, cond, _&&_}
+use mathlib.Core.Bool.{Bool, true, false, cond}
 use Prim.Native.Nat.{ℕ, zero, suc, _+_, _*_, _/_, _%_, _^_}
 use lib.ListN.{getD, set}
 use lib.Bits.{bitOr}
@@ -18,13 +18,9 @@ hashFrom key h (b ∷ s) = hashFrom key (stir (h + b + key)) s
 unfoldable pub hashOf : ℕ → List ℕ → ℕ
 hashOf seed s = hashFrom (seed / 4294967296) (seed % 4294967296) s
 
--- the four bits of a hash: the low half, and then the high half further on each time
+-- the bit of a hash after another: the first is its low half, each next one is its high half further on
 unfoldable pub nextSpot : ℕ → ℕ → ℕ
 nextSpot h i = (i + h / 65536) % 65536
-
-unfoldable pub spot : ℕ → ℕ → ℕ
-spot h zero = h % 65536
-spot h (suc j) = nextSpot h (spot h j)
 
 -- a bit in its byte
 unfoldable pub mask : ℕ → ℕ
@@ -37,11 +33,21 @@ hasBit w i = eqb (bitOr (getD w (i / 8) 0) (mask i)) (getD w (i / 8) 0)
 unfoldable pub setBit : List ℕ → ℕ → List ℕ
 setBit w i = set w (i / 8) (bitOr (getD w (i / 8) 0) (mask i))
 
+-- the same of n bits of a hash, from the bit i on
+unfoldable pub hasBits : ℕ → List ℕ → ℕ → ℕ → Bool
+hasBits zero w h i = true
+hasBits (suc n) w h i = cond (hasBit w i) (hasBits n w h (nextSpot h i)) false
+
+unfoldable pub setBits : ℕ → List ℕ → ℕ → ℕ → List ℕ
+setBits zero w h i = w
+setBits (suc n) w h i = setBits n (setBit w i) h (nextSpot h i)
+
+-- eight bits for a name
 unfoldable pub marked : List ℕ → ℕ → Bool
-marked w h = hasBit w (spot h 0) && (hasBit w (spot h 1) && (hasBit w (spot h 2) && hasBit w (spot h 3)))
+marked w h = hasBits 8 w h (h % 65536)
 
 unfoldable pub markIn : List ℕ → ℕ → List ℕ
-markIn w h = setBit (setBit (setBit (setBit w (spot h 0)) (spot h 1)) (spot h 2)) (spot h 3)
+markIn w h = setBits 8 w h (h % 65536)
 
 -- whether all of these names are marked
 unfoldable pub allMarked : ℕ → List ℕ → List (List ℕ) → Bool

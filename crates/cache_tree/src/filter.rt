@@ -60,18 +60,17 @@ pub fn seen(w: &[u8], h: u64) -> bool
     requires { ⌜ (h < 4294967296) × (8192 ≤ length (now w)) ⌝ }
     ensures { λ r. ⌜ r ≡ marked (now (w .entry)) h ⌝ }
 {
-    let a = h % 65536;
-    if has_bit(w, a) {
-        let b = next_spot(h, a);
-        if has_bit(w, b) {
-            let c = next_spot(h, b);
-            if has_bit(w, c) {
-                let e = next_spot(h, c);
-                return has_bit(w, e);
-            }
+    let mut i = h % 65536;
+    let mut left: u32 = 8;
+    while 0 < left {
+        if has_bit(w, i) {
+            i = next_spot(h, i);
+            left -= 1;
+        } else {
+            return false;
         }
     }
-    false
+    true
 }
 
 // The bits of a hash are set.
@@ -79,12 +78,11 @@ pub fn mark(w: &mut [u8], h: u64)
     requires { ⌜ (h < 4294967296) × (8192 ≤ length (now w)) ⌝ }
     ensures { λ _. ⌜ now (w .exit) ≡ markIn (now (w .entry)) h ⌝ }
 {
-    let a = h % 65536;
-    set_bit(w, a);
-    let b = next_spot(h, a);
-    set_bit(w, b);
-    let c = next_spot(h, b);
-    set_bit(w, c);
-    let e = next_spot(h, c);
-    set_bit(w, e);
+    let mut i = h % 65536;
+    let mut left: u32 = 8;
+    while 0 < left {
+        set_bit(w, i);
+        i = next_spot(h, i);
+        left -= 1;
+    }
 }

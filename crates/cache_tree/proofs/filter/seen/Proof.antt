@@ -1,62 +1,58 @@
--- The proof that `seen` meets its contract, bit by bit.
+-- The proof that `seen` meets its contract. The loop keeps the answer for all bits.
 use mathlib.Core.Path.{_≡_, refl, sym, _∙_}
-use borrow.Author.Needs.{needs}
-use Rattle.cache_tree.specs.Filter.{spot}
-use Rattle.cache_tree.proofs.Bits.{seen-none, seen-one, seen-two, seen-three}
+use Prim.Native.Nat.{_<_}
+use native.Mathlib.Omega.{arith}
+use Rattle.cache_tree.specs.Filter.{hasBits, marked}
+use Rattle.cache_tree.proofs.Bits.{bits-end, bits-not, bits-more}
 use Rattle.cache_tree.proofs.filter.seen.Statement.{statement}
 use Rattle.cache_tree.proofs.filter.seen.Tie as tie
 
-has-bit-requires : tie.Need-has-bit-requires
-has-bit-requires c κs = search needs
+abbrev Inv-loop : tie.InvT-loop
+Inv-loop w h i₀ left₀ i left = (i < 65536) × (marked w h ≡ hasBits left w h i)
 
-next-spot-requires : tie.Need-next-spot-requires
-next-spot-requires c κs = search needs
+abbrev μ-loop : tie.MeasureT-loop
+μ-loop w h i₀ left₀ i left = left
 
-has-bit-requires-2 : tie.Need-has-bit-requires-2
-has-bit-requires-2 c κs = search needs
+loop-holds : tie.Need-loop-holds Inv-loop μ-loop
+unfolding marked
+loop-holds c = (omega arith, refl)
 
-next-spot-requires-2 : tie.Need-next-spot-requires-2
-next-spot-requires-2 c κs = search needs
+has-bit-requires : tie.Need-has-bit-requires Inv-loop μ-loop
+has-bit-requires c κs = let p = c .before .before .before .pre in (c .before .loop .inv .0, p .1)
 
-has-bit-requires-3 : tie.Need-has-bit-requires-3
-has-bit-requires-3 c κs = search needs
+next-spot-requires : tie.Need-next-spot-requires Inv-loop μ-loop
+next-spot-requires c κs = let p = c .before .before .before .before .before .pre in (p .0, c .before .before .before .loop .inv .0)
 
-next-spot-requires-3 : tie.Need-next-spot-requires-3
-next-spot-requires-3 c κs = search needs
+sub-left : tie.Need-sub-left Inv-loop μ-loop
+sub-left c = omega arith
 
-has-bit-requires-4 : tie.Need-has-bit-requires-4
-has-bit-requires-4 c κs = search needs
+loop-less : tie.Need-loop-less Inv-loop μ-loop
+loop-less c = omega arith
 
-returns : tie.Need-returns
-unfolding spot
+loop-again : tie.Need-loop-again Inv-loop μ-loop
+loop-again c =
+    let l = c .before .before .before .before in
+    (c .next-spot .ensures .1, l .loop .inv .1 ∙ bits-more _ _ (l .loop .i) _ _ (c .before .before .before .loop-test .taken) (sym (c .before .before .has-bit .ensures) ∙ c .before .if1 .taken) (c .next-spot .ensures .0))
+
+returns : tie.Need-returns Inv-loop μ-loop
 returns c =
-    let w = c .before .before .before .before .before .before .before .before .before .before .before .args .w .now in
-    c .has-bit4 .ensures ∙ sym (seen-three w _ _ refl (sym (c .before .before .before .before .before .before .before .before .before .has-bit .ensures) ∙ c .before .before .before .before .before .before .before .before .if1 .taken) _ (c .before .before .before .before .before .before .before .next-spot .ensures .0) (sym (c .before .before .before .before .before .before .has-bit2 .ensures) ∙ c .before .before .before .before .before .if2 .taken) _ (c .before .before .before .before .next-spot2 .ensures .0) (sym (c .before .before .before .has-bit3 .ensures) ∙ c .before .before .if3 .taken) _ (c .before .next-spot3 .ensures .0))
+    let l = c .before .before .before in
+    sym (l .loop .inv .1 ∙ bits-not _ _ (l .loop .i) _ (c .before .before .loop-test .taken) (sym (c .before .has-bit .ensures) ∙ c .if1 .left))
 
-returns-2 : tie.Need-returns-2
-unfolding spot
-returns-2 c =     sym (seen-two _ _ _ refl (sym (c .before .before .before .before .before .before .before .has-bit .ensures) ∙ c .before .before .before .before .before .before .if1 .taken) _ (c .before .before .before .before .before .next-spot .ensures .0) (sym (c .before .before .before .before .has-bit2 .ensures) ∙ c .before .before .before .if2 .taken) _ (c .before .before .next-spot2 .ensures .0) (sym (c .before .has-bit3 .ensures) ∙ c .if3 .left))
-
-returns-3 : tie.Need-returns-3
-unfolding spot
-returns-3 c =     sym (seen-one _ _ _ refl (sym (c .before .before .before .before .has-bit .ensures) ∙ c .before .before .before .if1 .taken) _ (c .before .before .next-spot .ensures .0) (sym (c .before .has-bit2 .ensures) ∙ c .if2 .left))
-
-returns-4 : tie.Need-returns-4
-unfolding spot
-returns-4 c =     sym (seen-none _ _ _ refl (sym (c .before .has-bit .ensures) ∙ c .if1 .left))
+returns-2 : tie.Need-returns-2 Inv-loop μ-loop
+returns-2 c = sym (c .before .loop .inv .1 ∙ bits-end _ _ _ _ (c .loop-test .left))
 
 pub seen-spec : {M : Type 1} → statement M
 seen-spec =
     tie.close
     (tie.spec
+    Inv-loop
+    μ-loop
+    loop-holds
     has-bit-requires
     next-spot-requires
-    has-bit-requires-2
-    next-spot-requires-2
-    has-bit-requires-3
-    next-spot-requires-3
-    has-bit-requires-4
+    sub-left
+    loop-less
+    loop-again
     returns
-    returns-2
-    returns-3
-    returns-4)
+    returns-2)
