@@ -208,6 +208,10 @@ module _ (n : ℕ) (t u : List ℕ) (at : u ≡ restAfter n t) where
 pub fill-all : (n k seed : ℕ) (w t : List ℕ) → n ≡ k → namesDiffer (namesOf n t) ≡ true → allMarked seed w (namesOf n t) ≡ true → (true ≡ namesDiffer (namesOf k t)) × (allMarked seed w (namesOf k t) ≡ true)
 fill-all n k seed w t e d a = (sym (ap (λ (j : ℕ). namesDiffer (namesOf j t)) (sym e) ∙ d), ap (λ (j : ℕ). allMarked seed w (namesOf j t)) (sym e) ∙ a)
 
+-- the chunk is all that is left
+pub chunk-whole : (n k : ℕ) (t : List ℕ) → n ≡ k → namesDiffer (namesOf n t) ≡ true → namesDiffer (namesOf k t) ≡ true
+chunk-whole n k t e d = ap (λ (j : ℕ). namesDiffer (namesOf j t)) (sym e) ∙ d
+
 -- the workspace after it was cleared
 module _ (w v : List ℕ) (is : v ≡ replicate 8192 0 ++ drop 8192 w) where
   pub clear-kept : drop 8192 v ≡ drop 8192 w

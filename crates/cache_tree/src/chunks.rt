@@ -142,6 +142,9 @@ pub fn by_chunks(d: &[u8], a: usize, k: u32, work: &mut [u8], seed: u64) -> bool
         let n = chunk(left);
         clear(work);
         if fill(d, work, x, n, seed) {
+            if n == left {
+                return true;
+            }
             let y = after_trees(d, x, n);
             let t = &work[..];
             if against(d, t, x, n, y, left - n, seed) {
