@@ -7,7 +7,7 @@ use Prim.Native.Nat.{ℕ, zero, suc, _+_, _-_, _≤_, _<_}
 use native.Mathlib.Nat.{add-zero, add-assoc}
 use native.Mathlib.Omega.{arith}
 use lib.ListN.{length, getD, take, drop, replicate, length-take, length-drop}
-use lib.Seq.{take-all}
+use lib.Seq.{take-all, drop-drop}
 use lib.Dec.{eqb, leb, ltb}
 use borrow.Author.Tests.{eq-eqb, ne-eqb, le-leb, lt-leb, lt-ltb, le-ltb, ltb-true}
 use Rattle.format.specs.Bytes.{before, decimal, value}
@@ -386,3 +386,38 @@ no-node-by at (good h m) e f = let z : _≡_ {A = ℕ} 0 1 = cc in absurd (omega
 
 pub no-node {ℓ} : {X : Type ℓ} (d : List ℕ) (at : ℕ) → R.Bad ≡ nodeAt at (readNode 20 0 (drop at d)) → ((n p : ℕ) → readNode 20 0 (drop at d) ≡ bad n p → X) → X
 no-node d at e f = no-node-by at (readNode 20 0 (drop at d)) e f
+
+-- ---- the object name of a node that was read
+
+object-valid : (w p : ℕ) (c : Records.Count) (s o : List ℕ) (k : ℕ) → readObject w p c s ≡ good o k → isValid c ≡ true → (k ≡ w) × (o ≡ take w s)
+unfolding readObject
+object-valid w p (Records.valid n) s o k e v = need-inv (leb w (length s)) 15 p k o _ e (λ l r. (cc, cc))
+object-valid w p Records.invalid s o k e v = absurd (true≢false (sym v))
+
+object-invalid : (w p : ℕ) (c : Records.Count) (s o : List ℕ) (k : ℕ) → readObject w p c s ≡ good o k → isValid c ≡ false → o ≡ replicate w 0
+unfolding readObject
+object-invalid w p (Records.valid n) s o k e v = absurd (true≢false v)
+object-invalid w p Records.invalid s o k e v = cc
+
+-- the last w bytes where the count is valid, else zeros
+pub node-object : (w p : ℕ) (s : List ℕ) (h : Head) (m : ℕ) → readNode w p s ≡ good h m →
+    (isValid (h .node .count) ≡ true → h .node .object ≡ take w (drop (m - w) s)) × (isValid (h .node .count) ≡ false → h .node .object ≡ replicate w 0)
+unfolding readNode
+node-object w p s h m e =
+    bind-inv (readText 0 15 p s) _ h m e λ name a a′ q r i.
+    bind-inv (readCount p (drop a s)) _ h a′ r λ count b b′ q₁ r₁ i₁.
+    bind-inv (readSubtrees p (drop b (drop a s))) _ h b′ r₁ λ k c c′ q₂ r₂ i₂.
+    bind-inv (readObject w p count (drop c (drop b (drop a s)))) _ h c′ r₂ λ object o o′ q₃ r₃ i₃.
+    let same : record { node = record { name = name; count = count; object = object }; subtrees = k } ≡ h = cc in
+    let z : 0 ≡ o′ = cc in
+    let is-count : h .node .count ≡ count = ap (λ (x : Head). x .node .count) (sym same) in
+    let is-object : h .node .object ≡ object = ap (λ (x : Head). x .node .object) (sym same) in
+    let rest : drop c (drop b (drop a s)) ≡ drop (a + (b + c)) s = drop-drop c b (drop a s) ∙ drop-drop (b + c) a s in
+    (
+      (λ v.
+      let f = object-valid w p count _ object o q₃ (ap isValid (sym is-count) ∙ v) in
+      let f₁ : o ≡ w = f .0 in
+      let l : a + (b + c) ≡ m - w = omega arith in
+      is-object ∙ f .1 ∙ ap (take w) (rest ∙ ap (λ (n : ℕ). drop n s) l)),
+      (λ v. is-object ∙ object-invalid w p count _ object o q₃ (ap isValid (sym is-count) ∙ v)),
+    )
