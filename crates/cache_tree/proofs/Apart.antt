@@ -1,6 +1,6 @@
 -- Laws of names chunk by chunk: when a chunk and what follows it differ, and what the filter says of a name.
 use mathlib.Core.Path.{_≡_, refl, sym, ap, _∙_}
-use mathlib.Core.List.{List, [], _∷_, _++_, append-nil}
+use mathlib.Core.List.{List, [], _∷_, _++_}
 use mathlib.Core.Bool.{Bool, true, false, cond, true≢false}
 use Prim.Native.Nat.{ℕ, zero, suc, _+_, _-_, _≤_, _<_}
 use native.Mathlib.Nat.{zero-add, suc-add}
@@ -12,7 +12,7 @@ use borrow.Author.Tests.{eqb-true, eqb-false, eq-eqb, ne-eqb}
 use Rattle.format.specs.Bytes.{eqList}
 use Rattle.cache_tree.specs.Flat.{treesLength, nameOf, restOf, namesOf, hasName, namesDiffer}
 use Rattle.cache_tree.specs.Filter.{hashOf, marked, markIn, allMarked, apart, restAfter}
-use Rattle.cache_tree.proofs.Orders.{eqList-same}
+use Rattle.cache_tree.proofs.Orders.{cond-inv, eqList-same}
 use Rattle.cache_tree.proofs.Differ.{names-none, names-more, rest-at}
 use Rattle.cache_tree.proofs.Bits.{marked-in, marked-stays, length-mark, rest-mark}
 
@@ -91,10 +91,6 @@ module _ (seed : ℕ) (w : List ℕ) where
   other-by : (x y : List ℕ) (b : Bool) → eqList x y ≡ b → marked w (hashOf seed y) ≡ true → marked w (hashOf seed x) ≡ false → b ≡ false
   other-by x y true e m n = absurd (true≢false (sym m ∙ ap (λ (z : List ℕ). marked w (hashOf seed z)) (sym (eqList-same x y e)) ∙ n))
   other-by x y false e m n = refl
-
-  cond-inv : (a b : Bool) → cond a b false ≡ true → (a ≡ true) × (b ≡ true)
-  cond-inv true b h = (refl, h)
-  cond-inv false b h = absurd (true≢false (sym h))
 
   -- one that is not marked is not among those that are
   pub unmarked : (x : List ℕ) (c : List (List ℕ)) → allMarked seed w c ≡ true → marked w (hashOf seed x) ≡ false → hasName x c ≡ false

@@ -1,7 +1,7 @@
 -- Laws of the filter: what is marked is marked, and stays.
 use mathlib.Core.Path.{_≡_, refl, sym, ap, ap₂, _∙_}
 use mathlib.Core.List.{List}
-use mathlib.Core.Bool.{Bool, true, false, cond, true≢false}
+use mathlib.Core.Bool.{Bool, true, false}
 use Prim.Native.Nat.{ℕ, zero, suc, _+_, _-_, _*_, _/_, _%_, _≤_, _<_, max}
 use native.Mathlib.Numerals.{add-one}
 use native.Mathlib.Omega.{arith}
@@ -12,6 +12,7 @@ use lib.Seq.{drop-cons, drop-set-lt, getD-set-same, getD-set-other}
 use lib.Dec.{eqb}
 use borrow.Author.Tests.{eqb-true, eqb-false, eq-eqb}
 use Rattle.cache_tree.specs.Filter.{stir, hashFrom, nextSpot, mask, hasBit, setBit, hasBits, setBits, marked, markIn}
+use Rattle.cache_tree.proofs.Orders.{cond-inv}
 
 -- ---- the hash, byte by byte
 
@@ -156,10 +157,6 @@ module _ (h : ℕ) where
   in-bits zero w i room l = refl
   in-bits (suc n) w i room l =
       rw (stays-bits n (setBit w i) (nextSpot h i) i (room-bit w i room l) (next-below h i) (bit-in w room i l)) (in-bits n (setBit w i) (nextSpot h i) (room-bit w i room l) (next-below h i))
-
-  cond-inv : (a b : Bool) → cond a b false ≡ true → (a ≡ true) × (b ≡ true)
-  cond-inv true b k = (refl, k)
-  cond-inv false b k = absurd (true≢false (sym k))
 
   -- those of another hash stay set
   all-stay : (n m : ℕ) (w : List ℕ) (i g j : ℕ) → 8192 ≤ length w → i < 65536 → hasBits m w g j ≡ true → hasBits m (setBits n w h i) g j ≡ true

@@ -1,14 +1,11 @@
 -- Laws of lists of siblings: the first node and the others, the number of nodes, the level of one of them.
 use mathlib.Core.Path.{_≡_, refl, sym, ap, ap₂, _∙_}
 use mathlib.Core.List.{List, [], _∷_, _++_, append-nil, append-assoc}
-use mathlib.Core.Bool.{Bool, true, false, cond, _&&_}
+use mathlib.Core.Bool.{Bool, true, false}
 use Prim.Native.Nat.{ℕ, zero, suc, _+_, _-_, _≤_, _<_}
 use native.Mathlib.Nat.{add-zero, zero-add, add-assoc, suc-add}
-use native.Mathlib.Numerals.{add-one, sub-one}
 use native.Mathlib.Omega.{arith}
 use lib.ListN.{length, take, drop, length-append, length-drop}
-use lib.Seq.{drop-drop}
-use lib.Dec.{eqb}
 use Rattle.format.specs.Records.{Node, Forest, nil, tree, width, Item, items}
 use Rattle.format.specs.Layout.{okNodeName}
 use Rattle.format.specs.Reading.{Read, bad, good, need, shift, bind}
@@ -18,7 +15,7 @@ use Rattle.cache_tree.specs.declared.list.ListRead.the-variants as L
 use Rattle.cache_tree.specs.declared.node.Node as Code
 use Rattle.cache_tree.specs.declared.node.NodeRead.the-variants as R
 use Rattle.cache_tree.specs.Answers.{nodeAt, readOne, size, either, levelIn, listAt}
-use Rattle.cache_tree.proofs.Readings.{no-good, need-inv, bind-inv, Took, node-took, drop-to}
+use Rattle.cache_tree.proofs.Readings.{no-good, good-inv, need-inv, bind-inv, node-took, drop-to}
 use Rattle.cache_tree.proofs.Nodes.{NodeIs}
 
 -- ---- one list after another
@@ -126,43 +123,46 @@ list-none (suc l) s = refl
 pub record Sized (most : ℕ) (r : Read Forest) : Type 0 where
   pub of : (f : Forest) (m : ℕ) → r ≡ good f m → (size f ≤ m) × (m ≤ most)
 
-same-size : (f g : Forest) (m n : ℕ) → good f m ≡ good g n → (f ≡ g) × (m ≡ n)
-same-size f g m n e = (cc, cc)
-
 one-sized : (l : ℕ) → ((k : ℕ) (s : List ℕ) → Sized (length s) (readForest 20 0 l k s)) → (s : List ℕ) → Sized (length s) (readOne (suc l) s)
 unfolding readOne size
-one-sized l below s = record { of = λ f j e.
-    bind-inv (readNode 20 0 s) _ f j e λ h m i q r is.
-    need-inv (okNodeName (h .node .name)) 15 0 i f _ r λ ok r₁.
-    bind-inv (readForest 20 0 l (h .subtrees) (drop m s)) _ f i r₁ λ kids n o q₁ r₂ is₁.
-    let g = same-size (tree (h .node) kids nil) f 0 o r₂ in
-    let z : size f ≡ suc (size kids + 0) = sym (ap size (g .0)) in
-    let z₁ : 0 ≡ o = g .1 in
-    let b : (size kids ≤ n) × (n ≤ length (drop m s)) = below (h .subtrees) (drop m s) .of kids n q₁ in
-    let c : (1 ≤ m) × (m ≤ length s) = node-took 20 0 s .of h m q in
-    let d : length (drop m s) ≡ length s - m = length-drop m s in
-    (omega arith, omega arith) }
+one-sized l below s = record {
+  of = λ f j e.
+      bind-inv (readNode 20 0 s) _ f j e λ h m i q r is.
+      need-inv (okNodeName (h .node .name)) 15 0 i f _ r λ ok r₁.
+      bind-inv (readForest 20 0 l (h .subtrees) (drop m s)) _ f i r₁ λ kids n o q₁ r₂ is₁.
+      let g = good-inv (tree (h .node) kids nil) f 0 o r₂ in
+      let z : size f ≡ suc (size kids + 0) = sym (ap size (g .0)) in
+      let z₁ : 0 ≡ o = g .1 in
+      let b : (size kids ≤ n) × (n ≤ length (drop m s)) = below (h .subtrees) (drop m s) .of kids n q₁ in
+      let c : (1 ≤ m) × (m ≤ length s) = node-took 20 0 s .of h m q in
+      let d : length (drop m s) ≡ length s - m = length-drop m s in
+      (omega arith, omega arith);
+}
 
 none-sized : (l : ℕ) (s : List ℕ) → Sized (length s) (readForest 20 0 l 0 s)
 unfolding size
-none-sized l s = record { of = λ f m e.
-    let g = same-size nil f 0 m (sym (list-none l s) ∙ e) in
-    let z : size f ≡ 0 = sym (ap size (g .0)) in
-    let z₁ : 0 ≡ m = g .1 in
-    (omega arith, omega arith) }
+none-sized l s = record {
+  of = λ f m e.
+      let g = good-inv nil f 0 m (sym (list-none l s) ∙ e) in
+      let z : size f ≡ 0 = sym (ap size (g .0)) in
+      let z₁ : 0 ≡ m = g .1 in
+      (omega arith, omega arith);
+}
 
 more-sized : (l k : ℕ) (s : List ℕ) → Sized (length s) (readOne l s) → ((u : List ℕ) → Sized (length u) (readForest 20 0 l k u)) → Sized (length s) (readForest 20 0 l (suc k) s)
 unfolding others
-more-sized l k s one rest = record { of = λ f j e.
-    bind-inv (readOne l s) _ f j (sym (list-step l k s) ∙ e) λ t m i q r is.
-    bind-inv (readForest 20 0 l k (drop m s)) _ f i r λ after n o q₁ r₁ is₁.
-    let g = same-size (graft t after) f 0 o r₁ in
-    let z : size f ≡ size t + size after = sym (ap size (g .0)) ∙ graft-size t after in
-    let z₁ : 0 ≡ o = g .1 in
-    let b : (size after ≤ n) × (n ≤ length (drop m s)) = rest (drop m s) .of after n q₁ in
-    let c : (size t ≤ m) × (m ≤ length s) = one .of t m q in
-    let d : length (drop m s) ≡ length s - m = length-drop m s in
-    (omega arith, omega arith) }
+more-sized l k s one rest = record {
+  of = λ f j e.
+      bind-inv (readOne l s) _ f j (sym (list-step l k s) ∙ e) λ t m i q r is.
+      bind-inv (readForest 20 0 l k (drop m s)) _ f i r λ after n o q₁ r₁ is₁.
+      let g = good-inv (graft t after) f 0 o r₁ in
+      let z : size f ≡ size t + size after = sym (ap size (g .0)) ∙ graft-size t after in
+      let z₁ : 0 ≡ o = g .1 in
+      let b : (size after ≤ n) × (n ≤ length (drop m s)) = rest (drop m s) .of after n q₁ in
+      let c : (size t ≤ m) × (m ≤ length s) = one .of t m q in
+      let d : length (drop m s) ≡ length s - m = length-drop m s in
+      (omega arith, omega arith);
+}
 
 no-level : (s : List ℕ) → Sized (length s) (readOne 0 s)
 unfolding readOne

@@ -3,12 +3,12 @@ use mathlib.Core.Path.{_≡_, refl, sym, ap, _∙_}
 use mathlib.Core.List.{List, [], _∷_}
 use mathlib.Core.Bool.{Bool, true, false, cond, _&&_, true≢false}
 use mathlib.Core.Option.{Option, none, some}
-use Prim.Native.Nat.{ℕ, zero, suc, _+_, _-_, _≤_, _<_}
+use Prim.Native.Nat.{ℕ, _+_, _-_, _≤_, _<_}
 use native.Mathlib.Nat.{add-zero, add-assoc}
 use native.Mathlib.Omega.{arith}
 use lib.ListN.{length, getD, take, drop, replicate, length-take, length-drop}
 use lib.Seq.{take-all, drop-drop}
-use lib.Dec.{eqb, leb, ltb}
+use lib.Dec.{leb, ltb}
 use borrow.Author.Tests.{eq-eqb, ne-eqb, le-leb, lt-leb, lt-ltb, le-ltb, ltb-true}
 use Rattle.format.specs.Bytes.{before, decimal, value}
 use Rattle.format.specs.Records as Records
@@ -412,12 +412,11 @@ node-object w p s h m e =
     let z : 0 ≡ o′ = cc in
     let is-count : h .node .count ≡ count = ap (λ (x : Head). x .node .count) (sym same) in
     let is-object : h .node .object ≡ object = ap (λ (x : Head). x .node .object) (sym same) in
-    let rest : drop c (drop b (drop a s)) ≡ drop (a + (b + c)) s = drop-drop c b (drop a s) ∙ drop-drop (b + c) a s in
-    (
+    let rest : drop c (drop b (drop a s)) ≡ drop (a + (b + c)) s = drop-drop c b (drop a s) ∙ drop-drop (b + c) a s in (
       (λ v.
-      let f = object-valid w p count _ object o q₃ (ap isValid (sym is-count) ∙ v) in
-      let f₁ : o ≡ w = f .0 in
-      let l : a + (b + c) ≡ m - w = omega arith in
-      is-object ∙ f .1 ∙ ap (take w) (rest ∙ ap (λ (n : ℕ). drop n s) l)),
+          let f = object-valid w p count _ object o q₃ (ap isValid (sym is-count) ∙ v) in
+          let f₁ : o ≡ w = f .0 in
+          let l : a + (b + c) ≡ m - w = omega arith in
+          is-object ∙ f .1 ∙ ap (take w) (rest ∙ ap (λ (n : ℕ). drop n s) l)),
       (λ v. is-object ∙ object-invalid w p count _ object o q₃ (ap isValid (sym is-count) ∙ v)),
     )

@@ -1,30 +1,29 @@
 -- Laws of the whole data of TREE: the root and its list, the tests after it, node number k.
 use mathlib.Core.Path.{_≡_, refl, sym, ap, _∙_}
-use mathlib.Core.List.{List, [], _∷_, _++_, append-nil}
-use mathlib.Core.Bool.{Bool, true, false, cond, not, _&&_}
+use mathlib.Core.List.{List, [], _∷_, append-nil}
+use mathlib.Core.Bool.{Bool, true, false, cond, _&&_}
 use Prim.Native.Nat.{ℕ, zero, suc, _+_, _-_, _≤_, _<_}
 use native.Mathlib.Nat.{add-zero}
 use native.Mathlib.Omega.{arith}
-use lib.ListN.{length, getD, take, drop, length-take, length-drop}
+use lib.ListN.{length, getD, drop}
 use lib.Seq.{length-take-le}
-use lib.Dec.{eqb, ltb}
+use lib.Dec.{eqb}
 use borrow.Author.Tests.{eq-eqb, ne-eqb, lt-ltb, le-ltb}
-use Rattle.format.specs.Records.{Node, Forest, nil, tree, Tree, width, Item, items, treeItems}
+use Rattle.format.specs.Records.{Node, Forest, nil, tree, Tree, Item, items, treeItems}
 use Rattle.format.specs.Layout.{distinct, okTreeCounts}
 use Rattle.format.specs.Reading.{Read, bad, good, need, shift, bind}
 use Rattle.format.specs.Reader.{Head, readNode, readForest, readNodes, readTree}
 use Rattle.cache_tree.specs.declared.node.Node as Code
 use Rattle.cache_tree.specs.declared.node.NodeRead.the-variants as R
-use Rattle.cache_tree.specs.declared.list.ListRead.{ListRead}
 use Rattle.cache_tree.specs.declared.list.ListRead.the-variants as L
 use Rattle.cache_tree.specs.declared.TreeRead.the-variants as T
 use Rattle.cache_tree.specs.Answers.{nodeAt, size, levelIn, listAt}
 use Rattle.cache_tree.specs.Flat.{placeOf, namesDiffer, allDiffer}
 use Rattle.cache_tree.specs.Shape.{readShape, nodesAt, treeOf}
-use Rattle.cache_tree.proofs.Readings.{need-inv, bind-inv, drop-to}
-use Rattle.cache_tree.proofs.Nodes.{NodeIs, no-node}
+use Rattle.cache_tree.proofs.Readings.{need-inv, bind-inv}
+use Rattle.cache_tree.proofs.Nodes.{NodeIs}
 use Rattle.cache_tree.proofs.Lists.{items-size, ListIs}
-use Rattle.cache_tree.proofs.Flat.{Reads, reads-none, reads-more, forest-reads, reads-names, reads-item, reads-differ, distinct-is, differ-step, place-step, place-none, Shown, shown-at, siblingNames, kidsDiffer}
+use Rattle.cache_tree.proofs.Flat.{Reads, reads-none, reads-more, forest-reads, reads-names, reads-item, reads-differ, distinct-is, differ-step, Shown, siblingNames, kidsDiffer}
 
 -- ---- the format's reading of TREE is this one, and then the test of the counts
 

@@ -1,6 +1,6 @@
 // A filter of 65,536 bits in the workspace: a name that is not marked in it is not among those that were.
 ghost use mathlib.Core.Path.{_≡_};
-ghost use Prim.Native.Nat.{ℕ, _≤_, _<_};
+ghost use Prim.Native.Nat.{_≤_, _<_};
 ghost use lib.ListN.{length};
 ghost use Rattle.cache_tree.specs.Filter.{stir, hashOf, nextSpot, hasBit, setBit, marked, markIn};
 use crate::number::wide;

@@ -9,7 +9,6 @@ pub mod walk;
 
 use crate::list::ListRead;
 use crate::list::read_list;
-use crate::node::Node;
 use crate::node::NodeRead;
 use crate::node::read_node;
 use crate::siblings::all_differ;
@@ -23,7 +22,11 @@ ghost use Rattle.cache_tree.specs.Shape.{readShape, nodesAt, treeOf};
 // The number of nodes, and the place and the level of the node that was wanted, 0 where there are fewer nodes.
 pub enum TreeRead {
     Bad,
-    Good { nodes: u32, place: usize, level: u32 },
+    Good {
+        nodes: u32,
+        place: usize,
+        level: u32,
+    },
 }
 
 // The root, whose name is empty, and all below it.

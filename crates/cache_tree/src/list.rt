@@ -1,12 +1,11 @@
 // Lists of siblings. Reading a node means reading its list of subtrees, and each of these is a node: the two readers call each other,
 // one level further down each time.
-use crate::node::Node;
 use crate::node::NodeRead;
 use crate::node::read_node;
 use fields::find;
 ghost use mathlib.Core.Path.{_≡_};
-ghost use Prim.Native.Nat.{ℕ, _+_, _-_, _≤_, _<_};
-ghost use lib.ListN.{length, take, drop};
+ghost use Prim.Native.Nat.{_+_, _-_, _≤_, _<_};
+ghost use lib.ListN.{length, drop};
 ghost use Rattle.format.specs.Layout.{okNodeName};
 ghost use Rattle.format.specs.Reader.{readForest};
 ghost use Rattle.cache_tree.specs.Answers.{readOne, either, listAt};
@@ -103,7 +102,11 @@ pub fn read_list(d: &[u8], at: usize, levels: u32, k: u32, want: u32) -> ListRea
             ListRead::Bad => {
                 return ListRead::Bad;
             }
-            ListRead::Good { next, nodes: n, level: l } => {
+            ListRead::Good {
+                next,
+                nodes: n,
+                level: l,
+            } => {
                 place = next;
                 left -= 1;
                 wanted = less(wanted, n);

@@ -3,15 +3,19 @@ use crate::number::Number;
 use crate::number::read_number;
 use fields::find;
 ghost use mathlib.Core.Path.{_≡_};
-ghost use Prim.Native.Nat.{ℕ, _+_, _-_, _≤_, _<_};
-ghost use lib.ListN.{length, take, drop};
+ghost use Prim.Native.Nat.{_+_, _-_, _≤_, _<_};
+ghost use lib.ListN.{length, drop};
 ghost use Rattle.format.specs.Reader.{countIn, readCount, readSubtrees, readNode};
 ghost use Rattle.cache_tree.specs.Answers.{countTo, countAt, subtreesAt, nodeAt};
 
 // An entry count, 0 where it says "invalid", and the place after it.
 pub enum Count {
     Bad,
-    Good { valid: bool, count: u32, next: usize },
+    Good {
+        valid: bool,
+        count: u32,
+        next: usize,
+    },
 }
 
 // A number of subtrees, and the place after it.
@@ -116,11 +120,18 @@ pub fn read_node(d: &[u8], at: usize) -> NodeRead
     let counted = read_count(d, nul + 1);
     match counted {
         Count::Bad => NodeRead::Bad,
-        Count::Good { valid, count, next: middle } => {
+        Count::Good {
+            valid,
+            count,
+            next: middle,
+        } => {
             let listed = read_subtrees(d, middle);
             match listed {
                 Subtrees::Bad => NodeRead::Bad,
-                Subtrees::Good { subtrees, next: object } => {
+                Subtrees::Good {
+                    subtrees,
+                    next: object,
+                } => {
                     if valid {
                         if d.len() - object < 20 {
                             return NodeRead::Bad;

@@ -1,6 +1,5 @@
 // Whether siblings differ in name. Those that rise in one of two orders do; others are looked at chunk by chunk.
 use crate::chunks::by_chunks;
-use crate::node::Node;
 use crate::node::NodeRead;
 use crate::node::read_node;
 use crate::walk::after_tree;
@@ -9,8 +8,8 @@ use fields::compare;
 use fields::find;
 use format::Order;
 ghost use mathlib.Core.Path.{_≡_};
-ghost use Prim.Native.Nat.{ℕ, _+_, _-_, _≤_, _<_};
-ghost use lib.ListN.{length, take, drop};
+ghost use Prim.Native.Nat.{_-_, _≤_, _<_};
+ghost use lib.ListN.{length, drop};
 ghost use Rattle.cache_tree.specs.Flat.{nameOf, namesOf, namesDiffer, allDiffer};
 ghost use Rattle.cache_tree.specs.Orders.{slashBelow, lengthBelow, nameBelow, risesFrom};
 

@@ -1,7 +1,6 @@
 -- The proof that `by_chunks` meets its contract. The loop keeps the answer for all the names.
-use mathlib.Core.Path.{_≡_, refl, sym, ap, _∙_}
-use mathlib.Core.Bool.{true, false}
-use Prim.Native.Nat.{ℕ, _≤_}
+use mathlib.Core.Path.{_≡_, refl, sym, _∙_}
+use Prim.Native.Nat.{_≤_}
 use native.Mathlib.Omega.{arith}
 use borrow.Author.Needs.{needs}
 use lib.ListN.{length, drop}
@@ -40,8 +39,7 @@ same-length c = c .before .before .before .before .fill .kept .1 .0 ∙ c .befor
 returns : tie.Need-returns Inv-loop μ-loop
 returns c =
     let l = c .before .before .before .before .before .before .before .before .before .before .before .before in
-    let d = l .before .before .before .args .d .now in
-    (
+    let d = l .before .before .before .args .d .now in (
       sym (l .loop .inv .3 ∙ chunk-whole _ _ (drop (l .loop .x) d) (c .if2 .taken) (sym (c .before .before .before .before .fill .ensures .0) ∙ c .before .if1 .taken)),
       c .before .before .before .before .fill .ensures .2 ∙ clear-kept (l .loop .work) _ (c .before .before .before .before .before .before .before .before .clear .ensures) ∙ l .loop .inv .2,
     )
@@ -70,8 +68,7 @@ loop-less c = omega (arith, c .before .before .before .before .before .before .b
 loop-again : tie.Need-loop-again Inv-loop μ-loop
 loop-again c =
     let l = c .before .before .before .before .before .before .before .before .before .before .before .before .before .before .before .before in
-    let differs = sym (c .before .before .before .before .before .before .before .before .fill .ensures .0) ∙ c .before .before .before .before .before .if1 .taken in
-    (
+    let differs = sym (c .before .before .before .before .before .before .before .before .fill .ensures .0) ∙ c .before .before .before .before .before .if1 .taken in (
       c .before .before .before .after-trees .ensures .0,
       c .before .before .before .before .before .before .before .before .fill .kept .1 .0 ∙ c .before .before .before .before .before .before .before .before .before .before .before .before .clear .kept .0 ∙ l .loop .inv .1,
       c .before .before .before .before .before .before .before .before .fill .ensures .2 ∙ clear-kept (l .loop .work) _ (c .before .before .before .before .before .before .before .before .before .before .before .before .clear .ensures) ∙ l .loop .inv .2,
@@ -84,8 +81,7 @@ same-length-2 c = c .before .before .before .before .before .before .before .bef
 returns-2 : tie.Need-returns-2 Inv-loop μ-loop
 returns-2 c =
     let l = c .before .before .before .before .before .before .before .before .before .before .before .before .before .before .before .before in
-    let differs = sym (c .before .before .before .before .before .before .before .before .fill .ensures .0) ∙ c .before .before .before .before .before .if1 .taken in
-    (
+    let differs = sym (c .before .before .before .before .before .before .before .before .fill .ensures .0) ∙ c .before .before .before .before .before .if1 .taken in (
       sym (l .loop .inv .3 ∙ chunk-known _ _ _ (c .before .before .before .after-trees .ensures .1) _ (c .before .before .before .before .before .before .before .before .before .before .before .before .before .before .chunk .ensures .0) differs (sym (c .before .against .ensures) ∙ c .if3 .left)),
       c .before .before .before .before .before .before .before .before .fill .ensures .2 ∙ clear-kept (l .loop .work) _ (c .before .before .before .before .before .before .before .before .before .before .before .before .clear .ensures) ∙ l .loop .inv .2,
     )
@@ -95,8 +91,7 @@ same-length-3 c = c .before .before .before .fill .kept .1 .0 ∙ c .before .bef
 
 returns-3 : tie.Need-returns-3 Inv-loop μ-loop
 returns-3 c =
-    let l = c .before .before .before .before .before .before .before .before .before .before .before in
-    (
+    let l = c .before .before .before .before .before .before .before .before .before .before .before in (
       sym (l .loop .inv .3 ∙ chunk-equal _ _ _ refl _ (c .before .before .before .before .before .before .before .before .before .chunk .ensures .0) (sym (c .before .before .before .fill .ensures .0) ∙ c .if1 .left)),
       c .before .before .before .fill .ensures .2 ∙ clear-kept (l .loop .work) _ (c .before .before .before .before .before .before .before .clear .ensures) ∙ l .loop .inv .2,
     )

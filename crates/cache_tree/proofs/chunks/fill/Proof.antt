@@ -1,7 +1,7 @@
 -- The proof that `fill` meets its contract. The loop keeps that the names so far differ and are marked.
-use mathlib.Core.Path.{_≡_, refl, sym, ap, _∙_}
-use mathlib.Core.Bool.{true, false, false≢true}
-use Prim.Native.Nat.{ℕ, _+_, _-_, _≤_}
+use mathlib.Core.Path.{_≡_, refl, sym, _∙_}
+use mathlib.Core.Bool.{true, false≢true}
+use Prim.Native.Nat.{_-_, _≤_}
 use native.Mathlib.Omega.{arith}
 use lib.ListN.{length, drop}
 use Rattle.cache_tree.specs.Flat.{namesOf, namesDiffer}
@@ -65,8 +65,7 @@ loop-again c =
     let same = l .loop .inv .5 in
     let p = c .before .before .before .before .before .before .before .before .before .before .before .before .pre in
     let room : 8192 ≤ length (l .loop .w) = omega arith in
-    let marks = c .before .before .before .mark-at .ensures in
-    (
+    let marks = c .before .before .before .mark-at .ensures in (
       c .after-tree .ensures .1,
       omega arith,
       fill-rest (l .loop .n) _ _ at d (l .loop .y) _ refl (c .after-tree .ensures .0),

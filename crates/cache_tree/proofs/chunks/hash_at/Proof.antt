@@ -1,5 +1,5 @@
 -- The proof that `hash_at` meets its contract.
-use mathlib.Core.Path.{_≡_, ap, _∙_}
+use mathlib.Core.Path.{ap, _∙_}
 use borrow.Author.Needs.{needs}
 use Rattle.cache_tree.specs.Filter.{hashOf}
 use Rattle.cache_tree.proofs.Differ.{name-at}

@@ -1,5 +1,5 @@
 -- The proof that `known` meets its contract. A name that is not marked is not among those that are.
-use mathlib.Core.Path.{_≡_, sym, ap, _∙_}
+use mathlib.Core.Path.{sym, ap, _∙_}
 use borrow.Author.Needs.{needs}
 use Rattle.cache_tree.specs.Filter.{marked}
 use Rattle.cache_tree.proofs.Apart.{unmarked}

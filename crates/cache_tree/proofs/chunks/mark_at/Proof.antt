@@ -1,5 +1,5 @@
 -- The proof that `mark_at` meets its contract.
-use mathlib.Core.Path.{_≡_, ap, _∙_}
+use mathlib.Core.Path.{ap, _∙_}
 use borrow.Author.Needs.{needs}
 use Rattle.cache_tree.specs.Filter.{markIn}
 use Rattle.cache_tree.proofs.chunks.mark_at.Statement.{statement}

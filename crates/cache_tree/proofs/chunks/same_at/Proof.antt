@@ -1,5 +1,5 @@
 -- The proof that `same_at` meets its contract.
-use mathlib.Core.Path.{_≡_, ap₂, _∙_}
+use mathlib.Core.Path.{ap₂, _∙_}
 use borrow.Author.Needs.{needs}
 use Rattle.format.specs.Bytes.{eqList}
 use Rattle.cache_tree.proofs.Differ.{name-at}

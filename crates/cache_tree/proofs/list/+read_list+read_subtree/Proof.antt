@@ -1,6 +1,6 @@
 -- The proof that the two readers meet their contracts. The measure is the number of levels: a node asks for a list one level further
 -- down. The list's loop keeps the answer for the whole list.
-use mathlib.Core.Path.{_≡_, refl, sym, ap, _∙_}
+use mathlib.Core.Path.{_≡_, sym, _∙_}
 use native.Mathlib.Omega.{arith}
 use borrow.Author.Needs.{needs}
 use lib.ListN.{length, drop}

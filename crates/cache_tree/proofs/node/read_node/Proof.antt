@@ -1,6 +1,6 @@
 -- The proof that `read_node` meets its contract, part after part.
-use mathlib.Core.Path.{_≡_, sym, _∙_}
-use Prim.Native.Nat.{_+_, _≤_}
+use mathlib.Core.Path.{sym, _∙_}
+use Prim.Native.Nat.{_+_}
 use native.Mathlib.Omega.{arith}
 use borrow.Author.Needs.{needs}
 use Rattle.cache_tree.proofs.Nodes.{CountIs, SubtreesIs, count-is, subtrees-is, node-none, node-no-count, node-no-subtrees, node-short, node-valid, node-invalid}
@@ -59,13 +59,13 @@ returns-3 c =
     sym (node-valid _ _ _ (c .before .before .before .before .before .before .before .before .before .before .before .find .ensures .0) (omega arith) _ _ _ (count-of (c .before .before .before .before .before .before)) _ _ (subtrees-of k) (c .before .if2 .taken) (omega arith))
 
 returns-4 : tie.Need-returns-4
-returns-4 c =     sym (node-no-count _ _ _ (c .before .before .before .before .find .ensures .0) (omega arith) (sym (c .enum-told .given .1) ∙ c .before .before .read-count .ensures))
+returns-4 c = sym (node-no-count _ _ _ (c .before .before .before .before .find .ensures .0) (omega arith) (sym (c .enum-told .given .1) ∙ c .before .before .read-count .ensures))
 
 returns-5 : tie.Need-returns-5
-returns-5 c =     sym (node-no-subtrees _ _ _ (c .before .before .before .before .before .before .before .before .find .ensures .0) (omega arith) _ _ _ (count-of (c .before .before .before)) (sym (c .enum-told2 .given .1) ∙ c .before .before .read-subtrees .ensures))
+returns-5 c = sym (node-no-subtrees _ _ _ (c .before .before .before .before .before .before .before .before .find .ensures .0) (omega arith) _ _ _ (count-of (c .before .before .before)) (sym (c .enum-told2 .given .1) ∙ c .before .before .read-subtrees .ensures))
 
 returns-6 : tie.Need-returns-6
-returns-6 c =     sym (node-invalid _ _ _ (c .before .before .before .before .before .before .before .before .before .before .find .ensures .0) (omega arith) _ _ _ (count-of (c .before .before .before .before .before)) _ _ (subtrees-of (c .before)) (c .if2 .left))
+returns-6 c = sym (node-invalid _ _ _ (c .before .before .before .before .before .before .before .before .before .before .find .ensures .0) (omega arith) _ _ _ (count-of (c .before .before .before .before .before)) _ _ (subtrees-of (c .before)) (c .if2 .left))
 
 pub read-node-spec : {M : Type 1} → statement M
 read-node-spec =
