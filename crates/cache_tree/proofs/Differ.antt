@@ -1,5 +1,5 @@
 -- Laws of the names of siblings, one after another.
-use mathlib.Core.Path.{_≡_, sym, ap, _∙_}
+use mathlib.Core.Path.{_≡_, refl, sym, ap, _∙_}
 use mathlib.Core.List.{List, [], _∷_}
 use mathlib.Core.Bool.{Bool, true, false, cond}
 use Prim.Native.Nat.{ℕ, zero, suc, _+_, _-_, _≤_, _<_}
@@ -68,7 +68,20 @@ module _ (b : Bool) (x d : List ℕ) (a k : ℕ) where
     unfolding risesFrom
     rises-more r is e = rw (names-more k (drop a d) some, e, rest-at d a r is)
 
+  pub rises-last : k ≡ 1 → nameBelow b x (nameOf (drop a d)) ≡ true → risesFrom b x (namesOf k (drop a d)) ≡ true
+  unfolding risesFrom namesOf
+  rises-last h e = rw (h, e)
+
 module _ (d : List ℕ) (a k : ℕ) where
+  pub differ-one : k < 2 → namesDiffer (namesOf k (drop a d)) ≡ true
+  unfolding namesDiffer namesOf hasName
+  differ-one h = by k h
+    where
+      by : (n : ℕ) → n < 2 → namesDiffer (namesOf n (drop a d)) ≡ true
+      by zero l = refl
+      by (suc zero) l = refl
+      by (suc (suc n)) l = absurd (omega arith)
+
   pub differ-none : k ≤ 0 → namesDiffer (namesOf k (drop a d)) ≡ true
   unfolding namesDiffer
   differ-none h = rw (names-none k (drop a d) h)
