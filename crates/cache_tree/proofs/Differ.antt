@@ -87,14 +87,6 @@ module _ (d : List ℕ) (a k : ℕ) where
   differ-none h = rw (names-none k (drop a d) h)
 
   module _ (some : 0 < k) (r : ℕ) (is : r ≡ a + treesLength 1 (drop a d)) where
-    pub differ-not : hasName (nameOf (drop a d)) (namesOf (k - 1) (drop r d)) ≡ true → namesDiffer (namesOf k (drop a d)) ≡ false
-    unfolding namesDiffer
-    differ-not e = rw (names-more k (drop a d) some, ← (rest-at d a r is), e)
-
-    pub differ-more : hasName (nameOf (drop a d)) (namesOf (k - 1) (drop r d)) ≡ false → namesDiffer (namesOf k (drop a d)) ≡ namesDiffer (namesOf (k - 1) (drop r d))
-    unfolding namesDiffer
-    differ-more e = rw (names-more k (drop a d) some, ← (rest-at d a r is), e)
-
     pub differ-rising : (b : Bool) → risesFrom b (nameOf (drop a d)) (namesOf (k - 1) (drop r d)) ≡ true → namesDiffer (namesOf k (drop a d)) ≡ true
     differ-rising b e = rw (names-more k (drop a d) some, ← (rest-at d a r is)) (rises-differ b (nameOf (drop a d)) (namesOf (k - 1) (drop r d)) e)
 
