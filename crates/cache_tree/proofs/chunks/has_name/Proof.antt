@@ -5,8 +5,8 @@ use native.Mathlib.Omega.{arith}
 use lib.ListN.{length, drop}
 use Rattle.cache_tree.specs.Flat.{nameOf, namesOf, hasName}
 use Rattle.cache_tree.proofs.Differ.{has-none, has-first, has-later}
-use Rattle.cache_tree.proofs.siblings.has_name.Statement.{statement}
-use Rattle.cache_tree.proofs.siblings.has_name.Tie as tie
+use Rattle.cache_tree.proofs.chunks.has_name.Statement.{statement}
+use Rattle.cache_tree.proofs.chunks.has_name.Tie as tie
 
 abbrev Inv-loop : tie.InvT-loop
 Inv-loop d a b k y₀ left₀ y left = (y ≤ length d) × (hasName (nameOf (drop a d)) (namesOf k (drop b d)) ≡ hasName (nameOf (drop a d)) (namesOf left (drop y d)))

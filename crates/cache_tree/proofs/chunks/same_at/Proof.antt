@@ -1,10 +1,10 @@
 -- The proof that `same_at` meets its contract.
-use mathlib.Core.Path.{_≡_, ap₂, _∙_}
+use mathlib.Core.Path.{ap₂, _∙_}
 use borrow.Author.Needs.{needs}
 use Rattle.format.specs.Bytes.{eqList}
 use Rattle.cache_tree.proofs.Differ.{name-at}
-use Rattle.cache_tree.proofs.siblings.same_at.Statement.{statement}
-use Rattle.cache_tree.proofs.siblings.same_at.Tie as tie
+use Rattle.cache_tree.proofs.chunks.same_at.Statement.{statement}
+use Rattle.cache_tree.proofs.chunks.same_at.Tie as tie
 
 find-requires : tie.Need-find-requires
 find-requires c κs = search needs
