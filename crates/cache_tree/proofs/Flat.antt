@@ -1,24 +1,24 @@
 -- Laws of the nodes one after another: how far k of them reach, and how a list of siblings stands among them.
-use mathlib.Core.Path.{_≡_, refl, sym, ap, ap₂, _∙_}
+use mathlib.Core.Path.{_≡_, refl, sym, ap, _∙_}
 use mathlib.Core.List.{List, [], _∷_, _++_}
 use mathlib.Core.Bool.{Bool, true, false, cond, not, _&&_}
 use Prim.Native.Nat.{ℕ, zero, suc, _+_, _-_, _≤_, _<_}
-use native.Mathlib.Nat.{add-zero, zero-add, suc-add, add-comm, add-assoc}
+use native.Mathlib.Nat.{add-zero, zero-add, suc-add, add-assoc}
 use native.Mathlib.Omega.{arith}
-use lib.ListN.{length, getD, take, drop, length-drop, length-append, List·getD-append}
+use lib.ListN.{length, getD, drop, length-drop, List·getD-append}
 use lib.Seq.{drop-drop, getD-append-add}
 use lib.Dec.{ltb}
 use borrow.Author.Tests.{ltb-true, ltb-false}
-use Rattle.format.specs.Bytes.{eqList, before}
+use Rattle.format.specs.Bytes.{before}
 use Rattle.format.specs.Records.{Node, Forest, nil, tree, width, Item, items}
 use Rattle.format.specs.Layout.{has, distinct, okNodeName}
-use Rattle.format.specs.Reading.{Read, bad, good, need, shift, bind}
+use Rattle.format.specs.Reading.{Read, bad, good, need, bind}
 use Rattle.format.specs.Reader.{Head, readText, readNode, readSiblings, readForest}
 use Rattle.cache_tree.specs.declared.node.Node as Code
 use Rattle.cache_tree.specs.declared.node.NodeRead.the-variants as R
 use Rattle.cache_tree.specs.Answers.{size, nodeAt}
-use Rattle.cache_tree.specs.Flat.{onNode, placeOf, lengthOf, treesLength, nameOf, restOf, namesOf, hasName, namesDiffer, allDiffer}
-use Rattle.cache_tree.proofs.Readings.{no-good, need-inv, bind-inv, Took, node-took, drop-to}
+use Rattle.cache_tree.specs.Flat.{placeOf, lengthOf, treesLength, nameOf, restOf, namesOf, hasName, namesDiffer, allDiffer}
+use Rattle.cache_tree.proofs.Readings.{no-good, good-inv, need-inv, bind-inv, node-took, drop-to}
 use Rattle.cache_tree.proofs.Nodes.{node-named, NodeIs, no-node}
 use Rattle.cache_tree.proofs.Lists.{items-size}
 
@@ -85,20 +85,17 @@ pub data Reads : List ℕ → Forest → ℕ → ℕ → Type 0 where
 reads-is : (s : List ℕ) (f g : Forest) (k m n : ℕ) → Reads s f k m → f ≡ g → m ≡ n → Reads s g k n
 reads-is s f g k m n r e i = rw (← e, ← i) r
 
-good-is : (f g : Forest) (m n : ℕ) → good f m ≡ good g n → (f ≡ g) × (m ≡ n)
-good-is f g m n e = (cc, cc)
-
 pub forest-reads : (l k : ℕ) (s : List ℕ) (f : Forest) (m : ℕ) → readForest 20 0 l k s ≡ good f m → Reads s f k m
 unfolding readForest readSiblings
-forest-reads zero zero s f m e = let g = good-is nil f 0 m e in reads-is s nil f 0 0 m reads-none (g .0) (g .1)
+forest-reads zero zero s f m e = let g = good-inv nil f 0 m e in reads-is s nil f 0 0 m reads-none (g .0) (g .1)
 forest-reads zero (suc k) s f m e = no-good 15 0 m f e
-forest-reads (suc l) zero s f m e = let g = good-is nil f 0 m e in reads-is s nil f 0 0 m reads-none (g .0) (g .1)
+forest-reads (suc l) zero s f m e = let g = good-inv nil f 0 m e in reads-is s nil f 0 0 m reads-none (g .0) (g .1)
 forest-reads (suc l) (suc k) s f m e =
     bind-inv (readNode 20 0 s) _ f m e λ h a i q r is.
     need-inv (okNodeName (h .node .name)) 15 0 i f _ r λ ok r₁.
     bind-inv (readForest 20 0 l (h .subtrees) (drop a s)) _ f i r₁ λ kids b j q₁ r₂ is₁.
     bind-inv (readForest 20 0 (suc l) k (drop b (drop a s))) _ f j r₂ λ after c o q₂ r₃ is₂.
-    let g = good-is (tree (h .node) kids after) f 0 o r₃ in
+    let g = good-inv (tree (h .node) kids after) f 0 o r₃ in
     let z : 0 ≡ o = g .1 in
     reads-is s _ f (suc k) _ m (reads-more q (forest-reads l (h .subtrees) (drop a s) kids b q₁) (forest-reads (suc l) k (drop b (drop a s)) after c q₂)) (g .0) (omega arith)
 
@@ -257,7 +254,7 @@ module _ (d : List ℕ) (place left : ℕ) where
           let a = is .named in
           let b = is .ended in
           let e : placeOf left (drop place d) ≡ node .next - place + placeOf (left - 1) (drop (node .next) d) =
-              ap (λ (k : ℕ). placeOf k (drop place d)) more-is ∙ place-step (left - 1) (drop place d) (is .head) (node .next - place) (is .reads) ∙ rw rest-is in
+          ap (λ (k : ℕ). placeOf k (drop place d)) more-is ∙ place-step (left - 1) (drop place d) (is .head) (node .next - place) (is .reads) ∙ rw rest-is in
           omega arith
 
       pub trees-more : place + treesLength left (drop place d) ≡ node .next + treesLength (left - 1 + node .subtrees) (drop (node .next) d)
@@ -265,7 +262,7 @@ module _ (d : List ℕ) (place left : ℕ) where
           let a = is .named in
           let b = is .ended in
           let e : treesLength left (drop place d) ≡ node .next - place + treesLength (left - 1 + node .subtrees) (drop (node .next) d) =
-              ap (λ (k : ℕ). treesLength k (drop place d)) more-is ∙ trees-step (left - 1) (drop place d) (is .head) (node .next - place) (is .reads) ∙ rw (rest-is, is .subtrees) in
+          ap (λ (k : ℕ). treesLength k (drop place d)) more-is ∙ trees-step (left - 1) (drop place d) (is .head) (node .next - place) (is .reads) ∙ rw (rest-is, is .subtrees) in
           omega arith
 
     module _ (inside : place ≤ length d) (none : R.Bad ≡ nodeAt place (readNode 20 0 (drop place d))) where

@@ -7,5 +7,7 @@ pub mod Lists
 pub mod Flat
 pub mod Orders
 pub mod Differ
+pub mod Bits
+pub mod Apart
 pub mod Shape
 pub mod Faults

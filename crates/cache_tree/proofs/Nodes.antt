@@ -3,12 +3,12 @@ use mathlib.Core.Path.{_≡_, refl, sym, ap, _∙_}
 use mathlib.Core.List.{List, [], _∷_}
 use mathlib.Core.Bool.{Bool, true, false, cond, _&&_, true≢false}
 use mathlib.Core.Option.{Option, none, some}
-use Prim.Native.Nat.{ℕ, zero, suc, _+_, _-_, _≤_, _<_}
+use Prim.Native.Nat.{ℕ, _+_, _-_, _≤_, _<_}
 use native.Mathlib.Nat.{add-zero, add-assoc}
 use native.Mathlib.Omega.{arith}
 use lib.ListN.{length, getD, take, drop, replicate, length-take, length-drop}
-use lib.Seq.{take-all}
-use lib.Dec.{eqb, leb, ltb}
+use lib.Seq.{take-all, drop-drop}
+use lib.Dec.{leb, ltb}
 use borrow.Author.Tests.{eq-eqb, ne-eqb, le-leb, lt-leb, lt-ltb, le-ltb, ltb-true}
 use Rattle.format.specs.Bytes.{before, decimal, value}
 use Rattle.format.specs.Records as Records
@@ -304,23 +304,39 @@ module _ (d : List ℕ) (at z : ℕ) (named : z ≡ at + before 0 (drop at d)) (
       to-object : (count : Records.Count) → c .of ≡ count → nodeAt at (readNode 20 0 (drop at d)) ≡ nodeFrom at object (afterSubtrees (take (z - at) (drop at d)) count k (drop object d))
       to-object count e = rw (← e) (node-name d at z named inside ∙ from-count d _ at (z + 1) v n middle c ∙ from-subtrees d _ at middle (c .of) k object s)
 
-      pub node-short : v ≡ true → length d - object < 20 → nodeAt at (readNode 20 0 (drop at d)) ≡ R.Bad
-      node-short e h =
-          let l : object ≤ length d = s .within in
-          to-object (Records.valid (counted (c .of))) (valid-of (c .of) (c .is-valid ∙ e)) ∙ from-short d at z object k (counted (c .of)) (omega arith) (omega arith) l h
+      within : object ≤ length d
+      within = s .within
 
-      pub node-valid : v ≡ true → 20 ≤ length d - object → nodeAt at (readNode 20 0 (drop at d)) ≡ R.Good (record { nul = z; valid = true; count = n; subtrees = k; object = object; next = object + 20 })
+      node-valid : v ≡ true → 20 ≤ length d - object → nodeAt at (readNode 20 0 (drop at d)) ≡ R.Good (record { nul = z; valid = true; count = n; subtrees = k; object = object; next = object + 20 })
       node-valid e h =
-          let l : object ≤ length d = s .within in
           let o : c .of ≡ Records.valid n = valid-of (c .of) (c .is-valid ∙ e) ∙ ap Records.valid (c .is-count) in
-          to-object (Records.valid n) o ∙ from-valid d at z object k n (omega arith) (omega arith) l h
+          to-object (Records.valid n) o ∙ from-valid d at z object k n (omega arith) (omega arith) within h
 
-      pub node-invalid : v ≡ false → nodeAt at (readNode 20 0 (drop at d)) ≡ R.Good (record { nul = z; valid = false; count = n; subtrees = k; object = object; next = object })
+      node-invalid : v ≡ false → nodeAt at (readNode 20 0 (drop at d)) ≡ R.Good (record { nul = z; valid = false; count = n; subtrees = k; object = object; next = object + 0 })
       node-invalid e =
-          let l : object ≤ length d = s .within in
           let o : c .of ≡ Records.invalid = invalid-of (c .of) (c .is-valid ∙ e) in
           let zero-count : n ≡ 0 = sym (c .is-count) ∙ ap counted o in
-          rw zero-count (to-object Records.invalid o ∙ from-invalid d at z object k 0 (omega arith) (omega arith) l)
+          rw (zero-count, add-zero object) (to-object Records.invalid o ∙ from-invalid d at z object k 0 (omega arith) (omega arith) within)
+
+      node-cut : v ≡ true → length d - object < 20 → nodeAt at (readNode 20 0 (drop at d)) ≡ R.Bad
+      node-cut e h =
+          to-object (Records.valid (counted (c .of))) (valid-of (c .of) (c .is-valid ∙ e)) ∙ from-short d at z object k (counted (c .of)) (omega arith) (omega arith) within h
+
+    -- r is the length of its object name
+    module _ (k object : ℕ) (s : SubtreesIs d middle k object) (r : ℕ) (is : r ≡ cond v 20 0) where
+      pub node-short : length d - object < r → nodeAt at (readNode 20 0 (drop at d)) ≡ R.Bad
+      node-short h = by v refl
+        where
+          by : (b : Bool) → v ≡ b → nodeAt at (readNode 20 0 (drop at d)) ≡ R.Bad
+          by true e = let q : r ≡ 20 = is ∙ ap (λ (b : Bool). cond b 20 0) e in node-cut k object s e (omega arith)
+          by false e = let q : r ≡ 0 = is ∙ ap (λ (b : Bool). cond b 20 0) e in absurd (omega arith)
+
+      pub node-good : r ≤ length d - object → nodeAt at (readNode 20 0 (drop at d)) ≡ R.Good (record { nul = z; valid = v; count = n; subtrees = k; object = object; next = object + r })
+      node-good h = by v refl
+        where
+          by : (b : Bool) → v ≡ b → nodeAt at (readNode 20 0 (drop at d)) ≡ R.Good (record { nul = z; valid = v; count = n; subtrees = k; object = object; next = object + r })
+          by true e = let q : r ≡ 20 = is ∙ ap (λ (b : Bool). cond b 20 0) e in rw (q, e) (node-valid k object s e (omega arith))
+          by false e = let q : r ≡ 0 = is ∙ ap (λ (b : Bool). cond b 20 0) e in rw (q, e) (node-invalid k object s e)
 
 -- ---- what a node's answer says of the format's reading
 
@@ -386,3 +402,37 @@ no-node-by at (good h m) e f = let z : _≡_ {A = ℕ} 0 1 = cc in absurd (omega
 
 pub no-node {ℓ} : {X : Type ℓ} (d : List ℕ) (at : ℕ) → R.Bad ≡ nodeAt at (readNode 20 0 (drop at d)) → ((n p : ℕ) → readNode 20 0 (drop at d) ≡ bad n p → X) → X
 no-node d at e f = no-node-by at (readNode 20 0 (drop at d)) e f
+
+-- ---- the object name of a node that was read
+
+object-valid : (w p : ℕ) (c : Records.Count) (s o : List ℕ) (k : ℕ) → readObject w p c s ≡ good o k → isValid c ≡ true → (k ≡ w) × (o ≡ take w s)
+unfolding readObject
+object-valid w p (Records.valid n) s o k e v = need-inv (leb w (length s)) 15 p k o _ e (λ l r. (cc, cc))
+object-valid w p Records.invalid s o k e v = absurd (true≢false (sym v))
+
+object-invalid : (w p : ℕ) (c : Records.Count) (s o : List ℕ) (k : ℕ) → readObject w p c s ≡ good o k → isValid c ≡ false → o ≡ replicate w 0
+unfolding readObject
+object-invalid w p (Records.valid n) s o k e v = absurd (true≢false v)
+object-invalid w p Records.invalid s o k e v = cc
+
+-- the last w bytes where the count is valid, else zeros
+pub node-object : (w p : ℕ) (s : List ℕ) (h : Head) (m : ℕ) → readNode w p s ≡ good h m →
+    (isValid (h .node .count) ≡ true → h .node .object ≡ take w (drop (m - w) s)) × (isValid (h .node .count) ≡ false → h .node .object ≡ replicate w 0)
+unfolding readNode
+node-object w p s h m e =
+    bind-inv (readText 0 15 p s) _ h m e λ name a a′ q r i.
+    bind-inv (readCount p (drop a s)) _ h a′ r λ count b b′ q₁ r₁ i₁.
+    bind-inv (readSubtrees p (drop b (drop a s))) _ h b′ r₁ λ k c c′ q₂ r₂ i₂.
+    bind-inv (readObject w p count (drop c (drop b (drop a s)))) _ h c′ r₂ λ object o o′ q₃ r₃ i₃.
+    let same : record { node = record { name = name; count = count; object = object }; subtrees = k } ≡ h = cc in
+    let z : 0 ≡ o′ = cc in
+    let is-count : h .node .count ≡ count = ap (λ (x : Head). x .node .count) (sym same) in
+    let is-object : h .node .object ≡ object = ap (λ (x : Head). x .node .object) (sym same) in
+    let rest : drop c (drop b (drop a s)) ≡ drop (a + (b + c)) s = drop-drop c b (drop a s) ∙ drop-drop (b + c) a s in (
+      (λ v.
+          let f = object-valid w p count _ object o q₃ (ap isValid (sym is-count) ∙ v) in
+          let f₁ : o ≡ w = f .0 in
+          let l : a + (b + c) ≡ m - w = omega arith in
+          is-object ∙ f .1 ∙ ap (take w) (rest ∙ ap (λ (n : ℕ). drop n s) l)),
+      (λ v. is-object ∙ object-invalid w p count _ object o q₃ (ap isValid (sym is-count) ∙ v)),
+    )

@@ -3,7 +3,7 @@ use mathlib.Core.Path.{_≡_, refl, sym, ap, ap₂, _∙_}
 use mathlib.Core.List.{List, [], _∷_, _++_, append-assoc}
 use mathlib.Core.Bool.{Bool, true, false, cond, true≢false}
 use mathlib.Core.Logic.{_⊎_, inl, inr, ⊎-elim}
-use Prim.Native.Nat.{ℕ, zero, suc, _+_, _-_, _≤_, _<_}
+use Prim.Native.Nat.{ℕ, suc, _≤_, _<_}
 use native.Mathlib.Omega.{arith}
 use lib.ListN.{length, getD, take, drop, take-append-drop, drop-of-length-le}
 use lib.Seq.{drop-cons}
@@ -115,7 +115,7 @@ unfolding slashBelow lengthBelow
 below-self true s = rw (compare-self s) (first-same (length s) (length s) false refl)
 below-self false s = rw (compare-self (s ++ (47 ∷ [])))
 
-cond-inv : (a b : Bool) → cond a b false ≡ true → (a ≡ true) × (b ≡ true)
+pub cond-inv : (a b : Bool) → cond a b false ≡ true → (a ≡ true) × (b ≡ true)
 cond-inv true b h = (refl, h)
 cond-inv false b h = absurd (true≢false (sym h))
 

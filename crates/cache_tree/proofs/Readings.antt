@@ -1,20 +1,18 @@
 -- Laws of readings: how many bytes a reading takes, and one reading after another.
 use mathlib.Core.Path.{_≡_, refl, sym, ap, _∙_}
-use mathlib.Core.List.{List, [], _∷_}
-use mathlib.Core.Bool.{Bool, true, false, cond, _&&_}
+use mathlib.Core.List.{List}
+use mathlib.Core.Bool.{Bool, true, false, _&&_}
 use mathlib.Core.Option.{Option, none, some}
-use Prim.Native.Nat.{ℕ, zero, suc, _+_, _-_, _≤_, _<_}
+use Prim.Native.Nat.{ℕ, _+_, _-_, _≤_, _<_}
 use native.Mathlib.Omega.{arith}
-use lib.ListN.{length, take, drop, length-drop}
+use lib.ListN.{length, drop, length-drop}
 use lib.Seq.{drop-drop}
 use lib.Dec.{ltb, leb}
 use borrow.Author.Tests.{ltb-true, leb-true}
 use Rattle.format.specs.Bytes.{before, decimal, value}
 use Rattle.format.specs.Records as Records
-use Rattle.format.specs.Records.{Forest, nil, tree, Tree}
-use Rattle.format.specs.Layout.{okNodeName}
 use Rattle.format.specs.Reading.{Read, bad, good, need, shift, bind}
-use Rattle.format.specs.Reader.{readText, countIn, needSome, readCount, readSubtrees, readObject, Head, readNode, readSiblings, readForest, readNodes}
+use Rattle.format.specs.Reader.{readText, countIn, needSome, readCount, readSubtrees, readObject, readNode}
 
 -- a place further on
 pub drop-to : (d : List ℕ) (at m next : ℕ) → next ≡ at + m → drop m (drop at d) ≡ drop next d
@@ -24,6 +22,9 @@ drop-to d at m next e = drop-drop m at d ∙ ap (λ (n : ℕ). drop n d) (sym e)
 
 pub no-good {ℓ} : {A : Type 0} {X : Type ℓ} (n p m : ℕ) (a : A) → bad n p ≡ good a m → X
 no-good n p m a e = let z : _≡_ {A = ℕ} 0 1 = cc in absurd (omega arith)
+
+pub good-inv : {A : Type 0} (a b : A) (m n : ℕ) → good a m ≡ good b n → (a ≡ b) × (m ≡ n)
+good-inv a b m n e = (cc, cc)
 
 pub need-inv {ℓ} : {A : Type 0} {X : Type ℓ} (b : Bool) (n p m : ℕ) (a : A) (r : Read A) → need b n p r ≡ good a m → (b ≡ true → r ≡ good a m → X) → X
 unfolding need

@@ -3,3 +3,4 @@ pub mod Answers
 pub mod Flat
 pub mod Orders
 pub mod Shape
+pub mod Filter

@@ -1,4 +1,6 @@
 // The cache tree: reading the data of the TREE extension. Every fault of the data is refusal 15, so the answers have no number.
+pub mod chunks;
+pub mod filter;
 pub mod list;
 pub mod node;
 pub mod number;
@@ -7,7 +9,7 @@ pub mod walk;
 
 use crate::list::ListRead;
 use crate::list::read_list;
-use crate::node::Node;
+use crate::list::with_root;
 use crate::node::NodeRead;
 use crate::node::read_node;
 use crate::siblings::all_differ;
@@ -21,7 +23,11 @@ ghost use Rattle.cache_tree.specs.Shape.{readShape, nodesAt, treeOf};
 // The number of nodes, and the place and the level of the node that was wanted, 0 where there are fewer nodes.
 pub enum TreeRead {
     Bad,
-    Good { nodes: u32, place: usize, level: u32 },
+    Good {
+        nodes: u32,
+        place: usize,
+        level: u32,
+    },
 }
 
 // The root, whose name is empty, and all below it.
@@ -35,26 +41,9 @@ fn read_nodes(d: &[u8], want: u32) -> ListRead
         NodeRead::Good(root) => {
             if root.nul == 0 {
                 let listed = read_list(d, root.next, 127, root.subtrees, want);
-                match listed {
-                    ListRead::Bad => ListRead::Bad,
-                    ListRead::Good { next, nodes, level } => {
-                        if want == 0 {
-                            return ListRead::Good {
-                                next: next,
-                                nodes: nodes + 1,
-                                level: 1,
-                            };
-                        }
-                        ListRead::Good {
-                            next: next,
-                            nodes: nodes + 1,
-                            level: level,
-                        }
-                    }
-                }
-            } else {
-                ListRead::Bad
+                return with_root(listed, want == 0, 1);
             }
+            ListRead::Bad
         }
     }
 }

@@ -3,15 +3,20 @@ use crate::number::Number;
 use crate::number::read_number;
 use fields::find;
 ghost use mathlib.Core.Path.{_≡_};
-ghost use Prim.Native.Nat.{ℕ, _+_, _-_, _≤_, _<_};
-ghost use lib.ListN.{length, take, drop};
+ghost use mathlib.Core.Bool.{cond};
+ghost use Prim.Native.Nat.{_+_, _-_, _≤_, _<_};
+ghost use lib.ListN.{length, drop};
 ghost use Rattle.format.specs.Reader.{countIn, readCount, readSubtrees, readNode};
 ghost use Rattle.cache_tree.specs.Answers.{countTo, countAt, subtreesAt, nodeAt};
 
 // An entry count, 0 where it says "invalid", and the place after it.
 pub enum Count {
     Bad,
-    Good { valid: bool, count: u32, next: usize },
+    Good {
+        valid: bool,
+        count: u32,
+        next: usize,
+    },
 }
 
 // A number of subtrees, and the place after it.
@@ -104,6 +109,16 @@ pub fn read_subtrees(d: &[u8], at: usize) -> Subtrees
     }
 }
 
+// The length of the object name, which is there where the count is valid.
+fn object_length(valid: bool) -> usize
+    ensures { λ r. ⌜ r ≡ cond valid 20 0 ⌝ }
+{
+    if valid {
+        return 20;
+    }
+    0
+}
+
 // The node at a place.
 pub fn read_node(d: &[u8], at: usize) -> NodeRead
     requires { ⌜ at ≤ length (now d) ⌝ }
@@ -116,31 +131,29 @@ pub fn read_node(d: &[u8], at: usize) -> NodeRead
     let counted = read_count(d, nul + 1);
     match counted {
         Count::Bad => NodeRead::Bad,
-        Count::Good { valid, count, next: middle } => {
+        Count::Good {
+            valid,
+            count,
+            next: middle,
+        } => {
             let listed = read_subtrees(d, middle);
             match listed {
                 Subtrees::Bad => NodeRead::Bad,
-                Subtrees::Good { subtrees, next: object } => {
-                    if valid {
-                        if d.len() - object < 20 {
-                            return NodeRead::Bad;
-                        }
-                        return NodeRead::Good(Node {
-                            nul: nul,
-                            valid: true,
-                            count: count,
-                            subtrees: subtrees,
-                            object: object,
-                            next: object + 20,
-                        });
+                Subtrees::Good {
+                    subtrees,
+                    next: object,
+                } => {
+                    let n = object_length(valid);
+                    if d.len() - object < n {
+                        return NodeRead::Bad;
                     }
                     NodeRead::Good(Node {
                         nul: nul,
-                        valid: false,
+                        valid: valid,
                         count: count,
                         subtrees: subtrees,
                         object: object,
-                        next: object,
+                        next: object + n,
                     })
                 }
             }

@@ -1,18 +1,16 @@
-// Whether siblings differ in name. Those that rise in one of two orders do; others are compared with one another.
-use crate::node::Node;
+// Whether siblings differ in name. Those that rise in one of two orders do; others are looked at chunk by chunk.
+use crate::chunks::by_chunks;
 use crate::node::NodeRead;
 use crate::node::read_node;
 use crate::walk::after_tree;
 use fields::common;
 use fields::compare;
 use fields::find;
-use fields::same;
 use format::Order;
 ghost use mathlib.Core.Path.{_≡_};
-ghost use Prim.Native.Nat.{ℕ, _+_, _-_, _≤_, _<_};
-ghost use lib.ListN.{length, take, drop};
-ghost use Rattle.format.specs.Bytes.{eqList};
-ghost use Rattle.cache_tree.specs.Flat.{nameOf, namesOf, hasName, namesDiffer, allDiffer};
+ghost use Prim.Native.Nat.{_-_, _≤_, _<_};
+ghost use lib.ListN.{length, drop};
+ghost use Rattle.cache_tree.specs.Flat.{nameOf, namesOf, namesDiffer, allDiffer};
 ghost use Rattle.cache_tree.specs.Orders.{slashBelow, lengthBelow, nameBelow, risesFrom};
 
 // Whether s is below t, each followed by "/".
@@ -75,6 +73,9 @@ fn rises(d: &[u8], a: usize, b: usize, k: u32, by_length: bool) -> bool
     let mut left = k;
     while 0 < left {
         if below_at(d, x, y, by_length) {
+            if left == 1 {
+                return true;
+            }
             let z = after_tree(d, y);
             x = y;
             y = z;
@@ -86,57 +87,12 @@ fn rises(d: &[u8], a: usize, b: usize, k: u32, by_length: bool) -> bool
     true
 }
 
-// Whether the names at a and at b are equal.
-fn same_at(d: &[u8], a: usize, b: usize) -> bool
-    requires { ⌜ (a ≤ length (now d)) × (b ≤ length (now d)) ⌝ }
-    ensures { λ r. ⌜ r ≡ eqList (nameOf (drop a (now (d .entry)))) (nameOf (drop b (now (d .entry)))) ⌝ }
-{
-    let x = find(d, a, 0);
-    let y = find(d, b, 0);
-    same(&d[a..x], &d[b..y])
-}
-
-// Whether the name at a is among the k from b on.
-fn has_name(d: &[u8], a: usize, b: usize, k: u32) -> bool
-    requires { ⌜ (a ≤ length (now d)) × (b ≤ length (now d)) × (length (now d) ≤ 16777216) ⌝ }
-    ensures { λ r. ⌜ r ≡ hasName (nameOf (drop a (now (d .entry)))) (namesOf k (drop b (now (d .entry)))) ⌝ }
-{
-    let mut y = b;
-    let mut left = k;
-    while 0 < left {
-        if same_at(d, a, y) {
-            return true;
-        }
-        y = after_tree(d, y);
-        left -= 1;
-    }
-    false
-}
-
-// Whether the k names from a on differ, each compared with all after it.
-fn plain(d: &[u8], a: usize, k: u32) -> bool
-    requires { ⌜ (a ≤ length (now d)) × (length (now d) ≤ 16777216) ⌝ }
-    ensures { λ r. ⌜ r ≡ namesDiffer (namesOf k (drop a (now (d .entry)))) ⌝ }
-{
-    let mut x = a;
-    let mut left = k;
-    while 0 < left {
-        let y = after_tree(d, x);
-        if has_name(d, x, y, left - 1) {
-            return false;
-        }
-        x = y;
-        left -= 1;
-    }
-    true
-}
-
 // Whether the k names from a on differ.
 pub fn differ(d: &[u8], a: usize, k: u32, work: &mut [u8], seed: u64) -> bool
     requires { ⌜ (a ≤ length (now d)) × (length (now d) ≤ 16777216) × (8192 ≤ length (now work)) ⌝ }
     ensures { λ r. ⌜ (r ≡ namesDiffer (namesOf k (drop a (now (d .entry))))) × (drop 8192 (now (work .exit)) ≡ drop 8192 (now (work .entry))) ⌝ }
 {
-    if k == 0 {
+    if k < 2 {
         return true;
     }
     let b = after_tree(d, a);
@@ -146,7 +102,7 @@ pub fn differ(d: &[u8], a: usize, k: u32, work: &mut [u8], seed: u64) -> bool
     if rises(d, a, b, k - 1, true) {
         return true;
     }
-    plain(d, a, k)
+    by_chunks(d, a, k, work, seed)
 }
 
 // Whether in each of so many nodes, one after another from the first on, the subtrees differ in name.

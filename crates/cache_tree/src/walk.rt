@@ -1,9 +1,8 @@
 // The nodes one after another, as they stand in the data.
-use crate::node::Node;
 use crate::node::NodeRead;
 use crate::node::read_node;
 ghost use mathlib.Core.Path.{_≡_};
-ghost use Prim.Native.Nat.{ℕ, _+_, _≤_};
+ghost use Prim.Native.Nat.{_+_, _≤_};
 ghost use lib.ListN.{length, drop};
 ghost use Rattle.cache_tree.specs.Flat.{placeOf, treesLength};
 

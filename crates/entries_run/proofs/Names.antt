@@ -1,10 +1,10 @@
 -- Laws of two names after each other, and of the name that version 4 rebuilds in the workspace.
-use mathlib.Core.Path.{_≡_, refl, sym, ap, _∙_}
-use mathlib.Core.List.{List, _++_, append-assoc}
+use mathlib.Core.Path.{_≡_, sym, ap, _∙_}
+use mathlib.Core.List.{List, _++_}
 use Prim.Native.Nat.{ℕ, _+_, _-_, _≤_}
 use native.Mathlib.Omega.{arith}
-use lib.ListN.{length, take, drop, length-append, length-drop}
-use lib.Seq.{length-take-le, take-take, take-add, take-at, drop-at, drop-drop}
+use lib.ListN.{length, take, drop}
+use lib.Seq.{length-take-le, take-add}
 use Rattle.format.specs.declared.Order.{Order}
 use Rattle.format.specs.Names.{compare, common, rises}
 use Rattle.fields.proofs.Laws.{compare-append, common-append}
@@ -12,7 +12,8 @@ use Rattle.entries_run.specs.declared.Standing.{Standing}
 use Rattle.entries_run.specs.Steps.{Stands, Rebuilt}
 
 -- two names that have k bytes in common, s standing to t as o says
-pub stands : (s t : List ℕ) (m n k : ℕ) (o : Order) → k ≡ common s t → k ≤ length s → compare s t ≡ o → Stands s t m n (record { rises = rises o m n; common = k })
+pub stands : (s t : List ℕ) (m n k : ℕ) (o : Order) → k ≡ common s t → k ≤ length s → compare s t ≡ o
+    → Stands s t m n (record { rises = rises o m n; common = k })
 stands s t m n k o is within order = record { rises = ap (λ (x : Order). rises x m n) (sym order); common = is; fits = within }
 
 -- the first p bytes of w less their last n, then s
@@ -22,14 +23,15 @@ module _ (w s : List ℕ) (p n : ℕ) (fits : n ≤ p) (long : p ≤ length w) w
       let e : p ≡ p - n + (p - (p - n)) = omega arith in
       ap (λ (k : ℕ). take k w) e ∙ take-add (p - n) (p - (p - n)) w
 
-  -- how the lost bytes stand to s says how the old name stands to the new one
-  pub rebuilt : (k l : ℕ) (w′ : List ℕ) (d : Standing) → Stands (take (p - (p - n)) (drop (p - n) w)) s k l d → w′ ≡ take (p - n) w ++ (s ++ drop (p - n + length s) w)
+  -- the replaced bytes stand to s as the old name to the new one
+  pub rebuilt : (k l : ℕ) (w′ : List ℕ) (d : Standing) → Stands (take (p - (p - n)) (drop (p - n) w)) s k l d
+      → w′ ≡ take (p - n) w ++ (s ++ drop (p - n + length s) w)
       → Rebuilt w p n s k l w′ (record { rises = d .rises; common = p - n + d .common })
   rebuilt k l w′ d h e =
       let q : List ℕ = take (p - n) w in
-      let lost : List ℕ = take (p - (p - n)) (drop (p - n) w) in
-      let order : compare (take p w) (q ++ s) ≡ compare lost s = rw kept (compare-append q lost s) in
-      let shared : common (take p w) (q ++ s) ≡ length q + common lost s = rw kept (common-append q lost s) in
+      let dropped : List ℕ = take (p - (p - n)) (drop (p - n) w) in
+      let order : compare (take p w) (q ++ s) ≡ compare dropped s = rw kept (compare-append q dropped s) in
+      let shared : common (take p w) (q ++ s) ≡ length q + common dropped s = rw kept (common-append q dropped s) in
       let size : length q ≡ p - n = length-take-le (p - n) w (omega arith) in
       record {
         rises = h .rises ∙ ap (λ (x : Order). rises x k l) (sym order);

@@ -35,7 +35,8 @@ module _ (b w : List ℕ) (c : Cursor) (h : Head) (room : c .len ≤ length w) w
   unfolding readName readPacked nameAt
   name-packed p = rw (length-take-le (c .len) w room)
 
-  pub packed-bad : (n : ℕ) → ((p : ℕ) → M.Bad n ≡ numberOf (readN p (c .len) (drop (c .at + h .length) b))) → Answered (readRest 4 b w c h) 4 b w c w (N.Bad n)
+  pub packed-bad : (n : ℕ) → ((p : ℕ) → M.Bad n ≡ numberOf (readN p (c .len) (drop (c .at + h .length) b)))
+      → Answered (readRest 4 b w c h) 4 b w c w (N.Bad n)
   unfolding bind
   packed-bad n e =
       answered-bad _ 4 b w c w refl refl (λ q. refl) n λ p.
@@ -45,133 +46,154 @@ pub numbered : (b w : List ℕ) (c : Cursor) (h : Head) (n took : ℕ) → Heade
     → n ≤ c .len → c .at + h .length + took ≤ length b → 8192 ≤ length w → Numbered b w c h n took
 numbered b w c h n took q e fits more room = record { head = q; number = λ p. readN-good p _ _ n took (sym (e p)); fits = fits; more = more; room = room }
 
--- after the number n: the first NUL at z
-module _ (b w : List ℕ) (c : Cursor) (h : Head) (n took : ℕ) (q : Numbered b w c h n took) (z : ℕ)
-    (place : z ≡ c .at + h .length + took + before 0 (drop (c .at + h .length + took) b)) (within : z ≤ length b) where
-  abbrev from : ℕ
-  from = c .at + h .length + took
+-- where the name's own bytes begin, after the number n, which took so many bytes
+abbrev from : Cursor → Head → ℕ → ℕ
+from c h took = c .at + h .length + took
 
-  abbrev new : List ℕ
-  new = take (c .len - n) w ++ take (z - (c .at + h .length + took)) (drop (c .at + h .length + took) b)
+-- its own bytes, where the first NUL is at z; how long the name is; the name
+abbrev own : List ℕ → Cursor → Head → ℕ → ℕ → List ℕ
+own b c h took z = take (z - from c h took) (drop (from c h took) b)
 
-  size : length (drop (c .at + h .length + took) b) ≡ length b - (c .at + h .length + took)
-  size = length-drop (c .at + h .length + took) b
+abbrev newLength : Cursor → Head → ℕ → ℕ → ℕ → ℕ
+newLength c h n took z = c .len - n + (z - from c h took)
 
-  name-is : joined (take (c .len) w) n (drop (c .at + h .length + took) b) ≡ new
+abbrev new : List ℕ → List ℕ → Cursor → Head → ℕ → ℕ → ℕ → List ℕ
+new b w c h n took z = take (c .len - n) w ++ own b c h took z
+
+-- the number and the first NUL are read
+pub record Ended (b w : List ℕ) (c : Cursor) (h : Head) (n took z : ℕ) : Type 0 where
+  pub numbered : Numbered b w c h n took
+  pub is-z : z ≡ c .at + h .length + took + before 0 (drop (c .at + h .length + took) b)
+  pub within : z ≤ length b
+
+-- the name is rebuilt in the workspace
+pub record Copied (b w : List ℕ) (c : Cursor) (h : Head) (n took z : ℕ) (w′ : List ℕ) (d : Standing) : Type 0 where
+  pub ended : Ended b w c h n took z
+  pub inside : z ≡ length b → ⊥
+  pub short : c .len - n + (z - (c .at + h .length + took)) ≤ 8192
+  pub rebuilt : Rebuilt w (c .len) n (take (z - (c .at + h .length + took)) (drop (c .at + h .length + took) b)) (c .stage) (h .flags / 4096 % 4) w′ d
+
+module _ (b w : List ℕ) (c : Cursor) (h : Head) (n took z : ℕ) (q : Ended b w c h n took z) where
+  size : length (drop (from c h took) b) ≡ length b - from c h took
+  size = length-drop (from c h took) b
+
+  name-is : joined (take (c .len) w) n (drop (from c h took) b) ≡ new b w c h n took z
   unfolding joined
   name-is =
-      let e : before 0 (drop (c .at + h .length + took) b) ≡ z - (c .at + h .length + took) = omega arith in
+      let e : before 0 (drop (from c h took) b) ≡ z - from c h took = omega (arith, q .is-z) in
       let l : c .len ≤ length w = omega arith in
       let k : c .len - n ≤ c .len = omega arith in
       rw (length-take-le (c .len) w l, take-take (c .len - n) (c .len) w k, e)
 
-  length-new : length new ≡ c .len - n + (z - (c .at + h .length + took))
+  length-new : length (new b w c h n took z) ≡ newLength c h n took z
   length-new =
       let k : c .len - n ≤ length w = omega arith in
-      let l : z - (c .at + h .length + took) ≤ length (drop (c .at + h .length + took) b) = omega (arith, size) in
-      rw (length-append, length-take-le (c .len - n) w k, length-take-le (z - (c .at + h .length + took)) (drop (c .at + h .length + took) b) l)
+      let l : z - from c h took ≤ length (drop (from c h took) b) = omega (arith, size) in
+      rw (length-append, length-take-le (c .len - n) w k, length-take-le (z - from c h took) (drop (from c h took) b) l)
 
-  name-suffix : (p : ℕ) → nameRead 4 b w c h p ≡ shift took (readSuffix p (take (c .len) w) (h .flags % 4096) n (drop (c .at + h .length + took) b))
+  name-suffix : (p : ℕ) → nameRead 4 b w c h p ≡ shift took (readSuffix p (take (c .len) w) (h .flags % 4096) n (drop (from c h took) b))
   unfolding bind
   name-suffix p =
       let l : c .len ≤ length w = omega arith in
-      name-packed b w c h l p ∙ rw (q .number p, drop-drop took (c .at + h .length) b)
+      name-packed b w c h l p ∙ rw (q .numbered .number p, drop-drop took (c .at + h .length) b)
 
   pub suffix-cut : z ≡ length b → Answered (readRest 4 b w c h) 4 b w c w (N.Bad 6)
   unfolding readSuffix need shift
   suffix-cut e =
-      let l : length (drop (c .at + h .length + took) b) ≤ before 0 (drop (c .at + h .length + took) b) = omega (arith, size) in
-      answered-bad _ 4 b w c w refl refl (λ q. refl) 6 λ p.
+      let l : length (drop (from c h took) b) ≤ before 0 (drop (from c h took) b) = omega (arith, size) in
+      answered-bad _ 4 b w c w refl refl (λ v. refl) 6 λ p.
       rest-bad 4 b w c h p 6 (name-suffix p ∙ rw (le-ltb _ _ l))
 
-  module _ (inside : (z ≡ length b → ⊥)) where
+  module _ (inside : z ≡ length b → ⊥) where
     name-from : (p : ℕ)
         → nameRead 4 b w c h p
-        ≡ need (okName new && eqb (h .flags % 4096) (lengthField (c .len - n + (z - (c .at + h .length + took))))) 9 p (good new (z + 1 - (c .at + h .length)))
+        ≡ need (okName (new b w c h n took z) && eqb (h .flags % 4096) (lengthField (newLength c h n took z))) 9 p
+        (good (new b w c h n took z) (z + 1 - (c .at + h .length)))
     unfolding readSuffix need shift
     name-from p =
-        let l : before 0 (drop (c .at + h .length + took) b) < length (drop (c .at + h .length + took) b) = omega (arith, size) in
-        let k : took + (before 0 (drop (c .at + h .length + took) b) + 1) ≡ z + 1 - (c .at + h .length) = omega arith in
+        let l : before 0 (drop (from c h took) b) < length (drop (from c h took) b) = omega (arith, size) in
+        let k : took + (before 0 (drop (from c h took) b) + 1) ≡ z + 1 - (c .at + h .length) = omega arith in
         name-suffix p ∙ rw (lt-ltb _ _ l, name-is, length-new, shift-need, k)
 
-    name-bad : (p : ℕ) → okName new ≡ false → readRest 4 b w c h p ≡ bad 9 p
+    name-bad : (p : ℕ) → okName (new b w c h n took z) ≡ false → readRest 4 b w c h p ≡ bad 9 p
     unfolding need
     name-bad p e = rest-bad 4 b w c h p 9 (name-from p ∙ rw e)
 
-    pub suffix-long : 8192 < c .len - n + (z - (c .at + h .length + took)) → Answered (readRest 4 b w c h) 4 b w c w (N.Bad 9)
+    pub suffix-long : 8192 < newLength c h n took z → Answered (readRest 4 b w c h) 4 b w c w (N.Bad 9)
     suffix-long e =
-        let over : 8192 < length new = omega (arith, length-new) in
-        answered-bad _ 4 b w c w refl refl (λ q. refl) 9 (λ p. name-bad p (okName-over new over))
+        let over : 8192 < length (new b w c h n took z) = omega (arith, length-new) in
+        answered-bad _ 4 b w c w refl refl (λ v. refl) 9 (λ p. name-bad p (okName-over _ over))
 
-    -- the name was rebuilt in the workspace
-    module _ (w′ : List ℕ) (d : Standing)
-        (r : Rebuilt w (c .len) n (take (z - (c .at + h .length + took)) (drop (c .at + h .length + took) b)) (c .stage) (h .flags / 4096 % 4) w′ d)
-        (short : c .len - n + (z - (c .at + h .length + took)) ≤ 8192) where
-      held : w′ ≡ new ++ drop (length new) w
-      held =
-          let S : List ℕ = take (z - (c .at + h .length + took)) (drop (c .at + h .length + took) b) in
-          let k : length new ≡ c .len - n + length S = rw (length-append, length-take-le (c .len - n) w (omega arith)) in
-          r .held ∙ rw (k, append-assoc (take (c .len - n) w) S)
+module _ (b w : List ℕ) (c : Cursor) (h : Head) (n took z : ℕ) (w′ : List ℕ) (d : Standing) (r : Copied b w c h n took z w′ d) where
+  long-new : length (new b w c h n took z) ≡ newLength c h n took z
+  long-new = length-new b w c h n took z (r .ended)
 
-      shown : nameAt 4 b w′ 0 (c .len - n + (z - (c .at + h .length + took))) ≡ new
-      unfolding nameAt
-      shown = rw held (take-at new (drop (length new) w) _ length-new)
+  held : w′ ≡ new b w c h n took z ++ drop (length (new b w c h n took z)) w
+  held =
+      let k : length (new b w c h n took z) ≡ c .len - n + length (own b c h took z) = rw (length-append, length-take-le (c .len - n) w (omega arith)) in
+      r .rebuilt .held ∙ rw (k, append-assoc (take (c .len - n) w) (own b c h took z))
 
-      long : length w′ ≡ length w
-      long = rw (held, length-append new (drop (length new) w), length-drop (length new) w) (omega (arith, length-new))
+  shown : nameAt 4 b w′ 0 (newLength c h n took z) ≡ new b w c h n took z
+  unfolding nameAt
+  shown = rw held (take-at (new b w c h n took z) _ _ long-new)
 
-      past : drop 8192 w′ ≡ drop 8192 w
-      past =
-          let e : 8192 ≡ length new + (8192 - length new) = omega (arith, length-new) in
-          rw held
-          (ap (λ (k : ℕ). drop k (new ++ drop (length new) w)) e ∙ drop-append-add new (drop (length new) w) (8192 - length new) ∙ drop-drop (8192 - length new) (length new) w
-          ∙ ap (λ (k : ℕ). drop k w) (sym e))
+  long : length w′ ≡ length w
+  long = rw (held, length-append (new b w c h n took z), length-drop (length (new b w c h n took z)) w) (omega (arith, long-new))
 
-      refused : (m : ℕ) → ((p : ℕ) → readRest 4 b w c h p ≡ bad m p) → Answered (readRest 4 b w c h) 4 b w c w′ (N.Bad m)
-      refused m e = answered-bad _ 4 b w c w′ long past (λ v. false-true (sym v)) m e
+  past : drop 8192 w′ ≡ drop 8192 w
+  past =
+      let s : List ℕ = new b w c h n took z in
+      let e : 8192 ≡ length s + (8192 - length s) = omega (arith, long-new) in
+      rw held
+      (ap (λ (k : ℕ). drop k (s ++ drop (length s) w)) e ∙ drop-append-add s (drop (length s) w) (8192 - length s) ∙ drop-drop (8192 - length s) (length s) w
+      ∙ ap (λ (k : ℕ). drop k w) (sym e))
 
-      order-is : d .rises ≡ rises (compare (nameAt 4 b w (c .start) (c .len)) new) (c .stage) (h .flags / 4096 % 4)
-      unfolding nameAt
-      order-is = r .rises
+  refused : (m : ℕ) → ((p : ℕ) → readRest 4 b w c h p ≡ bad m p) → Answered (readRest 4 b w c h) 4 b w c w′ (N.Bad m)
+  refused m e = answered-bad _ 4 b w c w′ long past (λ v. false-true (sym v)) m e
 
-      pub suffix-name : okName (take (c .len - n + (z - (c .at + h .length + took))) w′) ≡ false → Answered (readRest 4 b w c h) 4 b w c w′ (N.Bad 9)
-      unfolding nameAt
-      suffix-name e = refused 9 (λ p. name-bad p (ap okName (sym shown) ∙ e))
+  order-is : d .rises ≡ rises (compare (nameAt 4 b w (c .start) (c .len)) (new b w c h n took z)) (c .stage) (h .flags / 4096 % 4)
+  unfolding nameAt
+  order-is = r .rebuilt .rises
 
-      module _ (ok : okName (take (c .len - n + (z - (c .at + h .length + took))) w′) ≡ true) where
-        sound : okName new ≡ true
-        unfolding nameAt
-        sound = ap okName (sym shown) ∙ ok
+  pub suffix-name : okName (take (newLength c h n took z) w′) ≡ false → Answered (readRest 4 b w c h) 4 b w c w′ (N.Bad 9)
+  unfolding nameAt
+  suffix-name e = refused 9 (λ p. name-bad b w c h n took z (r .ended) (r .inside) p (ap okName (sym shown) ∙ e))
 
-        pub suffix-field : (h .flags % 4096 ≡ lengthField (c .len - n + (z - (c .at + h .length + took))) → ⊥) → Answered (readRest 4 b w c h) 4 b w c w′ (N.Bad 9)
-        unfolding need
-        suffix-field e = refused 9 (λ p. rest-bad 4 b w c h p 9 (name-from p ∙ rw (sound, ne-eqb _ _ e)))
+  module _ (ok : okName (take (newLength c h n took z) w′) ≡ true) where
+    sound : okName (new b w c h n took z) ≡ true
+    unfolding nameAt
+    sound = ap okName (sym shown) ∙ ok
 
-        module _ (counted : h .flags % 4096 ≡ lengthField (c .len - n + (z - (c .at + h .length + took)))) where
-          named : (p : ℕ) → nameRead 4 b w c h p ≡ good new (z + 1 - (c .at + h .length))
-          unfolding need
-          named p = name-from p ∙ rw (sound, eq-eqb _ _ counted)
+    pub suffix-field : (h .flags % 4096 ≡ lengthField (newLength c h n took z) → ⊥) → Answered (readRest 4 b w c h) 4 b w c w′ (N.Bad 9)
+    unfolding need
+    suffix-field e = refused 9 (λ p. rest-bad 4 b w c h p 9 (name-from b w c h n took z (r .ended) (r .inside) p ∙ rw (sound, ne-eqb _ _ e)))
 
-          pub suffix-order : d .rises ≡ false → Answered (readRest 4 b w c h) 4 b w c w′ (N.Bad 11)
-          suffix-order e = refused 11 (λ p. rest-order 4 b w c h p new _ (named p) (sym order-is ∙ e))
+    module _ (counted : h .flags % 4096 ≡ lengthField (newLength c h n took z)) where
+      named : (p : ℕ) → nameRead 4 b w c h p ≡ good (new b w c h n took z) (z + 1 - (c .at + h .length))
+      unfolding need
+      named p = name-from b w c h n took z (r .ended) (r .inside) p ∙ rw (sound, eq-eqb _ _ counted)
 
-          pub suffix-good : d .rises ≡ true
-              → Answered (readRest 4 b w c h) 4 b w c w′
-              (N.Good (record {
-                head = h .length;
-                flags = h .flags;
-                word = h .word;
-                common = d .common;
-                next = record { at = z + 1; start = 0; len = c .len - n + (z - (c .at + h .length + took)); stage = h .flags / 4096 % 4 };
-              }))
-          suffix-good e =
-              let taken : h .length + (z + 1 - (c .at + h .length) + 0) ≡ z + 1 - c .at = omega arith in
-              answered-good _ 4 b w c w′ long past (λ v. false-true (sym v)) _ (λ p. rest-good 4 b w c h p new _ (named p) (sym order-is ∙ e) ∙ rw (shown, taken))
-              (record {
-                next = record { small = q .head .cursor .small; inside = omega arith; behind = omega arith; short = short };
-                head = q .head .is;
-                least = q .head .least;
-                ahead = omega arith;
-                stage = refl;
-                common = r .common ∙ unfold nameAt in rw shown;
-              })
+      pub suffix-order : d .rises ≡ false → Answered (readRest 4 b w c h) 4 b w c w′ (N.Bad 11)
+      suffix-order e = refused 11 (λ p. rest-order 4 b w c h p _ _ (named p) (sym order-is ∙ e))
+
+      pub suffix-good : d .rises ≡ true
+          → Answered (readRest 4 b w c h) 4 b w c w′
+          (N.Good (record {
+            head = h .length;
+            flags = h .flags;
+            word = h .word;
+            common = d .common;
+            next = record { at = z + 1; start = 0; len = newLength c h n took z; stage = h .flags / 4096 % 4 };
+          }))
+      suffix-good e =
+          let q : Headed b c h = r .ended .numbered .head in
+          let taken : h .length + (z + 1 - (c .at + h .length) + 0) ≡ z + 1 - c .at = omega arith in
+          answered-good _ 4 b w c w′ long past (λ v. false-true (sym v)) _ (λ p. rest-good 4 b w c h p _ _ (named p) (sym order-is ∙ e) ∙ rw (shown, taken))
+          (record {
+            next = record { small = q .cursor .small; inside = omega (arith, r .inside); behind = omega arith; short = r .short };
+            head = q .is;
+            least = q .least;
+            ahead = omega arith;
+            stage = refl;
+            common = r .rebuilt .common ∙ unfold nameAt in rw shown;
+          })

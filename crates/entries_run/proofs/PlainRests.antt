@@ -22,6 +22,20 @@ use Rattle.entries_run.specs.declared.Standing.{Standing}
 use Rattle.entries_run.specs.Steps.{nameAt, Headed, Stands, Answered, readRest}
 use Rattle.entries_run.proofs.Rests.{answered-bad, answered-good, nameRead, rest-bad, rest-order, rest-good}
 
+-- the name of n bytes, m with the NULs after it, is read, and compared with the one before
+pub record Compared (b : List ℕ) (c : Cursor) (h : Head) (n m : ℕ) (d : Standing) : Type 0 where
+  pub headed : Headed b c h
+  pub text : (p : ℕ) → T.Good n m ≡ textOf (readPlain (h .length) p (h .flags % 4096) (drop (c .at + h .length) b))
+  pub fits : n ≤ m
+  pub more : c .at + h .length + m ≤ length b
+  pub stands :
+      Stands
+      (take (c .start + c .len - c .start) (drop (c .start) b))
+      (take (c .at + h .length + n - (c .at + h .length)) (drop (c .at + h .length) b))
+      (c .stage)
+      (h .flags / 4096 % 4)
+      d
+
 module _ (v : ℕ) (b w : List ℕ) (old : eqb v 4 ≡ false) where
   nameAt-body : (a n : ℕ) → nameAt v b w a n ≡ take n (drop a b)
   unfolding nameAt
@@ -32,20 +46,15 @@ module _ (v : ℕ) (b w : List ℕ) (old : eqb v 4 ≡ false) where
   name-plain f p field previous s = rw old
 
   module _ (c : Cursor) (h : Head) where
-    pub plain-bad : (n : ℕ) → ((p : ℕ) → T.Bad n ≡ textOf (readPlain (h .length) p (h .flags % 4096) (drop (c .at + h .length) b))) → Answered (readRest v b w c h) v b w c w (N.Bad n)
+    pub plain-bad : (n : ℕ) → ((p : ℕ) → T.Bad n ≡ textOf (readPlain (h .length) p (h .flags % 4096) (drop (c .at + h .length) b)))
+        → Answered (readRest v b w c h) v b w c w (N.Bad n)
     plain-bad n e =
         answered-bad _ v b w c w refl refl (λ q. refl) n λ p.
         rest-bad v b w c h p n (name-plain _ p _ _ _ ∙ readPlain-bad _ p _ _ n (sym (e p)))
 
-    -- the name of n bytes, and m with the NULs, how it stands to the one before being d
-    module _ (q : Headed b c h) (n m : ℕ) (t : (p : ℕ) → T.Good n m ≡ textOf (readPlain (h .length) p (h .flags % 4096) (drop (c .at + h .length) b)))
-        (fits : n ≤ m) (more : c .at + h .length + m ≤ length b) (d : Standing)
-        (s : Stands (take (c .start + c .len - c .start) (drop (c .start) b)) (take (c .at + h .length + n - (c .at + h .length)) (drop (c .at + h .length) b)) (c .stage) (h .flags / 4096 % 4) d) where
-      name : List ℕ
-      name = take n (drop (c .at + h .length) b)
-
+    module _ (n m : ℕ) (d : Standing) (r : Compared b c h n m d) where
       named : (p : ℕ) → nameRead v b w c h p ≡ good (take n (drop (c .at + h .length) b)) m
-      named p = name-plain _ p _ _ _ ∙ readPlain-good _ p _ _ n m (sym (t p))
+      named p = name-plain _ p _ _ _ ∙ readPlain-good _ p _ _ n m (sym (r .text p))
 
       before-is : take (c .start + c .len - c .start) (drop (c .start) b) ≡ nameAt v b w (c .start) (c .len)
       before-is = let e : c .start + c .len - c .start ≡ c .len = omega arith in rw e (sym (nameAt-body (c .start) (c .len)))
@@ -54,12 +63,13 @@ module _ (v : ℕ) (b w : List ℕ) (old : eqb v 4 ≡ false) where
       after-is = let e : c .at + h .length + n - (c .at + h .length) ≡ n = omega arith in rw e
 
       order-is : d .rises ≡ rises (compare (nameAt v b w (c .start) (c .len)) (take n (drop (c .at + h .length) b))) (c .stage) (h .flags / 4096 % 4)
-      order-is = rw (before-is, after-is) at (s .rises)
+      order-is = rw (before-is, after-is) at (r .stands .rises)
 
       sized : (1 ≤ n) × (n ≤ 8192)
       sized =
-          let size : length (take n (drop (c .at + h .length) b)) ≡ n = length-take-le n (drop (c .at + h .length) b) (rw (length-drop (c .at + h .length) b) (omega arith)) in
-          rw size at (okName-length (take n (drop (c .at + h .length) b)) (name-read v _ 0 _ _ _ _ m (named 0) .2))
+          let name : List ℕ = take n (drop (c .at + h .length) b) in
+          let l : n ≤ length (drop (c .at + h .length) b) = rw (length-drop (c .at + h .length) b) (omega arith) in
+          rw (length-take-le n (drop (c .at + h .length) b) l) at (okName-length name (name-read v _ 0 _ _ _ _ m (named 0) .2))
 
       pub plain-order : d .rises ≡ false → Answered (readRest v b w c h) v b w c w (N.Bad 11)
       plain-order e = answered-bad _ v b w c w refl refl (λ q. refl) 11 (λ p. rest-order v b w c h p _ m (named p) (sym order-is ∙ e))
@@ -74,13 +84,15 @@ module _ (v : ℕ) (b w : List ℕ) (old : eqb v 4 ≡ false) where
             next = record { at = c .at + h .length + m; start = c .at + h .length; len = n; stage = h .flags / 4096 % 4 };
           }))
       plain-good e =
+          let q : Headed b c h = r .headed in
           let taken : h .length + (m + 0) ≡ c .at + h .length + m - c .at = omega arith in
-          answered-good _ v b w c w refl refl (λ q. refl) _ (λ p. rest-good v b w c h p _ m (named p) (sym order-is ∙ e) ∙ rw (nameAt-body (c .at + h .length) n, taken))
+          answered-good _ v b w c w refl refl (λ u. refl) _
+          (λ p. rest-good v b w c h p _ m (named p) (sym order-is ∙ e) ∙ rw (nameAt-body (c .at + h .length) n, taken))
           (record {
-            next = record { small = q .cursor .small; inside = more; behind = omega arith; short = sized .1 };
+            next = record { small = q .cursor .small; inside = r .more; behind = omega arith; short = sized .1 };
             head = q .is;
             least = q .least;
             ahead = omega (arith, sized .0);
             stage = refl;
-            common = s .common ∙ rw (before-is, after-is, nameAt-body (c .at + h .length) n);
+            common = r .stands .common ∙ rw (before-is, after-is, nameAt-body (c .at + h .length) n);
           })

@@ -50,14 +50,16 @@ head-size v p s h e =
     good-inv _ _ _ _ q₆ λ h-is m-is. rw (← h-is) (record { is = rw set; least = omega arith; most = omega arith }))
     (λ clear q₄. good-inv _ _ _ _ q₄ λ h-is m-is. rw (← h-is) (record { is = rw clear; least = omega arith; most = omega arith }))
 
-pub headed : (b : List ℕ) (c : Cursor) (v : ℕ) (h : Head) → Inside b c → ((p : ℕ) → F.Good h ≡ fixedOf (readHead 20 v p (drop (c .at) b))) → c .at + h .length ≤ length b → Headed b c h
+pub headed : (b : List ℕ) (c : Cursor) (v : ℕ) (h : Head) → Inside b c → ((p : ℕ) → F.Good h ≡ fixedOf (readHead 20 v p (drop (c .at) b)))
+    → c .at + h .length ≤ length b → Headed b c h
 headed b c v h inside e there =
     let size : Size h = head-size v 0 (drop (c .at) b) h (sym (e 0)) in
     record { cursor = inside; is = size .is; least = size .least; most = size .most; there = there }
 
 -- ---- what answers say
 
-module _ (read : ℕ → Read Entry) (v : ℕ) (b w : List ℕ) (c : Cursor) (w′ : List ℕ) (long : length w′ ≡ length w) (past : drop 8192 w′ ≡ drop 8192 w) (unwritten : eqb v 4 ≡ false → w′ ≡ w) where
+module _ (read : ℕ → Read Entry) (v : ℕ) (b w : List ℕ) (c : Cursor) (w′ : List ℕ)
+    (long : length w′ ≡ length w) (past : drop 8192 w′ ≡ drop 8192 w) (unwritten : eqb v 4 ≡ false → w′ ≡ w) where
   pub answered-bad : (n : ℕ) → ((p : ℕ) → read p ≡ bad n p) → Answered read v b w c w′ (N.Bad n)
   answered-bad n e =
       record {
@@ -79,18 +81,21 @@ module _ (read : ℕ → Read Entry) (v : ℕ) (b w : List ℕ) (c : Cursor) (w�
       }
 
 -- of another reader that reads the same
-answered-as : (read other : ℕ → Read Entry) (v : ℕ) (b w : List ℕ) (c : Cursor) (w′ : List ℕ) (r : Next) → ((p : ℕ) → read p ≡ other p) → Answered other v b w c w′ r → Answered read v b w c w′ r
+answered-as : (read other : ℕ → Read Entry) (v : ℕ) (b w : List ℕ) (c : Cursor) (w′ : List ℕ) (r : Next) → ((p : ℕ) → read p ≡ other p)
+    → Answered other v b w c w′ r → Answered read v b w c w′ r
 answered-as read other v b w c w′ r e t = record { same = λ p. e p ∙ t .same p; found = t .found; long = t .long; past = t .past; plain = t .plain }
 
 module _ (v : ℕ) (b w : List ℕ) (c : Cursor) where
   pub step-refused : (n : ℕ) → ((p : ℕ) → F.Bad n ≡ fixedOf (readHead 20 v p (drop (c .at) b))) → Stepped v b w c w (N.Bad n)
   step-refused n e = answered-bad _ v b w c w refl refl (λ q. refl) n (λ p. readEntry-bad 20 v (keyAt v b w c) p (drop (c .at) b) n (sym (e p)))
 
-  pub step-on : (h : Head) (w′ : List ℕ) (r : Next) → ((p : ℕ) → F.Good h ≡ fixedOf (readHead 20 v p (drop (c .at) b))) → Answered (readRest v b w c h) v b w c w′ r → Stepped v b w c w′ r
+  pub step-on : (h : Head) (w′ : List ℕ) (r : Next) → ((p : ℕ) → F.Good h ≡ fixedOf (readHead 20 v p (drop (c .at) b)))
+      → Answered (readRest v b w c h) v b w c w′ r → Stepped v b w c w′ r
   unfolding readRest
   step-on h w′ r e t = answered-as _ (readRest v b w c h) v b w c w′ r (λ p. readEntry-good 20 v (keyAt v b w c) p (drop (c .at) b) h (sym (e p))) t
 
-  pub step-four : (h : Head) (w′ : List ℕ) (r : Next) → ((p : ℕ) → F.Good h ≡ fixedOf (readHead 20 v p (drop (c .at) b))) → v ≡ 4 → Answered (readRest 4 b w c h) 4 b w c w′ r → Stepped v b w c w′ r
+  pub step-four : (h : Head) (w′ : List ℕ) (r : Next) → ((p : ℕ) → F.Good h ≡ fixedOf (readHead 20 v p (drop (c .at) b)))
+      → v ≡ 4 → Answered (readRest 4 b w c h) 4 b w c w′ r → Stepped v b w c w′ r
   step-four h w′ r e four t = step-on h w′ r e (subst (λ (u : ℕ). Answered (readRest u b w c h) u b w c w′ r) (sym four) t)
 
 -- ---- the rest, from the name on
@@ -103,12 +108,14 @@ module _ (v : ℕ) (b w : List ℕ) (c : Cursor) (h : Head) (p : ℕ) where
   unfolding readRest readTail bind shift
   rest-bad n e = rw (drop-drop (h .length) (c .at) b, e)
 
-  pub rest-order : (name : List ℕ) (m : ℕ) → nameRead ≡ good name m → rises (compare (nameAt v b w (c .start) (c .len)) name) (c .stage) (h .flags / 4096 % 4) ≡ false
+  pub rest-order : (name : List ℕ) (m : ℕ) → nameRead ≡ good name m
+      → rises (compare (nameAt v b w (c .start) (c .len)) name) (c .stage) (h .flags / 4096 % 4) ≡ false
       → readRest v b w c h p ≡ bad 11 p
   unfolding readRest readTail bind shift need
   rest-order name m e o = rw (drop-drop (h .length) (c .at) b, e, o)
 
-  pub rest-good : (name : List ℕ) (m : ℕ) → nameRead ≡ good name m → rises (compare (nameAt v b w (c .start) (c .len)) name) (c .stage) (h .flags / 4096 % 4) ≡ true
+  pub rest-good : (name : List ℕ) (m : ℕ) → nameRead ≡ good name m
+      → rises (compare (nameAt v b w (c .start) (c .len)) name) (c .stage) (h .flags / 4096 % 4) ≡ true
       → readRest v b w c h p ≡ good (entryOf 20 (drop (c .at) b) (h .flags) (h .word) name) (h .length + (m + 0))
   unfolding readRest readTail bind shift need
   rest-good name m e o = rw (drop-drop (h .length) (c .at) b, e, o)

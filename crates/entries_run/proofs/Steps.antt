@@ -3,7 +3,7 @@ use mathlib.Core.Path.{_≡_, refl, sym, ap, _∙_}
 use mathlib.Core.List.{List, [], _∷_, _++_, append-assoc, append-nil}
 use mathlib.Core.Bool.{Bool, true, false, cond}
 use mathlib.Core.Option.{some}
-use Prim.Native.Nat.{ℕ, suc, _+_, _-_, _≤_, _<_}
+use Prim.Native.Nat.{ℕ, suc, _+_, _-_, _/_, _%_, _≤_, _<_}
 use native.Mathlib.Nat.{add-assoc, zero-add}
 use native.Mathlib.Omega.{arith}
 use lib.ListN.{length, take, drop, getElem?, length-append}
@@ -16,8 +16,9 @@ use Rattle.spelling_entries.proofs.Reading.{bad-good, good-inv}
 use Rattle.entries_run.specs.declared.Cursor.{Cursor}
 use Rattle.entries_run.specs.declared.Step.{Step}
 use Rattle.entries_run.specs.declared.Next.the-variants as N
+use Rattle.entries_run.specs.declared.Run.the-variants as R
 use Rattle.entries_run.specs.declared.Sought.the-variants as S
-use Rattle.entries_run.specs.Steps.{nameAt, entryAt, Inside, Room, Found, Stepped, firstCursor, runFrom, Placed, Reaches}
+use Rattle.entries_run.specs.Steps.{nameAt, entryAt, Inside, Room, Found, Stepped, firstCursor, runFrom, runOf, Placed, Reaches}
 
 -- ---- entries in front
 
@@ -64,7 +65,8 @@ module _ (v n : ℕ) (k : Key) (p : ℕ) (s : List ℕ) (more : 0 < n) where
   unfolding bind
   run-refused j e = run-more ∙ rw e
 
-  run-on : (e : Entry) (m : ℕ) → readEntry 20 v k p s ≡ good e m → readEntries 20 v n k p s ≡ inFront (e ∷ []) m (readEntries 20 v (n - 1) (keyOf e) (p + m) (drop m s))
+  run-on : (e : Entry) (m : ℕ) → readEntry 20 v k p s ≡ good e m
+      → readEntries 20 v n k p s ≡ inFront (e ∷ []) m (readEntries 20 v (n - 1) (keyOf e) (p + m) (drop m s))
   unfolding bind
   run-on e m q = run-more ∙ rw q (shift-front e m _)
 
@@ -73,7 +75,8 @@ module _ (v : ℕ) (b w : List ℕ) (c : Cursor) (w′ : List ℕ) (n : ℕ) (mo
   pub entries-bad : (m : ℕ) → Stepped v b w c w′ (N.Bad m) → runFrom v n b w c ≡ bad m (c .at)
   entries-bad m t = run-refused v n _ (c .at) _ more m (t .same (c .at))
 
-  pub entries-good : (st : Step) → Stepped v b w c w′ (N.Good st) → runFrom v n b w c ≡ inFront (entryAt v b w′ (c .at) st ∷ []) (st .next .at - c .at) (runFrom v (n - 1) b w′ (st .next))
+  pub entries-good : (st : Step) → Stepped v b w c w′ (N.Good st)
+      → runFrom v n b w c ≡ inFront (entryAt v b w′ (c .at) st ∷ []) (st .next .at - c .at) (runFrom v (n - 1) b w′ (st .next))
   unfolding entryOf
   entries-good st t =
       let f : Found v b w c w′ st = t .found st refl in
@@ -124,12 +127,14 @@ module _ (v : ℕ) (b : List ℕ) where
     walked-on count few = let sum : length es + (count - length es) ≡ count = omega arith in rw sum at (h .whole (count - length es))
 
     -- where all entries are read, es are the first of them
-    pub walked-take : (count : ℕ) (all : List Entry) (m : ℕ) → readEntries 20 v count start 12 (drop 12 b) ≡ good all m → length es ≤ count → es ≡ take (length es) all
+    pub walked-take : (count : ℕ) (all : List Entry) (m : ℕ) → readEntries 20 v count start 12 (drop 12 b) ≡ good all m → length es ≤ count
+        → es ≡ take (length es) all
     walked-take count all m e few = front-inv _ _ _ _ _ (sym (walked-on count few) ∙ e) (λ gs l q parts sum. rw (← parts) (sym (take-append-seam es gs)))
 
     module _ (w′ : List ℕ) where
       -- a step that refuses
-      pub walked-bad : (m : ℕ) → Stepped v b w c w′ (N.Bad m) → (count : ℕ) → length es < count → readEntries 20 v count start 12 (drop 12 b) ≡ bad m (c .at)
+      pub walked-bad : (m : ℕ) → Stepped v b w c w′ (N.Bad m) → (count : ℕ) → length es < count
+          → readEntries 20 v count start 12 (drop 12 b) ≡ bad m (c .at)
       unfolding inFront
       walked-bad m t count more = walked-on count (omega arith) ∙ rw (entries-bad v b w c w′ (count - length es) (omega arith) m t)
 
@@ -154,9 +159,29 @@ module _ (v : ℕ) (b : List ℕ) where
             front-inv _ _ _ _ _ (sym (rw sum at (walked-more .whole (count - length es - 1))) ∙ e) λ gs l q parts rest.
             rw (← parts) (getElem?-seam es gs _)
 
+-- ---- what callers read from answers
+
+module _ (v : ℕ) (b w : List ℕ) (at : ℕ) (st : Step) where
+  pub entryAt-name : entryAt v b w at st .name ≡ nameAt v b w (st .next .start) (st .next .len)
+  unfolding entryOf
+  entryAt-name = refl
+
+  pub entryAt-stage : entryAt v b w at st .stage ≡ st .flags / 4096 % 4
+  unfolding entryOf
+  entryAt-stage = refl
+
+pub runOf-bad : (res : Read (List Entry)) (n p : ℕ) → R.Bad n p ≡ runOf res → res ≡ bad n p
+runOf-bad (bad m q) n p e = cc
+runOf-bad (good es m) n p e = let z : _≡_ {A = ℕ} 0 1 = cc in absurd (omega arith)
+
+pub runOf-good : {X : Type 0} (res : Read (List Entry)) (end : ℕ) → R.Good end ≡ runOf res → ((es : List Entry) (m : ℕ) → res ≡ good es m → end ≡ 12 + m → X) → X
+runOf-good (bad m q) end e f = let z : _≡_ {A = ℕ} 0 1 = cc in absurd (omega arith)
+runOf-good (good es m) end e f = f es m refl (cc)
+
 -- ---- entry number k
 
-module _ (v : ℕ) (b : List ℕ) (k : ℕ) (es : List Entry) (w : List ℕ) (c : Cursor) (h : Walked v b es w c) (w′ w₀ : List ℕ) (long : length w′ ≡ length w₀) (past : drop 8192 w′ ≡ drop 8192 w₀) where
+module _ (v : ℕ) (b : List ℕ) (k : ℕ) (es : List Entry) (w : List ℕ) (c : Cursor) (h : Walked v b es w c)
+    (w′ w₀ : List ℕ) (long : length w′ ≡ length w₀) (past : drop 8192 w′ ≡ drop 8192 w₀) where
   pub sought-bad : (n p : ℕ) → length es ≤ k → Stepped v b w c w′ (N.Bad n) → Reaches v b w₀ k w′ (S.Bad n p)
   sought-bad n p few t =
       record {

@@ -1,7 +1,7 @@
 -- Where names stand, and what a step over an entry leaves behind.
 use mathlib.Core.Path.{_≡_}
 use mathlib.Core.List.{List, _++_}
-use mathlib.Core.Bool.{Bool, true, false, cond}
+use mathlib.Core.Bool.{false, cond}
 use mathlib.Core.Option.{Option, none, some}
 use Prim.Native.Nat.{ℕ, _+_, _-_, _/_, _%_, _≤_, _<_}
 use lib.ListN.{length, take, drop, getElem?}
@@ -73,7 +73,7 @@ pub record Stands (s t : List ℕ) (m n : ℕ) (r : Standing) : Type 0 where
   pub common : r .common ≡ common s t
   pub fits : r .common ≤ length s
 
--- the first p bytes of the workspace have lost their last n and gained s
+-- of the first p bytes of the workspace the last n are replaced by s
 pub record Rebuilt (work : List ℕ) (p n : ℕ) (s : List ℕ) (k l : ℕ) (work′ : List ℕ) (r : Standing) : Type 0 where
   pub rises : r .rises ≡ rises (compare (take p work) (take (p - n) work ++ s)) k l
   pub common : r .common ≡ common (take p work) (take (p - n) work ++ s)
@@ -154,7 +154,8 @@ pub record Placed (b : List ℕ) (at : ℕ) (st : Step) : Type 0 where
 
 -- of a body with more than k entries, entry k was found
 pub record Reaches (v : ℕ) (b work : List ℕ) (k : ℕ) (work′ : List ℕ) (r : Sought) : Type 0 where
-  pub entry : (count : ℕ) (es : List Entry) (m : ℕ) → readEntries 20 v count start 12 (drop 12 b) ≡ good es m → k < count → getElem? es k ≡ soughtIn v b work′ r
+  pub entry : (count : ℕ) (es : List Entry) (m : ℕ) → readEntries 20 v count start 12 (drop 12 b) ≡ good es m → k < count
+      → getElem? es k ≡ soughtIn v b work′ r
   pub placed : (at : ℕ) (st : Step) → r ≡ S.Good at st → Placed b at st
   pub long : length work′ ≡ length work
   pub past : drop 8192 work′ ≡ drop 8192 work

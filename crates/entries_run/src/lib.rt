@@ -65,7 +65,7 @@ pub fn first() -> Cursor
     }
 }
 
-// Whether a name of stage t may follow one of stage s.
+// Whether a name of stage t may follow the previous one, of stage s, and how many bytes the two have in common.
 fn standing_of(previous: &[u8], name: &[u8], s: u32, t: u32) -> Standing
     ensures { λ r. ⌜ Stands (now (previous .entry)) (now (name .entry)) s t r ⌝ }
 {
@@ -87,7 +87,7 @@ fn standing_of(previous: &[u8], name: &[u8], s: u32, t: u32) -> Standing
     }
 }
 
-// The name in the first p bytes of the workspace loses its last n and gains s. How it stood to the new one is told before the copy.
+// In the name in the first p bytes of the workspace, the last n are replaced by suffix. The two names are compared before the copy.
 fn rebuild(work: &mut [u8], p: usize, n: usize, suffix: &[u8], s: u32, t: u32) -> Standing
     requires { ⌜ (n ≤ p) × (p ≤ 8192) × (p - n + length (now suffix) ≤ 8192) × (8192 ≤ length (now work)) ⌝ }
     ensures { λ r. ⌜ Rebuilt (now (work .entry)) p n (now (suffix .entry)) s t (now (work .exit)) r ⌝ }
@@ -101,7 +101,7 @@ fn rebuild(work: &mut [u8], p: usize, n: usize, suffix: &[u8], s: u32, t: u32) -
     }
 }
 
-// The rest of an entry of version 4 after N, which is n and took so many bytes.
+// The rest of an entry of version 4 after the number N, which is n and took that many bytes.
 fn suffix(b: &[u8], work: &mut [u8], c: Cursor, h: Head, n: usize, took: usize) -> Next
     requires { ⌜ Numbered (now b) (now work) c h n took ⌝ }
     ensures { λ r. ⌜ Answered (readRest 4 (now (b .entry)) (now (work .entry)) c h) 4 (now (b .entry)) (now (work .entry)) c (now (work .exit)) r ⌝ }
@@ -225,7 +225,7 @@ pub fn run_entries(b: &[u8], v: u32, work: &mut [u8], count: u32) -> Run
     Run::Good(c.at)
 }
 
-// Entry number k of a body. Every entry before it is read, since in version 4 a name leans on the one before.
+// Entry number k of a body. Every entry before it is read: an entry's place and, in version 4, its name depend on them.
 pub fn seek_entry(b: &[u8], v: u32, work: &mut [u8], k: u32) -> Sought
     requires { ⌜ Room (now b) (now work) ⌝ }
     ensures { λ r. ⌜ Reaches v (now (b .entry)) (now (work .entry)) k (now (work .exit)) r ⌝ }

@@ -1,5 +1,4 @@
 -- What each call answers, from the file's reading and the workspace: numbers, places, values, and the workspace afterwards.
-use mathlib.Core.Path.{_≡_}
 use mathlib.Core.List.{List, [], _∷_, _++_}
 use mathlib.Core.Bool.{Bool, true, false, cond}
 use mathlib.Core.Option.{Option, none, some}
@@ -117,11 +116,15 @@ workAfter (inWorkspace e) work = holding (e .name) work
 
 -- ---- what the answers of the code say
 
+-- the n bytes at a place, none where they are not all there
+unfoldable pub partIn : ℕ → ℕ → List ℕ → List ℕ
+partIn at n s = cond (leb (at + n) (length s)) (take n (drop at s)) []
+
 -- the name that an answer points at
 unfoldable pub nameIn : Shown → List ℕ → List ℕ → List ℕ
 nameIn (S.Refused n p) file work = []
-nameIn (S.InFile at n) file work = cond (leb (at + n) (length file)) (take n (drop at file)) []
-nameIn (S.InWorkspace n) file work = cond (leb n (length work)) (take n work) []
+nameIn (S.InFile at n) file work = partIn at n file
+nameIn (S.InWorkspace n) file work = partIn 0 n work
 
 -- an answer as a view of the item that it shows
 abbrev pub viewOf : {A : Type 0} → Shown → A → View A
@@ -170,3 +173,41 @@ undoSaid r file work =
       second = stageWith (r .«second_mode») (r .second);
       third = stageWith (r .«third_mode») (r .third);
     })
+
+-- ---- the answers of refusals: a number and a place, zeros and false in all other fields
+
+abbrev pub noFields : Fields
+noFields = record {
+  «ctime_seconds» = 0;
+  «ctime_nanoseconds» = 0;
+  «mtime_seconds» = 0;
+  «mtime_nanoseconds» = 0;
+  dev = 0;
+  ino = 0;
+  mode = 0;
+  uid = 0;
+  gid = 0;
+  size = 0;
+  object = replicate 20 0;
+  «assume_valid» = false;
+  stage = 0;
+  «skip_worktree» = false;
+  «intent_to_add» = false;
+}
+
+abbrev pub refusedEntry : ℕ → ℕ → EntryAnswer
+refusedEntry n p = record { shown = S.Refused n p; fields = noFields }
+
+abbrev pub refusedNode : ℕ → ℕ → NodeAnswer
+refusedNode n p = record { shown = S.Refused n p; level = 0; valid = false; count = 0; subtrees = 0; object = replicate 20 0 }
+
+abbrev pub refusedUndo : ℕ → ℕ → UndoAnswer
+refusedUndo n p = record {
+  shown = S.Refused n p;
+  «first_mode» = 0;
+  «second_mode» = 0;
+  «third_mode» = 0;
+  first = replicate 20 0;
+  second = replicate 20 0;
+  third = replicate 20 0;
+}

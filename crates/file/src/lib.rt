@@ -1,4 +1,11 @@
 // The whole file: the calls that check an index and show its entries, tree nodes and resolve-undo records.
+ghost use mathlib.Core.Path.{_≡_};
+ghost use mathlib.Core.List.{List, []};
+ghost use mathlib.Core.Bool.{not};
+ghost use Prim.Native.Nat.{ℕ, _+_, _≤_};
+ghost use lib.ListN.{length, take, drop};
+ghost use Rattle.format.specs.Reader.{entryOf};
+ghost use Rattle.file.specs.Answers.{tooSmall, cleared, refused, partIn, nameIn, entryWith, entrySaid, nodeSaid, undoSaid, noFields, refusedEntry, refusedNode, refusedUndo};
 
 // The number of nodes or records, where the file has the extension.
 pub enum Count {
@@ -71,4 +78,152 @@ pub struct UndoAnswer {
     pub first: [u8; 20],
     pub second: [u8; 20],
     pub third: [u8; 20],
+}
+
+// ---- the workspace
+
+// Clears the workspace. Where it is too small the answer is false, and nothing is written.
+pub fn clear_work(work: &mut [u8]) -> bool
+    ensures { λ r. ⌜ (r ≡ not (tooSmall (now (work .entry)))) × (now (work .exit) ≡ cleared (now (work .entry))) ⌝ }
+{
+    if work.len() < fields::LONGEST {
+        return false;
+    }
+    fields::clear(work);
+    true
+}
+
+// ---- the fields of an entry
+
+// The object name at a place.
+fn object_at(b: &[u8], at: usize) -> [u8; 20]
+    requires { ⌜ at + 20 ≤ length (now b) ⌝ }
+    ensures { λ r. ⌜ r ≡ take 20 (drop at (now (b .entry))) ⌝ }
+{
+    let mut o = [0u8; 20];
+    let e = at + 20;
+    fields::copy_to(&mut o, 0, &b[at..e]);
+    o
+}
+
+// The fields of the entry at a place, from its flags and its extended word, or 0 without one.
+pub fn fields_at(b: &[u8], at: usize, flags: u32, word: u32) -> Fields
+    requires { ⌜ at + 62 ≤ length (now b) ⌝ }
+    ensures { λ r. ⌜ ((name : List ℕ) → entryWith r name ≡ entryOf 20 (drop at (now (b .entry))) flags word name) ⌝ }
+{
+    Fields {
+        ctime_seconds: fields::read32(b, at),
+        ctime_nanoseconds: fields::read32(b, at + 4),
+        mtime_seconds: fields::read32(b, at + 8),
+        mtime_nanoseconds: fields::read32(b, at + 12),
+        dev: fields::read32(b, at + 16),
+        ino: fields::read32(b, at + 20),
+        mode: fields::read32(b, at + 24),
+        uid: fields::read32(b, at + 28),
+        gid: fields::read32(b, at + 32),
+        size: fields::read32(b, at + 36),
+        object: object_at(b, at + 40),
+        assume_valid: flags / 32768 % 2 == 1,
+        stage: flags / 4096 % 4,
+        skip_worktree: word / 16384 % 2 == 1,
+        intent_to_add: word / 8192 % 2 == 1,
+    }
+}
+
+// Zeros and false.
+pub fn no_fields() -> Fields
+    ensures { λ r. ⌜ r ≡ noFields ⌝ }
+{
+    Fields {
+        ctime_seconds: 0,
+        ctime_nanoseconds: 0,
+        mtime_seconds: 0,
+        mtime_nanoseconds: 0,
+        dev: 0,
+        ino: 0,
+        mode: 0,
+        uid: 0,
+        gid: 0,
+        size: 0,
+        object: [0u8; 20],
+        assume_valid: false,
+        stage: 0,
+        skip_worktree: false,
+        intent_to_add: false,
+    }
+}
+
+// ---- names
+
+// The n bytes at a place, or none where they are not all there.
+fn part<'a>(s: &'a [u8], at: usize, n: usize) -> &'a [u8]
+    ensures { λ r. ⌜ now r ≡ partIn at n (now (s .entry)) ⌝ }
+{
+    if s.len() < at {
+        return &s[..0];
+    }
+    if s.len() - at < n {
+        return &s[..0];
+    }
+    let e = at + n;
+    &s[at..e]
+}
+
+// The name that an answer points at: a part of the file or of the workspace.
+pub fn name_of<'a>(file: &'a [u8], work: &'a [u8], shown: Shown) -> &'a [u8]
+    ensures { λ r. ⌜ now r ≡ nameIn shown (now (file .entry)) (now (work .entry)) ⌝ }
+{
+    match shown {
+        Shown::Refused(_, _) => &file[..0],
+        Shown::InFile(at, n) => part(file, at, n),
+        Shown::InWorkspace(n) => part(work, 0, n),
+    }
+}
+
+// The name of a tree node or the path of a resolve-undo record: always a part of the file.
+pub fn part_of<'a>(file: &'a [u8], shown: Shown) -> &'a [u8]
+    ensures { λ r. ⌜ now r ≡ nameIn shown (now (file .entry)) [] ⌝ }
+{
+    name_of(file, &file[..0], shown)
+}
+
+// ---- refusals
+
+// An entry is refused with the number n at the place p.
+pub fn refused_entry(n: u32, p: usize) -> EntryAnswer
+    ensures { λ r. ⌜ ((file work : List ℕ) → entrySaid r file work ≡ refused n p) × (r ≡ refusedEntry n p) ⌝ }
+{
+    EntryAnswer {
+        shown: Shown::Refused(n, p),
+        fields: no_fields(),
+    }
+}
+
+// The same of a tree node.
+pub fn refused_node(n: u32, p: usize) -> NodeAnswer
+    ensures { λ r. ⌜ ((file work : List ℕ) → nodeSaid r file work ≡ refused n p) × (r ≡ refusedNode n p) ⌝ }
+{
+    NodeAnswer {
+        shown: Shown::Refused(n, p),
+        level: 0,
+        valid: false,
+        count: 0,
+        subtrees: 0,
+        object: [0u8; 20],
+    }
+}
+
+// The same of a resolve-undo record.
+pub fn refused_undo(n: u32, p: usize) -> UndoAnswer
+    ensures { λ r. ⌜ ((file work : List ℕ) → undoSaid r file work ≡ refused n p) × (r ≡ refusedUndo n p) ⌝ }
+{
+    UndoAnswer {
+        shown: Shown::Refused(n, p),
+        first_mode: 0,
+        second_mode: 0,
+        third_mode: 0,
+        first: [0u8; 20],
+        second: [0u8; 20],
+        third: [0u8; 20],
+    }
 }

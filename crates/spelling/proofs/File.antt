@@ -6,16 +6,16 @@ use mathlib.Core.Option.{Option, none, some}
 use Prim.Native.Nat.{ℕ, zero, suc, _+_, _-_, _≤_, _<_}
 use native.Mathlib.Omega.{arith}
 use lib.ListN.{length, take, drop, length-append, length-take, length-drop, take-append-drop}
-use lib.Seq.{take-at, drop-at, drop-drop, take-take, getD-take, length-take-le}
+use lib.Seq.{take-at, drop-at, drop-drop, take-take, length-take-le}
 use lib.Dec.{leb}
 use borrow.Author.Tests.{le-leb, leb-true}
-use Rattle.format.specs.Bytes.{Bytes, be16, be32, put32, eqList}
+use Rattle.format.specs.Bytes.{Bytes, be32, put32, eqList}
 use Rattle.format.specs.Records.{Entry, Key, start, Records, Tree, Undo}
 use Rattle.format.specs.Layout.{Entries, Extension, Extensions, trees, undos, only, DIRC, names, Body, Spells}
 use Rattle.format.specs.Reading.{Read, bad, good, need, shift, bind}
 use Rattle.format.specs.Reader.{readEntries, readExtensions, noneSeen, first, Contents, readBody, readFile}
 use Rattle.spelling_entries.proofs.Reading.{and-inv, and-both, eqList-true, eq-eqList, bad-good, good-inv, need-inv, shift-inv, bind-inv}
-use Rattle.spelling_entries.proofs.Bytes.{bytes-take, bytes-drop, length-put32, be32-at, be32-below, put32-be32}
+use Rattle.spelling_entries.proofs.Bytes.{bytes-take, bytes-drop, length-put32, be32-take, be32-at, be32-below, put32-be32}
 use Rattle.spelling_entries.proofs.Entries.{read-entries, entries-read}
 use Rattle.spelling_extensions.proofs.Extensions.{only-once, once-only, read-extensions, extensions-read}
 
@@ -55,12 +55,6 @@ headed-back b bytes long sig =
     let rest : drop 4 b ≡ put32 (be32 b 4) ++ (put32 (be32 b 8) ++ drop 12 b) =
     rw (put32-be32 b 4 bytes (omega arith), put32-be32 b 8 bytes (omega arith), ← (four 8 b)) (four 4 b) in
     four 0 b ∙ ap (λ (x : List ℕ). x ++ drop 4 b) sig ∙ ap (λ (x : List ℕ). DIRC ++ x) rest
-
--- a number within the first n bytes
-be32-take : (s : List ℕ) (n a : ℕ) → a + 4 ≤ n → be32 (take n s) a ≡ be32 s a
-unfolding be32 be16
-be32-take s n a h =
-    rw (getD-take n s a 0 (omega arith), getD-take n s (a + 1) 0 (omega arith), getD-take n s (a + 2) 0 (omega arith), getD-take n s (a + 2 + 1) 0 (omega arith)) refl
 
 -- ---- the body
 

@@ -5,7 +5,7 @@ use mathlib.Core.Bool.{true, false}
 use Prim.Native.Nat.{ℕ, zero, suc, _+_, _-_, _*_, _/_, _%_, _≤_, _<_}
 use native.Mathlib.Omega.{arith}
 use lib.ListN.{length, take, drop, getD, replicate, length-append, length-drop}
-use lib.Seq.{drop-drop, drop-at, drop-append-add, getD-drop, take-add}
+use lib.Seq.{drop-drop, drop-at, drop-append-add, getD-drop, getD-take, take-add}
 use lib.Dec.{eqb, ltb}
 use borrow.Author.Tests.{ltb-true, lt-ltb, le-ltb, eqb-true, eq-eqb}
 use Rattle.format.specs.Bytes.{Bytes, be16, be32, be32s, put16, put32, put32s, fit32, two, putN, before, lacks, zeros}
@@ -47,6 +47,12 @@ unfolding be32
 be32-drop n s a =
     let next : n + (a + 2) ≡ n + a + 2 = omega arith in
     rw (be16-drop n s a, be16-drop n s (a + 2), next) refl
+
+-- a number within the first n bytes
+pub be32-take : (s : List ℕ) (n a : ℕ) → a + 4 ≤ n → be32 (take n s) a ≡ be32 s a
+unfolding be32 be16
+be32-take s n a h =
+    rw (getD-take n s a 0 (omega arith), getD-take n s (a + 1) 0 (omega arith), getD-take n s (a + 2) 0 (omega arith), getD-take n s (a + 2 + 1) 0 (omega arith)) refl
 
 -- what is put is read back, whatever stands before and after
 be16-put16 : (n : ℕ) (r : List ℕ) → n < 65536 → be16 (put16 n ++ r) 0 ≡ n

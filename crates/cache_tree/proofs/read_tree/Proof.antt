@@ -1,5 +1,5 @@
 -- The proof that `read_tree` meets its contract.
-use mathlib.Core.Path.{_≡_, refl, sym, _∙_}
+use mathlib.Core.Path.{refl, sym, _∙_}
 use native.Mathlib.Omega.{arith}
 use borrow.Author.Needs.{needs}
 use Rattle.cache_tree.proofs.Shape.{NodesAre, nodes-are, tree-no-nodes, tree-longer, tree-equal, tree-shown, tree-other}

@@ -3,9 +3,26 @@ use mathlib.Core.Path.{sym, ap, _∙_}
 use native.Mathlib.Omega.{arith}
 use borrow.Author.Needs.{needs}
 use Rattle.entries.specs.Answers.{textLength, textTaken}
-use Rattle.entries_run.proofs.PlainRests.{plain-bad, plain-order, plain-good}
+use Rattle.entries_run.proofs.PlainRests.{Compared, plain-bad, plain-order, plain-good}
 use Rattle.entries_run.proofs.plain.Statement.{statement}
 use Rattle.entries_run.proofs.plain.Tie as tie
+
+-- what is known once the name is compared with the one before
+compared :
+    (c : tie.After-standing-of) →
+    let t = c .before .before .before .before .before .before in
+    let a = t .before .before .before .before .before .before .before .args in
+    Compared (a .b .now) (a .c) (a .h) (t .t2 .given .0 .0) (t .t2 .given .0 .1 .0) (c .standing-of .result)
+compared c =
+    let t = c .before .before .before .before .before .before in
+    let r = t .before .before in
+    record {
+      headed = r .before .before .before .before .before .pre;
+      text = λ p. sym (t .t2 .given .1) ∙ r .read-plain .ensures .0 p;
+      fits = rw (t .t2 .given .1) at (r .read-plain .ensures .1);
+      more = rw (t .t2 .given .1) at (r .read-plain .ensures .2);
+      stands = c .standing-of .ensures;
+    }
 
 add-at : tie.Need-add-at
 add-at c = search needs
@@ -61,15 +78,7 @@ add-t26 c =
     omega (arith, t .before .before .before .before .before .before .before)
 
 returns : tie.Need-returns
-returns c =
-    let d = c .before in
-    let t = d .before .before .before .before .before .before in
-    let r = t .before .before in
-    let st = r .before .before .before .before .before in
-    let a = st .args in
-    let fits = rw (t .t2 .given .1) at (r .read-plain .ensures .1) in
-    let more = rw (t .t2 .given .1) at (r .read-plain .ensures .2) in
-    λ v work old. plain-good v (a .b .now) work old (a .c) (a .h) (st .pre) _ _ (λ p. sym (t .t2 .given .1) ∙ r .read-plain .ensures .0 p) fits more (d .standing-of .result) (d .standing-of .ensures) (c .if1 .taken)
+returns c = λ v work old. plain-good v _ work old _ _ _ _ _ (compared (c .before)) (c .if1 .taken)
 
 returns-2 : tie.Need-returns-2
 returns-2 c =
@@ -78,15 +87,7 @@ returns-2 c =
     λ v work old. plain-bad v (a .b .now) work old (a .c) (a .h) _ (λ p. sym (c .before .t .given .1) ∙ r .read-plain .ensures .0 p)
 
 returns-3 : tie.Need-returns-3
-returns-3 c =
-    let d = c .before in
-    let t = d .before .before .before .before .before .before in
-    let r = t .before .before in
-    let st = r .before .before .before .before .before in
-    let a = st .args in
-    let fits = rw (t .t2 .given .1) at (r .read-plain .ensures .1) in
-    let more = rw (t .t2 .given .1) at (r .read-plain .ensures .2) in
-    λ v work old. plain-order v (a .b .now) work old (a .c) (a .h) (st .pre) _ _ (λ p. sym (t .t2 .given .1) ∙ r .read-plain .ensures .0 p) fits more (d .standing-of .result) (d .standing-of .ensures) (c .if1 .left)
+returns-3 c = λ v work old. plain-order v _ work old _ _ _ _ _ (compared (c .before)) (c .if1 .left)
 
 pub plain-spec : {M : Type 1} → statement M
 plain-spec =

@@ -1,6 +1,6 @@
 -- The proof that `run_entries` meets its contract. The loop keeps that some entries lie before the cursor, which with those left are all.
 use mathlib.Core.Path.{_≡_, refl, sym, ap, _∙_}
-use mathlib.Core.List.{List, [], _++_}
+use mathlib.Core.List.{List, []}
 use Prim.Native.Nat.{_+_, _-_, zero-le}
 use native.Mathlib.Omega.{arith}
 use borrow.Author.Needs.{needs}

@@ -12,7 +12,8 @@ use Rattle.entries_run.proofs.seek_entry.Statement.{statement}
 use Rattle.entries_run.proofs.seek_entry.Tie as tie
 
 abbrev Inv-loop : tie.InvT-loop
-Inv-loop b v work₀ k c₀ left₀ work c left = Inside b c × (length work ≡ length work₀) × (drop 8192 work ≡ drop 8192 work₀) × ((es : List Entry) × Walked v b es work c × (length es + left ≡ k))
+Inv-loop b v work₀ k c₀ left₀ work c left =
+    Inside b c × (length work ≡ length work₀) × (drop 8192 work ≡ drop 8192 work₀) × ((es : List Entry) × Walked v b es work c × (length es + left ≡ k))
 
 abbrev μ-loop : tie.MeasureT-loop
 μ-loop b v work₀ k c₀ left₀ work c left = left

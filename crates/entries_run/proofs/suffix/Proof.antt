@@ -1,13 +1,27 @@
 -- The proof that `suffix` meets its contract.
-use mathlib.Core.Path.{_≡_, sym, _∙_}
-use Prim.Native.Nat.{_≤_, _+_, _-_}
+use mathlib.Core.Path.{sym, _∙_}
 use native.Mathlib.Omega.{arith}
-use lib.ListN.{length}
 use lib.Seq.{length-take-le}
 use borrow.Author.Needs.{needs}
-use Rattle.entries_run.proofs.PackedRests.{suffix-cut, suffix-long, suffix-name, suffix-field, suffix-order, suffix-good}
+use Rattle.entries_run.proofs.PackedRests.{Ended, Copied, suffix-cut, suffix-long, suffix-name, suffix-field, suffix-order, suffix-good}
 use Rattle.entries_run.proofs.suffix.Statement.{statement}
 use Rattle.entries_run.proofs.suffix.Tie as tie
+
+-- what is known once the first NUL is found, and once the name is rebuilt
+ended :
+    (c : tie.After-find) →
+    let a = c .before .before .before .before .before .args in
+    Ended (a .b .now) (a .work .now) (a .c) (a .h) (a .n) (a .took) (c .find .result)
+ended c = record { numbered = c .before .before .before .before .before .pre; is-z = c .find .ensures .0; within = c .find .ensures .1 }
+
+copied :
+    (c : tie.After-rebuild) →
+    let m = c .before .before .before .before .before .before .before in
+    let a = m .before .before .before .before .before .args in
+    Copied (a .b .now) (a .work .now) (a .c) (a .h) (a .n) (a .took) (m .find .result) (c .rebuild .last .0) (c .rebuild .result)
+copied c =
+    let e = c .before .before .before .before in
+    record { ended = ended (e .before .before .before); inside = e .before .before .if1 .left; short = e .if2 .left; rebuilt = c .rebuild .ensures }
 
 add-at : tie.Need-add-at
 add-at c = search needs
@@ -19,11 +33,7 @@ find-requires : tie.Need-find-requires
 find-requires c κs = search needs
 
 returns : tie.Need-returns
-returns c =
-    let m = c .before in
-    let st = m .before .before .before .before .before in
-    let a = st .args in
-    suffix-cut (a .b .now) (a .work .now) (a .c) (a .h) (a .n) (a .took) (st .pre) (m .find .result) (m .find .ensures .0) (m .find .ensures .1) (c .if1 .taken)
+returns c = suffix-cut _ _ _ _ _ _ _ (ended (c .before)) (c .if1 .taken)
 
 sub-len : tie.Need-sub-len
 sub-len c = search needs
@@ -35,11 +45,7 @@ add-len : tie.Need-add-len
 add-len c = search needs
 
 returns-2 : tie.Need-returns-2
-returns-2 c =
-    let m = c .before .before .before in
-    let st = m .before .before .before .before .before in
-    let a = st .args in
-    suffix-long (a .b .now) (a .work .now) (a .c) (a .h) (a .n) (a .took) (st .pre) (m .find .result) (m .find .ensures .0) (m .find .ensures .1) (c .before .before .if1 .left) (c .if2 .taken)
+returns-2 c = suffix-long _ _ _ _ _ _ _ (ended (c .before .before .before)) (c .before .before .if1 .left) (c .if2 .taken)
 
 sub-rebuild : tie.Need-sub-rebuild
 sub-rebuild c = search needs
@@ -76,52 +82,39 @@ same-length c = search needs
 
 returns-3 : tie.Need-returns-3
 returns-3 c =
-    let g = c .before .before .before .before .before .before .before .before .before in
-    let e = g .before .before .before .before in
-    let m = e .before .before .before in
-    let st = m .before .before .before .before .before in
-    let a = st .args in
-    suffix-good (a .b .now) (a .work .now) (a .c) (a .h) (a .n) (a .took) (st .pre) (m .find .result) (m .find .ensures .0) (m .find .ensures .1) (e .before .before .if1 .left) (g .rebuild .last .0) (g .rebuild .result) (g .rebuild .ensures) (e .if2 .left)
-    (sym (c .before .before .before .before .before .name-ok .ensures) ∙ c .before .before .before .before .if3 .taken) (c .before .if4 .taken ∙ c .before .before .length-field .ensures) (c .if5 .taken)
+    let f = c .before .before in
+    let o = f .before .before .before in
+    let g = o .before .before .before .before in
+    suffix-good _ _ _ _ _ _ _ _ _ (copied g) (sym (o .name-ok .ensures) ∙ f .before .before .if3 .taken) (c .before .if4 .taken ∙ f .length-field .ensures) (c .if5 .taken)
 
 same-length-2 : tie.Need-same-length-2
 same-length-2 c = search needs
 
 returns-4 : tie.Need-returns-4
 returns-4 c =
-    let g = c .before .before .before .before .before .before .before .before .before in
-    let e = g .before .before .before .before in
-    let m = e .before .before .before in
-    let st = m .before .before .before .before .before in
-    let a = st .args in
-    suffix-order (a .b .now) (a .work .now) (a .c) (a .h) (a .n) (a .took) (st .pre) (m .find .result) (m .find .ensures .0) (m .find .ensures .1) (e .before .before .if1 .left) (g .rebuild .last .0) (g .rebuild .result) (g .rebuild .ensures) (e .if2 .left)
-    (sym (c .before .before .before .before .before .name-ok .ensures) ∙ c .before .before .before .before .if3 .taken) (c .before .if4 .taken ∙ c .before .before .length-field .ensures) (c .if5 .left)
+    let f = c .before .before in
+    let o = f .before .before .before in
+    let g = o .before .before .before .before in
+    suffix-order _ _ _ _ _ _ _ _ _ (copied g) (sym (o .name-ok .ensures) ∙ f .before .before .if3 .taken) (c .before .if4 .taken ∙ f .length-field .ensures) (c .if5 .left)
 
 same-length-3 : tie.Need-same-length-3
 same-length-3 c = search needs
 
 returns-5 : tie.Need-returns-5
 returns-5 c =
-    let g = c .before .before .before .before .before .before .before .before in
-    let e = g .before .before .before .before in
-    let m = e .before .before .before in
-    let st = m .before .before .before .before .before in
-    let a = st .args in
-    suffix-field (a .b .now) (a .work .now) (a .c) (a .h) (a .n) (a .took) (st .pre) (m .find .result) (m .find .ensures .0) (m .find .ensures .1) (e .before .before .if1 .left) (g .rebuild .last .0) (g .rebuild .result) (g .rebuild .ensures) (e .if2 .left)
-    (sym (c .before .before .before .before .name-ok .ensures) ∙ c .before .before .before .if3 .taken) (λ q. c .if4 .left (q ∙ sym (c .before .length-field .ensures)))
+    let f = c .before in
+    let o = f .before .before .before in
+    let g = o .before .before .before .before in
+    suffix-field _ _ _ _ _ _ _ _ _ (copied g) (sym (o .name-ok .ensures) ∙ f .before .before .if3 .taken) (λ q. c .if4 .left (q ∙ sym (f .length-field .ensures)))
 
 same-length-4 : tie.Need-same-length-4
 same-length-4 c = search needs
 
 returns-6 : tie.Need-returns-6
 returns-6 c =
-    let g = c .before .before .before .before .before in
-    let e = g .before .before .before .before in
-    let m = e .before .before .before in
-    let st = m .before .before .before .before .before in
-    let a = st .args in
-    suffix-name (a .b .now) (a .work .now) (a .c) (a .h) (a .n) (a .took) (st .pre) (m .find .result) (m .find .ensures .0) (m .find .ensures .1) (e .before .before .if1 .left) (g .rebuild .last .0) (g .rebuild .result) (g .rebuild .ensures) (e .if2 .left)
-    (sym (c .before .name-ok .ensures) ∙ c .if3 .left)
+    let o = c .before in
+    let g = o .before .before .before .before in
+    suffix-name _ _ _ _ _ _ _ _ _ (copied g) (sym (o .name-ok .ensures) ∙ c .if3 .left)
 
 pub suffix-spec : {M : Type 1} → statement M
 suffix-spec =

@@ -1,6 +1,6 @@
 -- The proof that `read_count` meets its contract.
 use native.Mathlib.Omega.{arith}
-use mathlib.Core.Path.{_≡_, sym, _∙_}
+use mathlib.Core.Path.{sym, _∙_}
 use borrow.Author.Needs.{needs}
 use Rattle.cache_tree.proofs.Nodes.{count-none, count-some}
 use Rattle.cache_tree.proofs.node.read_count.Statement.{statement}

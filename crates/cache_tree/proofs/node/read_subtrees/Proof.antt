@@ -1,6 +1,6 @@
 -- The proof that `read_subtrees` meets its contract.
 use native.Mathlib.Omega.{arith}
-use mathlib.Core.Path.{_≡_, sym, ap, _∙_}
+use mathlib.Core.Path.{sym, ap, _∙_}
 use Prim.Native.Nat.{_+_}
 use borrow.Author.Needs.{needs}
 use Rattle.cache_tree.proofs.Nodes.{subtreesTo, subtrees-none, subtrees-some}

@@ -1,7 +1,7 @@
 -- The proof that `read_number` meets its contract. The loop keeps the number that the whole text says.
 use native.Mathlib.Omega.{arith}
 use mathlib.Core.Path.{_≡_, sym, _∙_}
-use Prim.Native.Nat.{_≤_, _<_, _-_}
+use Prim.Native.Nat.{_≤_, _-_}
 use lib.ListN.{length, drop}
 use borrow.Author.Needs.{needs}
 use Rattle.cache_tree.specs.Answers.{numberIn, numberFrom}

@@ -1,6 +1,5 @@
 -- The proof that `below_at` meets its contract.
-use mathlib.Core.Path.{_≡_, sym, ap₂, _∙_}
-use native.Mathlib.Omega.{arith}
+use mathlib.Core.Path.{ap₂, _∙_}
 use borrow.Author.Needs.{needs}
 use Rattle.cache_tree.specs.Orders.{slashBelow, lengthBelow}
 use Rattle.cache_tree.proofs.Differ.{name-at}

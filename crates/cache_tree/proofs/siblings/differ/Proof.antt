@@ -1,14 +1,14 @@
 -- The proof that `differ` meets its contract.
-use mathlib.Core.Path.{_≡_, refl, sym, _∙_}
+use mathlib.Core.Path.{refl, sym, _∙_}
 use mathlib.Core.Bool.{true, false}
 use native.Mathlib.Omega.{arith}
 use borrow.Author.Needs.{needs}
-use Rattle.cache_tree.proofs.Differ.{differ-none, differ-rising}
+use Rattle.cache_tree.proofs.Differ.{differ-one, differ-rising}
 use Rattle.cache_tree.proofs.siblings.differ.Statement.{statement}
 use Rattle.cache_tree.proofs.siblings.differ.Tie as tie
 
 returns : tie.Need-returns
-returns c = let a = c .before .before .before .args in (sym (differ-none (a .d .now) (a .a) _ (omega arith)), refl)
+returns c = let a = c .before .before .before .args in (sym (differ-one (a .d .now) (a .a) _ (c .if1 .taken)), refl)
 
 after-tree-requires : tie.Need-after-tree-requires
 after-tree-requires c κs = search needs
@@ -31,8 +31,11 @@ rises-requires-2 c κs = search needs
 returns-3 : tie.Need-returns-3
 returns-3 c = let a = c .before .before .before .before .before .before .before .before .args in (sym (differ-rising (a .d .now) (a .a) _ (omega arith) _ (c .before .before .before .before .after-tree .ensures .0) true (sym (c .before .rises2 .ensures) ∙ c .if3 .taken)), refl)
 
-plain-requires : tie.Need-plain-requires
-plain-requires c κs = search needs
+by-chunks-requires : tie.Need-by-chunks-requires
+by-chunks-requires c κs = search needs
+
+same-length : tie.Need-same-length
+same-length c = search needs
 
 returns-4 : tie.Need-returns-4
 returns-4 c = search needs
@@ -49,5 +52,6 @@ differ-spec =
     sub-rises-2
     rises-requires-2
     returns-3
-    plain-requires
+    by-chunks-requires
+    same-length
     returns-4)

@@ -1,5 +1,5 @@
 -- The proof that `slash_below` meets its contract. What follows the common beginning decides.
-use mathlib.Core.Path.{_≡_, sym}
+use mathlib.Core.Path.{sym}
 use borrow.Author.Needs.{needs}
 use Rattle.cache_tree.proofs.Orders.{slash-same, slash-long, slash-short, slash-other}
 use Rattle.cache_tree.proofs.siblings.slash_below.Statement.{statement}

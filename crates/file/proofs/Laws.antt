@@ -1,0 +1,102 @@
+-- Laws of the workspace, of names that answers point at, and of the fields of an entry.
+use mathlib.Core.Path.{_≡_, refl, _∙_}
+use mathlib.Core.List.{List, [], _++_}
+use mathlib.Core.Bool.{true, false}
+use Prim.Native.Nat.{ℕ, _+_, _-_, _/_, _%_, _≤_, _<_}
+use native.Mathlib.Nat.{add-zero}
+use native.Mathlib.Omega.{arith}
+use lib.ListN.{length, take, drop, replicate, length-append}
+use lib.Seq.{length-take-le, take-at, drop-drop}
+use lib.Dec.{eqb}
+use borrow.Author.Tests.{lt-ltb, le-ltb, le-leb, lt-leb}
+use Rattle.format.specs.Bytes.{be32, be32s}
+use Rattle.format.specs.Reader.{isSet, entryOf}
+use Rattle.fields.proofs.Laws.{be32-drop}
+use Rattle.file.specs.declared.Fields.{Fields}
+use Rattle.file.specs.declared.Shown.{Shown}
+use Rattle.file.specs.declared.Shown.the-variants.{Refused, InFile, InWorkspace}
+use Rattle.file.specs.Answers.{tooSmall, cleared, holding, partIn, nameIn, entryWith}
+
+-- ---- the workspace
+
+module _ (work : List ℕ) where
+  pub small : length work < 8192 → tooSmall work ≡ true
+  unfolding tooSmall
+  small h = lt-ltb (length work) 8192 h
+
+  pub large : 8192 ≤ length work → tooSmall work ≡ false
+  unfolding tooSmall
+  large h = le-ltb (length work) 8192 h
+
+  -- one that is too small stays as it is; of any other, cleared is what fields::clear leaves
+  pub cleared-small : length work < 8192 → cleared work ≡ work
+  unfolding cleared
+  cleared-small h = rw (small h)
+
+  pub cleared-large : 8192 ≤ length work → cleared work ≡ replicate 8192 0 ++ drop 8192 work
+  unfolding cleared
+  cleared-large h = rw (large h)
+
+-- a workspace that was written up to its 8,192nd byte: what fields::clear and fields::clear_from leave of it
+module _ (work written : List ℕ) (rest : drop 8192 written ≡ drop 8192 work) where
+  pub cleared-after : 8192 ≤ length work → replicate 8192 0 ++ drop 8192 written ≡ cleared work
+  cleared-after h = rw (rest, cleared-large work h)
+
+  pub holding-after : (n : ℕ) → n ≤ length written → take n written ++ (replicate (8192 - n) 0 ++ drop 8192 written) ≡ holding (take n written) work
+  unfolding holding
+  holding-after n h = rw (rest, length-take-le n written h)
+
+-- ---- names
+
+module _ (at n : ℕ) (s : List ℕ) where
+  pub part-out : length s < at + n → partIn at n s ≡ []
+  unfolding partIn
+  part-out h = rw (lt-leb (at + n) (length s) h)
+
+  pub part-in : at + n ≤ length s → partIn at n s ≡ take n (drop at s)
+  unfolding partIn
+  part-in h = rw (le-leb (at + n) (length s) h)
+
+-- the workspace does not matter where the name is a part of the file
+pub file-name : (s : Shown) (file work : List ℕ) → ((n : ℕ) → s ≡ InWorkspace n → ⊥) → nameIn s file work ≡ nameIn s file []
+unfolding nameIn
+file-name (Refused n p) file work h = refl
+file-name (InFile at n) file work h = refl
+file-name (InWorkspace n) file work h = absurd (h n refl)
+
+-- a name that a workspace holds is the one that an answer with its length points at
+pub holding-name : (name file work : List ℕ) → nameIn (InWorkspace (length name)) file (holding name work) ≡ name
+unfolding nameIn holding
+holding-name name file work =
+    let rest : List ℕ = replicate (8192 - length name) 0 ++ drop 8192 work in
+    let fits : 0 + length name ≤ length (name ++ rest) = simp length-append (omega arith) in
+    part-in 0 (length name) (name ++ rest) fits ∙ take-at name rest (length name) refl
+
+-- ---- the fields of an entry
+
+-- those of the entry at a place, whose flags are x and whose extended word is y
+abbrev pub fieldsAt : List ℕ → ℕ → ℕ → ℕ → Fields
+fieldsAt b at x y = record {
+  «ctime_seconds» = be32 b at;
+  «ctime_nanoseconds» = be32 b (at + 4);
+  «mtime_seconds» = be32 b (at + 8);
+  «mtime_nanoseconds» = be32 b (at + 12);
+  dev = be32 b (at + 16);
+  ino = be32 b (at + 20);
+  mode = be32 b (at + 24);
+  uid = be32 b (at + 28);
+  gid = be32 b (at + 32);
+  size = be32 b (at + 36);
+  object = take 20 (drop (at + 40) b);
+  «assume_valid» = eqb (x / 32768 % 2) 1;
+  stage = x / 4096 % 4;
+  «skip_worktree» = eqb (y / 16384 % 2) 1;
+  «intent_to_add» = eqb (y / 8192 % 2) 1;
+}
+
+pub fields-entry : (b : List ℕ) (at x y : ℕ) (name : List ℕ) → entryWith (fieldsAt b at x y) name ≡ entryOf 20 (drop at b) x y name
+unfolding entryOf isSet be32s
+fields-entry b at x y name =
+    let first : be32 b at ≡ be32 (drop at b) 0 = rw (add-zero at) at (be32-drop b at 0) in
+    let at-k = be32-drop b at in
+    rw (first, at-k 4, at-k 8, at-k 12, at-k 16, at-k 20, at-k 24, at-k 28, at-k 32, at-k 36, ← (drop-drop 40 at b)) refl

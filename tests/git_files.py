@@ -1,0 +1,520 @@
+"""Makes index files with the installed Git, runs the listing program on each and holds its output against Git.
+
+    git_files.py PROGRAM
+
+For a file that is accepted, the entry lines must be those of 'git ls-files --stage', byte for byte after the
+escapes are undone, and the counts those of index_reader; index_reader in turn is held against what Git tells
+of the other fields. For a file that is refused, the refusal is the one named here. The last line is
+'N passed, M failed', and the exit status is 0 only where M is 0.
+
+Git runs with a HOME of its own, no user configuration and fixed dates, in a folder below TMPDIR that is removed.
+"""
+
+import os
+import random
+import re
+import shutil
+import subprocess
+import sys
+import tempfile
+from typing import NamedTuple, Optional
+
+import index_reader
+from report import WIDTH, Program, ProgramFailed, Report, difference
+
+
+class Snapshot(NamedTuple):
+    """An index file, and what Git says of it."""
+
+    name: str
+    data: bytes
+    refusal: Optional[int] = None  # the number, where the file is to be refused
+    stage: bytes = b""  # git ls-files --stage -z
+    debug: bytes = b""  # git ls-files --debug -z
+    undo: bytes = b""  # git ls-files --resolve-undo -z
+    extensions: tuple = ()  # signatures that the file must have
+
+
+# ---- Git
+
+
+class Repository:
+    """A repository in a folder of its own."""
+
+    def __init__(self, root: str, name: str, version: int):
+        self.path = os.path.join(root, name)
+        self.name = name
+        os.makedirs(self.path)
+        home = os.path.join(root, "home")
+        os.makedirs(home, exist_ok=True)
+        self.environment = {key: value for key, value in os.environ.items() if not key.startswith("GIT_")}
+        self.environment.update(
+            HOME=home,
+            XDG_CONFIG_HOME=home,
+            GIT_CONFIG_NOSYSTEM="1",
+            GIT_CONFIG_GLOBAL=os.devnull,
+            GIT_CEILING_DIRECTORIES=root,
+            GIT_AUTHOR_NAME="Tests",
+            GIT_AUTHOR_EMAIL="tests@example.org",
+            GIT_AUTHOR_DATE="2001-02-03T04:05:06+0000",
+            GIT_COMMITTER_NAME="Tests",
+            GIT_COMMITTER_EMAIL="tests@example.org",
+            GIT_COMMITTER_DATE="2001-02-03T04:05:06+0000",
+            LC_ALL="C",
+            TZ="UTC",
+        )
+        self.git("init", "-q", "-b", "main")
+        self.git("config", "index.version", str(version))
+        # One thread: else Git adds extensions by the number of processors.
+        self.git("config", "index.threads", "1")
+
+    def git(self, *arguments, given: bytes = b"", may_fail: bool = False) -> bytes:
+        done = subprocess.run(
+            ["git", *arguments], cwd=self.path, env=self.environment, input=given, capture_output=True, check=False
+        )
+        if done.returncode != 0 and not may_fail:
+            raise RuntimeError(f"git {arguments} in {self.name}: {done.stderr.decode(errors='replace')}")
+        return done.stdout
+
+    def write(self, name: str, content: str, mode: int = 0o644) -> None:
+        """Writes a file of the working tree."""
+        path = os.path.join(self.path, name)
+        os.makedirs(os.path.dirname(path), exist_ok=True)
+        with open(path, "w", encoding="ascii") as stream:
+            stream.write(content)
+        os.chmod(path, mode)
+        self.set_times(path)
+
+    def link(self, name: str, target: str) -> None:
+        path = os.path.join(self.path, name)
+        os.symlink(target, path)
+        self.set_times(path)
+
+    @staticmethod
+    def set_times(path: str) -> None:
+        """Gives a file a fixed time before that of any index: Git treats newer ones in a special way."""
+        os.utime(path, (981_173_106, 981_173_106), follow_symlinks=False)
+
+    def put(self, rows) -> None:
+        """Puts entries (mode, stage, name) straight into the index, all with the object of one text."""
+        blob = self.blob()
+        text = b"".join(b"%o %s %d\t%s\0" % (mode, blob, stage, name) for mode, stage, name in rows)
+        self.git("update-index", "-z", "--index-info", given=text)
+
+    def blob(self) -> bytes:
+        return self.git("hash-object", "-w", "--stdin", given=b"text\n").strip()
+
+    def index(self) -> bytes:
+        with open(os.path.join(self.path, ".git", "index"), "rb") as stream:
+            return stream.read()
+
+    def snapshot(self, name: str, refusal: Optional[int] = None, extensions: tuple = ()) -> Snapshot:
+        data = self.index()
+        title = f"{self.name}/{name}"
+        if refusal is not None:
+            return Snapshot(title, data, refusal, extensions=extensions)
+        stage = self.git("ls-files", "--stage", "-z")
+        debug = self.git("ls-files", "--cached", "--debug", "-z")
+        undo = self.git("ls-files", "--resolve-undo", "-z")
+        if self.index() != data:
+            raise RuntimeError(f"{title}: looking at the index changed it")
+        return Snapshot(title, data, None, stage, debug, undo, extensions)
+
+
+# ---- the scenes
+
+NAMES = (
+    "a-b", "a/b", "a0", "deep/er/and/deeper", "deep/er/file", "deep/x", "dir/one", "dir/two", "long-directory-name/f",
+    "z/z/z",
+)
+
+
+def start(root: str, name: str, version: int) -> Repository:
+    """A repository with files of several kinds in its working tree, nothing added."""
+    repository = Repository(root, name, version)
+    for file in NAMES:
+        repository.write(file, f"content of {file}\n")
+    repository.write("run", "#!/bin/sh\n", 0o755)
+    repository.link("link", "dir/one")
+    return repository
+
+
+def everyday(root: str, version: int):
+    """From an empty index over a commit to edits, removals and flags."""
+    repository = start(root, f"everyday-{version}", version)
+    repository.git("read-tree", "--empty")
+    yield repository.snapshot("empty")
+    repository.git("add", ".")
+    yield repository.snapshot("added")
+    repository.git("commit", "-q", "-m", "first")
+    yield repository.snapshot("committed", extensions=(b"TREE",))
+    repository.write("deep/er/new", "new\n")
+    repository.git("add", "deep/er/new")
+    yield repository.snapshot("part-invalid", extensions=(b"TREE",))
+    repository.git("write-tree")
+    yield repository.snapshot("whole-again", extensions=(b"TREE",))
+    repository.git("rm", "-q", "--cached", "dir/one", "dir/two")
+    yield repository.snapshot("directory-emptied", extensions=(b"TREE",))
+    repository.git("update-index", "--assume-unchanged", "run", "deep/x")
+    yield repository.snapshot("assume-valid")
+    repository.write("planned", "planned\n")
+    repository.write("deep/planned", "planned\n")
+    repository.git("add", "-N", "planned", "deep/planned")
+    yield repository.snapshot("intent-to-add")
+    repository.git("write-tree")
+    yield repository.snapshot("intent-to-add-tree", extensions=(b"TREE",))
+    repository.git("update-index", "--skip-worktree", "a-b", "z/z/z")
+    yield repository.snapshot("skip-worktree")
+    repository.git("update-index", "--assume-unchanged", "z/z/z")
+    yield repository.snapshot("two-flags")
+    repository.git("read-tree", "--prefix=imported/", "HEAD")
+    yield repository.snapshot("prefix")
+    repository.git("rm", "-q", "-r", "-f", "--cached", ".")
+    yield repository.snapshot("all-removed-but-skipped")
+    repository.git("update-index", "--force-remove", "a-b", "z/z/z")
+    yield repository.snapshot("all-removed", extensions=(b"TREE",))
+    repository.git("read-tree", "HEAD")
+    yield repository.snapshot("read-tree", extensions=(b"TREE",))
+    repository.git("read-tree", "--empty")
+    repository.git("write-tree")
+    yield repository.snapshot("empty-tree", extensions=(b"TREE",))
+
+
+def conflicts(root: str, version: int):
+    """A merge with conflicts of several kinds, their resolution, and back."""
+    repository = start(root, f"conflicts-{version}", version)
+    repository.git("add", ".")
+    repository.git("commit", "-q", "-m", "base")
+    repository.git("checkout", "-q", "-b", "side")
+    for name in ("a-b", "deep/er/file", "dir/one"):
+        repository.write(name, f"side {name}\n")
+    repository.write("both/added", "side\n")
+    repository.git("rm", "-q", "dir/two")
+    repository.git("add", ".")
+    repository.git("commit", "-q", "-m", "side")
+    repository.git("checkout", "-q", "main")
+    for name in ("a-b", "deep/er/file", "dir/two"):
+        repository.write(name, f"main {name}\n")
+    repository.write("both/added", "main\n")
+    repository.git("rm", "-q", "dir/one")
+    repository.git("add", ".")
+    repository.git("commit", "-q", "-m", "main")
+    repository.git("merge", "-q", "side", may_fail=True)
+    yield repository.snapshot("unmerged")
+    repository.write("a-b", "resolved\n")
+    repository.git("add", "a-b")
+    yield repository.snapshot("one-resolved", extensions=(b"REUC",))
+    repository.git("checkout", "-q", "-m", "--", "a-b")
+    yield repository.snapshot("one-taken-back", extensions=(b"REUC",))
+    repository.git("add", "a-b")
+    repository.git("add", "deep/er/file", "both/added", "dir/one")
+    repository.git("rm", "-q", "--cached", "dir/two")
+    yield repository.snapshot("all-resolved", extensions=(b"REUC",))
+    repository.git("write-tree")
+    yield repository.snapshot("resolved-tree", extensions=(b"TREE", b"REUC"))
+    repository.git("update-index", "--unresolve", "deep/er/file")
+    yield repository.snapshot("one-unresolved", extensions=(b"TREE", b"REUC"))
+    repository.git("checkout", "-q", "-m", "--", "a-b", "both/added")
+    yield repository.snapshot("three-unresolved", extensions=(b"TREE", b"REUC"))
+
+
+def stages(root: str, version: int):
+    """Every set of the stages 1 to 3, put straight into the index, then resolved."""
+    repository = Repository(root, f"stages-{version}", version)
+    rows = []
+    for bits in range(1, 8):
+        for stage in (1, 2, 3):
+            if bits >> (stage - 1) & 1:
+                mode = (0o100644, 0o100755, 0o120000)[stage - 1]
+                rows += [(mode, stage, b"set-%d" % bits), (mode, stage, b"dir/set-%d" % bits)]
+    repository.put(rows)
+    yield repository.snapshot("every-set")
+    for bits in range(1, 8):
+        repository.write(f"set-{bits}", "resolved\n")
+        repository.write(f"dir/set-{bits}", "resolved\n")
+        if bits % 2:
+            repository.git("add", f"set-{bits}", f"dir/set-{bits}")
+            yield repository.snapshot(f"resolved-{bits}", extensions=(b"REUC",))
+    repository.git("add", ".")
+    yield repository.snapshot("all-resolved", extensions=(b"REUC",))
+
+
+def names(root: str, version: int):
+    """Names with bytes that are escaped, near the forbidden ones, and long ones."""
+    repository = Repository(root, f"names-{version}", version)
+    single = [bytes([byte]) for byte in range(1, 256) if byte not in b"./"]
+    odd = [b"back\\slash", b"new\nline", b"tab\t", b'quote"', b"caf\xc3\xa9/x", b"\xff\xfe", b" ", b" lead"]
+    odd += [b"...", b"..a", b".gitx", b"a\\303b", b"-dash", b"~", b"\x7f/\x80", b"x/.gitignore", b"\x01\x02/\x1f"]
+    repository.put([(0o100644, 0, name) for name in odd])
+    yield repository.snapshot("odd")
+    repository.git("write-tree")
+    yield repository.snapshot("odd-tree", extensions=(b"TREE",))
+    repository.git("read-tree", "--empty")
+    repository.put([(0o100644, 0, name) for name in single])
+    yield repository.snapshot("each-byte")
+    repository.git("read-tree", "--empty")
+    lengths = (1, 127, 128, 255, 256, 4094, 4095, 4096, 8191, 8192)
+    repository.put([(0o100755, 0, bytes([ord("a") + k]) * length) for k, length in enumerate(lengths)])
+    yield repository.snapshot("long")
+    repository.put([(0o100644, 0, b"/".join([b"d"] * 4096))])
+    yield repository.snapshot("many-components")
+    repository.put([(0o100644, 0, b"x" * 8193)])
+    yield repository.snapshot("8193", refusal=9)
+
+
+def links(root: str, version: int):
+    """Symbolic links and submodules."""
+    repository = start(root, f"links-{version}", version)
+    inner = Repository(repository.path, "sub", version)
+    inner.write("inside", "inside\n")
+    inner.git("add", ".")
+    inner.git("commit", "-q", "-m", "inner")
+    repository.git("-c", "advice.addEmbeddedRepo=false", "add", ".")
+    commit = "1234567890" * 4
+    repository.git("update-index", "--add", "--cacheinfo", f"160000,{commit},other/module")
+    repository.git("update-index", "--add", "--cacheinfo", f"120000,{repository.blob().decode()},other/link")
+    yield repository.snapshot("added")
+    repository.git("write-tree", "--missing-ok")
+    yield repository.snapshot("tree", extensions=(b"TREE",))
+
+
+def trees(root: str, version: int):
+    """Cache trees: wide ones, nested ones up to the limit of levels, a directory that became a file."""
+    repository = Repository(root, f"trees-{version}", version)
+    wide = [b"d%s%d/f%d" % (b"x" * (k % 5), k, j) for k in range(60) for j in range(k % 3 + 1)]
+    repository.put([(0o100644, 0, name) for name in wide])
+    repository.git("write-tree")
+    yield repository.snapshot("wide", extensions=(b"TREE",))
+    repository.put([(0o100755, 0, name) for name in wide[::7]])
+    yield repository.snapshot("wide-part-invalid", extensions=(b"TREE",))
+    repository.git("rm", "-q", "--cached", "-r", "dx1", "dxx2")
+    yield repository.snapshot("wide-removed", extensions=(b"TREE",))
+    repository.git("update-index", "--add", "--replace", "--cacheinfo", f"100644,{repository.blob().decode()},dxxx3")
+    yield repository.snapshot("became-file", extensions=(b"TREE",))
+    repository.git("write-tree")
+    yield repository.snapshot("became-file-tree", extensions=(b"TREE",))
+    for depth, refusal in ((126, None), (127, None), (128, 15), (200, 15)):
+        repository.git("read-tree", "--empty")
+        deep = b"/".join([b"n"] * depth)
+        repository.put([(0o100644, 0, deep + b"/file"), (0o100644, 0, b"beside"), (0o100644, 0, b"n/beside")])
+        repository.git("write-tree")
+        yield repository.snapshot(f"deep-{depth}", refusal, extensions=(b"TREE",) if refusal is None else ())
+    repository.put([(0o100644, 0, b"n/n/n/new")])
+    yield repository.snapshot("deep-part-invalid", refusal=15)
+
+
+def extensions(root: str, version: int):
+    """Extensions that are passed over."""
+    repository = start(root, f"extensions-{version}", version)
+    repository.git("add", ".")
+    repository.git("commit", "-q", "-m", "first")
+    repository.git("config", "index.threads", "4")
+    repository.git("config", "index.recordEndOfIndexEntries", "true")
+    repository.git("config", "index.recordOffsetTable", "true")
+    repository.write("more", "more\n")
+    repository.git("add", "more")
+    yield repository.snapshot("offset-table", extensions=(b"IEOT", b"EOIE", b"TREE"))
+    repository.git("config", "index.threads", "1")
+    repository.git("config", "index.recordEndOfIndexEntries", "false")
+    repository.git("config", "index.recordOffsetTable", "false")
+    repository.write("untracked/file", "untracked\n")
+    repository.git("update-index", "--force-untracked-cache")
+    repository.git("status")
+    yield repository.snapshot("untracked-cache", extensions=(b"UNTR", b"TREE"))
+    hook = os.path.join(repository.path, ".git", "monitor")
+    with open(hook, "w", encoding="ascii") as stream:
+        stream.write("#!/bin/sh\nprintf 'token\\0'\n")
+    os.chmod(hook, 0o755)
+    repository.git("config", "core.fsmonitor", hook)
+    repository.git("update-index", "--fsmonitor")
+    repository.git("status")
+    yield repository.snapshot("monitor", extensions=(b"FSMN", b"UNTR"))
+
+
+def refused_kinds(root: str, version: int):
+    """Split and sparse indexes, which the library refuses."""
+    repository = start(root, f"split-{version}", version)
+    repository.git("add", ".")
+    repository.git("commit", "-q", "-m", "first")
+    repository.git("update-index", "--split-index")
+    yield repository.snapshot("split", refusal=13)
+    repository.write("added-later", "later\n")
+    repository.git("add", "added-later")
+    yield repository.snapshot("split-and-added", refusal=13)
+    # A replaced entry of a split index has an empty name.
+    repository.write("dir/one", "changed\n")
+    repository.git("add", "dir/one")
+    yield repository.snapshot("split-and-replaced", refusal=9)
+
+    repository = start(root, f"sparse-{version}", version)
+    repository.git("add", ".")
+    repository.git("commit", "-q", "-m", "first")
+    repository.git("sparse-checkout", "set", "--cone", "--sparse-index", "dir")
+    yield repository.snapshot("sparse", refusal=7)
+    repository.git("sparse-checkout", "set", "--cone", "--no-sparse-index", "dir")
+    yield repository.snapshot("sparse-checkout", extensions=(b"TREE",))
+
+
+def walks(root: str, version: int):
+    """A walk of random edits with trees written between them, by a fixed seed."""
+    rng = random.Random(f"walk {version}")
+    repository = Repository(root, f"walk-{version}", version)
+    components = (b"a", b"b", b"bb", b"c-", b"c")
+    pool = [b"/".join(rng.choices(components, k=rng.randint(1, 5))) + b".f" for _ in range(80)]
+    repository.put([(0o100644, 0, name) for name in pool[:30]])
+    for step in range(30):
+        how = rng.randrange(5)
+        some = rng.sample(pool, rng.randint(1, 4))
+        if how < 2:
+            repository.git("write-tree")
+        elif how == 2:
+            removed = b"".join(name + b"\0" for name in some)
+            repository.git("update-index", "-z", "--force-remove", "--stdin", given=removed)
+        else:
+            mode = rng.choice((0o100644, 0o100755, 0o120000))
+            repository.put([(mode, 0, name) for name in some])
+        yield repository.snapshot(f"step-{step}")
+
+
+SCENES = (everyday, conflicts, stages, names, links, trees, extensions, refused_kinds, walks)
+
+
+def snapshots(root: str):
+    for version in (2, 3, 4):
+        for scene in SCENES:
+            yield from scene(root, version)
+
+
+# ---- the comparison
+
+
+class Row(NamedTuple):
+    """An entry as a line shows it."""
+
+    mode: bytes
+    object: bytes
+    stage: bytes
+    name: bytes
+
+
+def rows_of_git(text: bytes) -> list:
+    """The lines of 'git ls-files --stage -z', or of '--resolve-undo -z'."""
+    rows = []
+    for line in text.split(b"\0")[:-1]:
+        fields, name = line.split(b"\t", 1)
+        rows.append(Row(*fields.split(b" "), name))
+    return rows
+
+
+def unescape(name: bytes) -> bytes:
+    return re.sub(rb"\\([0-7]{3})", lambda match: bytes([int(match[1], 8)]), name)
+
+
+def rows_of_listing(lines: list) -> list:
+    rows = []
+    for line in lines:
+        fields, _, name = line.partition(b"\t")
+        parts = fields.split(b" ")
+        if len(parts) != 3 or any(byte < 32 or byte > 126 for byte in name):
+            return [line]
+        rows.append(Row(*parts, unescape(name)))
+    return rows
+
+
+def debug_of_git(text: bytes) -> list:
+    """What 'git ls-files --debug -z' tells of each entry: its name, the nine numbers other than mode, and flags."""
+    pattern = re.compile(
+        rb"([^\0]*)\0  ctime: (\d+):(\d+)\n  mtime: (\d+):(\d+)\n  dev: (\d+)\tino: (\d+)\n"
+        rb"  uid: (\d+)\tgid: (\d+)\n  size: (\d+)\tflags: ([0-9a-f]+)\n"
+    )
+    found, at = [], 0
+    while at < len(text):
+        match = pattern.match(text, at)
+        if match is None:
+            return [text[at : at + WIDTH]]
+        flags = int(match[11], 16)
+        numbers = tuple(int(match[k]) for k in range(2, 11))
+        # Git keeps skip-worktree and intent-to-add in bits 30 and 29 of its own flags.
+        bits = (bool(flags & 0x8000), flags >> 12 & 3, bool(flags >> 30 & 1), bool(flags >> 29 & 1))
+        found.append((match[1], numbers, bits))
+        at = match.end()
+    return found
+
+
+def debug_of_reader(entries: list) -> list:
+    return [
+        (e.name, tuple(e[:6]) + tuple(e[7:10]), (e.assume_valid, e.stage, e.skip_worktree, e.intent_to_add))
+        for e in entries
+    ]
+
+
+def undo_of_reader(records: Optional[list]) -> list:
+    return [
+        Row(b"%06o" % mode, name.hex().encode(), b"%d" % stage, record.path)
+        for record in records or ()
+        for stage, (mode, name) in enumerate(zip(record.modes, record.objects), 1)
+        if mode
+    ]
+
+
+def compare(snapshot: Snapshot, listing_of, report: Report) -> None:
+    """Holds a listing against Git, and index_reader against Git."""
+    name, data = snapshot.name, snapshot.data
+    try:
+        listing = listing_of(data)
+    except ProgramFailed as failure:
+        report.test(f"{name}: listing", False, failure)
+        return
+    answer = index_reader.check(data)
+    if snapshot.refusal is not None:
+        report.same(f"{name}: refusal", ("refused", snapshot.refusal), answer[:2])
+        report.same(f"{name}: listing", b"refused %d at %d\n" % (snapshot.refusal, answer[2]), listing)
+        return
+    if not report.test(f"{name}: accepted", answer[0] == "accepted", answer):
+        return
+    index = index_reader.read(data)
+    signatures = [signature for signature, _ in index.others]
+    signatures += [b"TREE"] * (index.nodes is not None) + [b"REUC"] * (index.undo is not None)
+    report.test(f"{name}: extensions", set(snapshot.extensions) <= set(signatures), snapshot.extensions, signatures)
+
+    expected = rows_of_git(snapshot.stage)
+    lines = listing.split(b"\n")
+    report.same(f"{name}: entry lines", expected, rows_of_listing(lines[1:-3]))
+    first = b"version %d entries %d" % (int.from_bytes(data[4:8], "big"), len(expected))
+    tree = b"cache tree none" if answer[4] is None else b"cache tree %d nodes" % answer[4]
+    undo = b"resolve-undo none" if answer[5] is None else b"resolve-undo %d paths" % answer[5]
+    report.same(f"{name}: other lines", [first, tree, undo, b""], lines[:1] + lines[-3:])
+    whole = index_reader.listing(data)
+    report.test(f"{name}: listing", listing == whole, *difference(whole, listing))
+
+    report.same(f"{name}: numbers and flags", debug_of_git(snapshot.debug), debug_of_reader(index.entries))
+    report.same(f"{name}: resolve undo", rows_of_git(snapshot.undo), undo_of_reader(index.undo))
+
+
+def run(listing_of, report: Report) -> None:
+    """Makes all files and compares them, in a temporary folder that is removed."""
+    root = tempfile.mkdtemp(prefix="git-files-")
+    try:
+        for snapshot in snapshots(os.path.realpath(root)):
+            compare(snapshot, listing_of, report)
+    except RuntimeError as failure:
+        report.test("Git makes the files", False, failure)
+    finally:
+        shutil.rmtree(root)
+
+
+def main() -> int:
+    if len(sys.argv) != 2:
+        print("usage: git_files.py PROGRAM", file=sys.stderr)
+        return 2
+    report = Report()
+    program = Program(sys.argv[1])
+    if program.usable():
+        run(program, report)
+    else:
+        report.test(f"{sys.argv[1]} is an executable program", False)
+    return report.finish()
+
+
+if __name__ == "__main__":
+    sys.exit(main())
