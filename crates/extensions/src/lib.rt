@@ -88,6 +88,7 @@ fn read_head(b: &[u8], at: usize) -> Head
     Head::Other(end)
 }
 
+// Before the first extension.
 fn none_found() -> Found
     ensures { λ r. ⌜ r ≡ nothing ⌝ }
 {
@@ -212,7 +213,8 @@ fn read_extension(
     }
 }
 
-// All extensions of a body, from a place on, with a node of the cache tree and a resolve-undo record that are wanted, by their numbers.
+// All extensions of a body, from a place on. v and count are the version and the number of entries, seed is any number; a node of the
+// cache tree and a resolve-undo record are wanted, by their numbers from 0 on.
 pub fn read_extensions(
     b: &[u8],
     at: usize,
