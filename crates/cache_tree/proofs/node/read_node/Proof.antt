@@ -1,0 +1,89 @@
+-- The proof that `read_node` meets its contract, part after part.
+use mathlib.Core.Path.{sym, _∙_}
+use Prim.Native.Nat.{_+_}
+use native.Mathlib.Omega.{arith}
+use borrow.Author.Needs.{needs}
+use Rattle.cache_tree.proofs.Nodes.{CountIs, SubtreesIs, count-is, subtrees-is, node-none, node-no-count, node-no-subtrees, node-short, node-valid, node-invalid}
+use Rattle.cache_tree.proofs.node.read_node.Statement.{statement}
+use Rattle.cache_tree.proofs.node.read_node.Tie as tie
+
+count-of : (c : tie.After-known-told) → CountIs (c .before .before .before .before .before .before .before .args .d .now) (c .before .before .before .before .before .find .result + 1) (c .before .counted .given .0 .0) (c .before .counted .given .0 .1 .0) (c .before .counted .given .0 .1 .1 .0)
+count-of c = count-is _ _ (omega arith) _ _ _ (sym (c .before .counted .given .1) ∙ c .before .before .before .read-count .ensures)
+
+subtrees-of : (c : tie.After-known-told2) → SubtreesIs (c .before .before .before .before .before .before .before .before .before .before .before .args .d .now) (c .before .before .before .before .before .counted .given .0 .1 .1 .0) (c .before .listed .given .0 .0) (c .before .listed .given .0 .1 .0)
+subtrees-of c =
+    let k = count-of (c .before .before .before .before) in
+    subtrees-is _ _ (k .within) _ _ (sym (c .before .listed .given .1) ∙ c .before .before .before .read-subtrees .ensures)
+
+find-requires : tie.Need-find-requires
+find-requires c κs = search needs
+
+returns : tie.Need-returns
+returns c = sym (node-none _ _ _ (c .before .find .ensures .0) (c .if1 .taken))
+
+add-read-count : tie.Need-add-read-count
+add-read-count c = search needs
+
+read-count-requires : tie.Need-read-count-requires
+read-count-requires c κs = search needs
+
+enum-told : tie.Need-enum-told
+enum-told c = search needs
+
+enum-known-counted : tie.Need-enum-known-counted
+enum-known-counted c = search needs
+
+read-subtrees-requires : tie.Need-read-subtrees-requires
+read-subtrees-requires c κs = count-of c .within
+
+enum-told-2 : tie.Need-enum-told-2
+enum-told-2 c = search needs
+
+enum-known-listed : tie.Need-enum-known-listed
+enum-known-listed c = search needs
+
+sub-if3 : tie.Need-sub-if3
+sub-if3 c = subtrees-of (c .before) .within
+
+returns-2 : tie.Need-returns-2
+returns-2 c =
+    let k = c .before .before in
+    sym (node-short _ _ _ (c .before .before .before .before .before .before .before .before .before .before .before .find .ensures .0) (omega arith) _ _ _ (count-of (c .before .before .before .before .before .before)) _ _ (subtrees-of k) (c .before .if2 .taken) (c .if3 .taken))
+
+add-t16 : tie.Need-add-t16
+add-t16 c = search needs
+
+returns-3 : tie.Need-returns-3
+returns-3 c =
+    let k = c .before .before in
+    sym (node-valid _ _ _ (c .before .before .before .before .before .before .before .before .before .before .before .find .ensures .0) (omega arith) _ _ _ (count-of (c .before .before .before .before .before .before)) _ _ (subtrees-of k) (c .before .if2 .taken) (omega arith))
+
+returns-4 : tie.Need-returns-4
+returns-4 c = sym (node-no-count _ _ _ (c .before .before .before .before .find .ensures .0) (omega arith) (sym (c .enum-told .given .1) ∙ c .before .before .read-count .ensures))
+
+returns-5 : tie.Need-returns-5
+returns-5 c = sym (node-no-subtrees _ _ _ (c .before .before .before .before .before .before .before .before .find .ensures .0) (omega arith) _ _ _ (count-of (c .before .before .before)) (sym (c .enum-told2 .given .1) ∙ c .before .before .read-subtrees .ensures))
+
+returns-6 : tie.Need-returns-6
+returns-6 c = sym (node-invalid _ _ _ (c .before .before .before .before .before .before .before .before .before .before .find .ensures .0) (omega arith) _ _ _ (count-of (c .before .before .before .before .before)) _ _ (subtrees-of (c .before)) (c .if2 .left))
+
+pub read-node-spec : {M : Type 1} → statement M
+read-node-spec =
+    tie.close
+    (tie.spec
+    find-requires
+    returns
+    add-read-count
+    read-count-requires
+    enum-told
+    enum-known-counted
+    read-subtrees-requires
+    enum-told-2
+    enum-known-listed
+    sub-if3
+    returns-2
+    add-t16
+    returns-3
+    returns-4
+    returns-5
+    returns-6)

@@ -1,0 +1,53 @@
+-- The nodes one after another, as they stand in the data, whatever they belong to.
+use mathlib.Core.List.{List, [], _∷_}
+use mathlib.Core.Bool.{Bool, true, false, cond}
+use Prim.Native.Nat.{ℕ, zero, suc, _+_}
+use lib.ListN.{length, take, drop}
+use Rattle.format.specs.Bytes.{eqList, before}
+use Rattle.format.specs.Reading.{Read, bad, good}
+use Rattle.format.specs.Reader.{Head, readNode}
+
+-- by the node that begins the list: its number of subtrees and its bytes
+abbrev pub onNode : {A : Type 0} → Read Head → A → (ℕ → ℕ → A) → A
+onNode (bad n p) none some = none
+onNode (good h m) none some = some (h .subtrees) m
+
+-- where the kth node begins; the end where there are fewer
+unfoldable pub placeOf : ℕ → List ℕ → ℕ
+placeOf zero s = 0
+placeOf (suc k) s = onNode (readNode 20 0 s) (length s) (λ subtrees m. m + placeOf k (drop m s))
+
+-- how many bytes k nodes take with all below them; fuel is at least the number of bytes
+unfoldable pub lengthOf : ℕ → ℕ → List ℕ → ℕ
+lengthOf zero k s = 0
+lengthOf (suc fuel) zero s = 0
+lengthOf (suc fuel) (suc k) s = onNode (readNode 20 0 s) (length s) (λ subtrees m. m + lengthOf fuel (k + subtrees) (drop m s))
+
+unfoldable pub treesLength : ℕ → List ℕ → ℕ
+treesLength k s = lengthOf (length s) k s
+
+-- ---- the names of k siblings
+
+unfoldable pub nameOf : List ℕ → List ℕ
+nameOf s = take (before 0 s) s
+
+unfoldable pub restOf : List ℕ → List ℕ
+restOf s = drop (treesLength 1 s) s
+
+unfoldable pub namesOf : ℕ → List ℕ → List (List ℕ)
+namesOf zero s = []
+namesOf (suc k) s = nameOf s ∷ namesOf k (restOf s)
+
+-- whether a name is among others, and whether no two are equal
+unfoldable pub hasName : List ℕ → List (List ℕ) → Bool
+hasName x [] = false
+hasName x (y ∷ l) = cond (eqList x y) true (hasName x l)
+
+unfoldable pub namesDiffer : List (List ℕ) → Bool
+namesDiffer [] = true
+namesDiffer (x ∷ l) = cond (hasName x l) false (namesDiffer l)
+
+-- whether in each of n nodes, one after another, the subtrees differ in name
+unfoldable pub allDiffer : ℕ → List ℕ → Bool
+allDiffer zero s = true
+allDiffer (suc n) s = onNode (readNode 20 0 s) true (λ subtrees m. cond (namesDiffer (namesOf subtrees (drop m s))) (allDiffer n (drop m s)) false)

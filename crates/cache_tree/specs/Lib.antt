@@ -1,0 +1,6 @@
+-- What the crate's contracts cite.
+pub mod Answers
+pub mod Flat
+pub mod Orders
+pub mod Shape
+pub mod Filter

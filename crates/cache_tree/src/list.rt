@@ -1,0 +1,123 @@
+// Lists of siblings. Reading a node means reading its list of subtrees, and each of these is a node: the two readers call each other,
+// one level further down each time.
+use crate::node::NodeRead;
+use crate::node::read_node;
+use fields::find;
+ghost use mathlib.Core.Path.{_≡_};
+ghost use Prim.Native.Nat.{_+_, _-_, _≤_, _<_};
+ghost use lib.ListN.{length, drop};
+ghost use Rattle.format.specs.Layout.{okNodeName};
+ghost use Rattle.format.specs.Reader.{readForest};
+ghost use Rattle.cache_tree.specs.Answers.{readOne, either, listAt};
+
+// The place after a list, its number of nodes in all, and the level of the node that was wanted, 0 where it is not among these.
+pub enum ListRead {
+    Bad,
+    Good { next: usize, nodes: u32, level: u32 },
+}
+
+// Whether a node below the root may have this name: 1 byte or more, and no "/".
+fn name_ok(name: &[u8]) -> bool
+    ensures { λ r. ⌜ r ≡ okNodeName (now (name .entry)) ⌝ }
+{
+    if name.len() == 0 {
+        return false;
+    }
+    find(name, 0, 47) == name.len()
+}
+
+// a less b, 0 at least.
+fn less(a: u32, b: u32) -> u32
+    ensures { λ r. ⌜ r ≡ a - b ⌝ }
+{
+    if a < b {
+        return 0;
+    }
+    a - b
+}
+
+// The first of two that is not 0.
+fn first(a: u32, b: u32) -> u32
+    ensures { λ r. ⌜ r ≡ either a b ⌝ }
+{
+    if a == 0 {
+        return b;
+    }
+    a
+}
+
+// The node at a place and all below it, with at most so many levels. want counts from 1; 0 means none.
+pub fn read_subtree(d: &[u8], at: usize, levels: u32, want: u32) -> ListRead
+    requires { ⌜ (at ≤ length (now d)) × (length (now d) ≤ 16777216) × (levels ≤ 127) ⌝ }
+    ensures { λ r. ⌜ r ≡ listAt at (129 - levels) want (readOne levels (drop at (now (d .entry)))) ⌝ }
+{
+    if levels == 0 {
+        return ListRead::Bad;
+    }
+    let read = read_node(d, at);
+    match read {
+        NodeRead::Bad => ListRead::Bad,
+        NodeRead::Good(node) => {
+            let nul = node.nul;
+            if name_ok(&d[at..nul]) {
+                let below = less(want, 1);
+                let listed = read_list(d, node.next, levels - 1, node.subtrees, below);
+                match listed {
+                    ListRead::Bad => ListRead::Bad,
+                    ListRead::Good { next, nodes, level } => {
+                        if want == 1 {
+                            return ListRead::Good {
+                                next: next,
+                                nodes: nodes + 1,
+                                level: 129 - levels,
+                            };
+                        }
+                        ListRead::Good {
+                            next: next,
+                            nodes: nodes + 1,
+                            level: level,
+                        }
+                    }
+                }
+            } else {
+                ListRead::Bad
+            }
+        }
+    }
+}
+
+// k siblings at a place and all below them, with at most so many levels.
+pub fn read_list(d: &[u8], at: usize, levels: u32, k: u32, want: u32) -> ListRead
+    requires { ⌜ (at ≤ length (now d)) × (length (now d) ≤ 16777216) × (levels ≤ 127) ⌝ }
+    ensures { λ r. ⌜ r ≡ listAt at (129 - levels) want (readForest 20 0 levels k (drop at (now (d .entry)))) ⌝ }
+{
+    let mut place = at;
+    let mut left = k;
+    let mut wanted = want;
+    let mut nodes: u32 = 0;
+    let mut level: u32 = 0;
+    while 0 < left {
+        let read = read_subtree(d, place, levels, wanted);
+        match read {
+            ListRead::Bad => {
+                return ListRead::Bad;
+            }
+            ListRead::Good {
+                next,
+                nodes: n,
+                level: l,
+            } => {
+                place = next;
+                left -= 1;
+                wanted = less(wanted, n);
+                nodes += n;
+                level = first(level, l);
+            }
+        }
+    }
+    ListRead::Good {
+        next: place,
+        nodes: nodes,
+        level: level,
+    }
+}

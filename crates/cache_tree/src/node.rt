@@ -1,0 +1,160 @@
+// One node of the tree: its name, its entry count, its number of subtrees and its object name.
+use crate::number::Number;
+use crate::number::read_number;
+use fields::find;
+ghost use mathlib.Core.Path.{_≡_};
+ghost use Prim.Native.Nat.{_+_, _-_, _≤_, _<_};
+ghost use lib.ListN.{length, drop};
+ghost use Rattle.format.specs.Reader.{countIn, readCount, readSubtrees, readNode};
+ghost use Rattle.cache_tree.specs.Answers.{countTo, countAt, subtreesAt, nodeAt};
+
+// An entry count, 0 where it says "invalid", and the place after it.
+pub enum Count {
+    Bad,
+    Good {
+        valid: bool,
+        count: u32,
+        next: usize,
+    },
+}
+
+// A number of subtrees, and the place after it.
+pub enum Subtrees {
+    Bad,
+    Good { subtrees: u32, next: usize },
+}
+
+// A node: the place of the NUL after its name, its entry count, 0 where that is invalid, its number of subtrees, the place of its
+// 20-byte object name, which is there where the count is valid, and the place after it all.
+pub struct Node {
+    pub nul: usize,
+    pub valid: bool,
+    pub count: u32,
+    pub subtrees: u32,
+    pub object: usize,
+    pub next: usize,
+}
+
+pub enum NodeRead {
+    Bad,
+    Good(Node),
+}
+
+// The entry count that a text says.
+fn count_in(t: &[u8], next: usize) -> Count
+    ensures { λ r. ⌜ r ≡ countTo next (countIn (now (t .entry))) ⌝ }
+{
+    if t.len() == 0 {
+        return Count::Bad;
+    }
+    if t[0] == 45 {
+        let u = &t[1..];
+        let negative = read_number(u, 2147483648);
+        match negative {
+            Number::Bad => {
+                return Count::Bad;
+            }
+            Number::Good(n) => {
+                if n == 0 {
+                    return Count::Bad;
+                }
+                return Count::Good {
+                    valid: false,
+                    count: 0,
+                    next: next,
+                };
+            }
+        }
+    }
+    let number = read_number(t, 2147483647);
+    match number {
+        Number::Bad => Count::Bad,
+        Number::Good(n) => Count::Good {
+            valid: true,
+            count: n,
+            next: next,
+        },
+    }
+}
+
+// The entry count at a place, which a space ends.
+pub fn read_count(d: &[u8], at: usize) -> Count
+    requires { ⌜ at ≤ length (now d) ⌝ }
+    ensures { λ r. ⌜ r ≡ countAt at (readCount 0 (drop at (now (d .entry)))) ⌝ }
+{
+    let e = find(d, at, 32);
+    if e == d.len() {
+        return Count::Bad;
+    }
+    count_in(&d[at..e], e + 1)
+}
+
+// The number of subtrees at a place, which LF ends.
+pub fn read_subtrees(d: &[u8], at: usize) -> Subtrees
+    requires { ⌜ at ≤ length (now d) ⌝ }
+    ensures { λ r. ⌜ r ≡ subtreesAt at (readSubtrees 0 (drop at (now (d .entry)))) ⌝ }
+{
+    let e = find(d, at, 10);
+    if e == d.len() {
+        return Subtrees::Bad;
+    }
+    let number = read_number(&d[at..e], 2147483647);
+    match number {
+        Number::Bad => Subtrees::Bad,
+        Number::Good(n) => Subtrees::Good {
+            subtrees: n,
+            next: e + 1,
+        },
+    }
+}
+
+// The node at a place.
+pub fn read_node(d: &[u8], at: usize) -> NodeRead
+    requires { ⌜ at ≤ length (now d) ⌝ }
+    ensures { λ r. ⌜ r ≡ nodeAt at (readNode 20 0 (drop at (now (d .entry)))) ⌝ }
+{
+    let nul = find(d, at, 0);
+    if nul == d.len() {
+        return NodeRead::Bad;
+    }
+    let counted = read_count(d, nul + 1);
+    match counted {
+        Count::Bad => NodeRead::Bad,
+        Count::Good {
+            valid,
+            count,
+            next: middle,
+        } => {
+            let listed = read_subtrees(d, middle);
+            match listed {
+                Subtrees::Bad => NodeRead::Bad,
+                Subtrees::Good {
+                    subtrees,
+                    next: object,
+                } => {
+                    if valid {
+                        if d.len() - object < 20 {
+                            return NodeRead::Bad;
+                        }
+                        return NodeRead::Good(Node {
+                            nul: nul,
+                            valid: true,
+                            count: count,
+                            subtrees: subtrees,
+                            object: object,
+                            next: object + 20,
+                        });
+                    }
+                    NodeRead::Good(Node {
+                        nul: nul,
+                        valid: false,
+                        count: count,
+                        subtrees: subtrees,
+                        object: object,
+                        next: object,
+                    })
+                }
+            }
+        }
+    }
+}
