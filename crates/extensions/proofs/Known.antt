@@ -1,0 +1,73 @@
+-- An extension of a known kind, from what its data say.
+use mathlib.Core.Path.{_≡_, refl, sym, ap, _∙_}
+use mathlib.Core.List.{List, []}
+use mathlib.Core.Bool.{Bool, true, false, not}
+use Prim.Native.Nat.{ℕ, _+_, _-_, _≤_, _<_}
+use native.Mathlib.Omega.{arith}
+use lib.ListN.{length, drop}
+use Rattle.format.specs.Records.{Undo}
+use Rattle.format.specs.Layout.{Extension, resolveUndo}
+use Rattle.format.specs.Reading.{Read, bad, good, need, shift, bind}
+use Rattle.spelling_extensions.proofs.Answers.{same-size}
+use Rattle.spelling_extensions.proofs.Undo.{read-undos, undos-read}
+use Rattle.resolve_undo.specs.declared.RecordsRead.the-variants as S
+use Rattle.resolve_undo.specs.Answers.{placeOf, recordsRead}
+use Rattle.resolve_undo.proofs.Showing.{read-item}
+use Rattle.extensions.specs.declared.TreePlace.{TreePlace}
+use Rattle.extensions.specs.declared.Found.{Found}
+use Rattle.extensions.specs.declared.One.the-variants as O
+use Rattle.extensions.specs.Heads.{part, undosIn, known, Inside}
+use Rattle.extensions.specs.Found.{UndoIs}
+use Rattle.extensions.specs.Steps.{Answered}
+use Rattle.extensions.proofs.Heads.{part-length}
+use Rattle.extensions.proofs.Faults.{Faults, undos-faults}
+
+module _ {A : Type 0} (p : ℕ) (x : Read A) (kind : A → Extension) where
+  pub known-seen : (seen : Bool) → seen ≡ true → known seen p x kind ≡ bad 14 p
+  unfolding known need shift
+  known-seen seen e = rw e
+
+  module _ (seen : Bool) (new : seen ≡ false) where
+    pub known-bad : (n : ℕ) → x ≡ bad n p → known seen p x kind ≡ bad n p
+    unfolding known need shift bind
+    known-bad n e = rw (new, e)
+
+    pub known-good : (a : A) (m : ℕ) → x ≡ good a m → known seen p x kind ≡ good (kind a) (8 + m)
+    unfolding known need shift bind
+    known-good a m e = rw (new, e) (same-size (omega arith))
+
+-- ---- resolve undo
+
+records-inv {ℓ} : {X : Type ℓ} (want count place at : ℕ) (r : Read (List Undo)) → S.Good count place ≡ recordsRead want at r
+    → ((us : List Undo) (k : ℕ) → r ≡ good us k → X) → X
+records-inv want count place at (bad n p) e f = let z : _≡_ {A = ℕ} 0 1 = cc in absurd (omega arith)
+records-inv want count place at (good us k) e f = f us k refl
+
+records-fault : (want place p : ℕ) (r : Read (List Undo)) → Faults 17 p r → S.Bad ≡ recordsRead want place r → r ≡ bad 17 p
+records-fault want place p (bad n q) h e = h .only n q refl
+records-fault want place p (good us k) h e = let z : _≡_ {A = ℕ} 0 1 = cc in absurd (omega arith)
+
+module _ (want : ℕ) (b : List ℕ) (at end : ℕ) (inside : Inside b at end) (found : Found) (new : found .undo .there ≡ false) where
+  pub undo-refused : ((p : ℕ) → S.Bad ≡ recordsRead want (placeOf 20 p want [] (part b (at + 8) end)) (undosIn p (part b (at + 8) end)))
+      → known (found .undo .there) at (undosIn at (part b (at + 8) end)) resolveUndo ≡ bad 17 at
+  undo-refused e = known-bad at _ resolveUndo _ new 17 (records-fault want _ at _ (undos-faults 20 at _ [] (part b (at + 8) end)) (e at))
+
+  pub undo-added : (wn count place : ℕ)
+      → ((p : ℕ) → S.Good count place ≡ recordsRead want (placeOf 20 p want [] (part b (at + 8) end)) (undosIn p (part b (at + 8) end)))
+      → Answered wn want b at found (known (found .undo .there) at (undosIn at (part b (at + 8) end)) resolveUndo)
+      (O.Good end (record { tree = found .tree; undo = record { there = true; at = at + 8; end = end; records = count; «record_at» = place } }))
+  undo-added wn count place e =
+      let d : List ℕ = part b (at + 8) end in
+      records-inv want count place _ (undosIn at d) (e at) λ us k q.
+      let l = part-length b (at + 8) end (inside .0) (inside .1) in
+      let h = undos-read 20 at (length d) [] d us k q in
+      let zero : undosIn 0 d ≡ good us (length d) = read-undos 20 0 (length d) (h .1) (omega arith) in
+      let item = read-item 0 want count place d us (length d) zero (e 0) in (
+        resolveUndo us,
+        known-good at _ resolveUndo _ new us k q ∙ same-size (omega arith),
+        (
+          new,
+          record { there = refl; order = inside .0; inside = inside .1; reads = zero; records = item .0; wanted = λ more. item .1 (omega arith) },
+          refl,
+        ),
+      )

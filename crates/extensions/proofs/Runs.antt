@@ -1,0 +1,155 @@
+-- The extensions one after another: those that have been read stand in front of the rest.
+use mathlib.Core.Path.{_≡_, refl, sym, ap, _∙_}
+use mathlib.Core.List.{List, [], _∷_, _++_, append-assoc, append-nil}
+use mathlib.Core.Bool.{true, false}
+use mathlib.Core.Option.{Option, none, some}
+use Prim.Native.Nat.{ℕ, _+_, _-_, _≤_, _<_}
+use native.Mathlib.Omega.{arith}
+use lib.ListN.{length, drop, length-drop, drop-of-length-le}
+use lib.Seq.{drop-drop}
+use Rattle.format.specs.Records.{Tree, Undo}
+use Rattle.format.specs.Layout.{Extension, cacheTree, resolveUndo, other, trees, undos}
+use Rattle.format.specs.Reading.{Read, bad, good, shift, bind}
+use Rattle.format.specs.Reader.{Seen, noneSeen, alsoSeen, readExtension, first}
+use Rattle.spelling_entries.proofs.Reading.{false-true}
+use Rattle.spelling_extensions.proofs.Answers.{same-size, none-some}
+use Rattle.spelling_extensions.proofs.Extensions.{extensionsOf, extensionsOf-end, extensionsOf-step}
+use Rattle.extensions.specs.declared.TreePlace.{TreePlace}
+use Rattle.extensions.specs.declared.UndoPlace.{UndoPlace}
+use Rattle.extensions.specs.declared.Found.{Found}
+use Rattle.extensions.specs.Heads.{Inside}
+use Rattle.extensions.specs.Found.{TreeIs, TreeFound, UndoIs, UndoFound, nothing, seenOf}
+use Rattle.extensions.specs.Steps.{Added}
+
+-- ---- the trees and the resolve-undo lists of two lists of extensions
+
+trees-append : (xs ys : List Extension) → trees (xs ++ ys) ≡ trees xs ++ trees ys
+unfolding trees
+trees-append [] ys = refl
+trees-append (cacheTree t ∷ xs) ys = ap (λ l. t ∷ l) (trees-append xs ys)
+trees-append (resolveUndo us ∷ xs) ys = trees-append xs ys
+trees-append (other s d ∷ xs) ys = trees-append xs ys
+
+undos-append : (xs ys : List Extension) → undos (xs ++ ys) ≡ undos xs ++ undos ys
+unfolding undos
+undos-append [] ys = refl
+undos-append (cacheTree t ∷ xs) ys = undos-append xs ys
+undos-append (resolveUndo us ∷ xs) ys = ap (λ l. us ∷ l) (undos-append xs ys)
+undos-append (other s d ∷ xs) ys = undos-append xs ys
+
+first-last : {A : Type 0} (l : List A) (a : A) → first l ≡ none → first (l ++ (a ∷ [])) ≡ some a
+first-last [] a e = refl
+first-last (b ∷ l) a e = none-some (sym e)
+
+-- ---- what was found, with one extension more
+
+module _ (wn wr : ℕ) (b : List ℕ) (found f : Found) where
+  seen-added : (e : Extension) → Added wn wr b found f e → seenOf f ≡ alsoSeen e (seenOf found)
+  seen-added (cacheTree t) (new, is, same) = rw (same, is .there)
+  seen-added (resolveUndo us) (new, is, same) = rw (same, is .there)
+  seen-added (other s d) same = rw same
+
+  no-tree : (o : Option Tree) → TreeFound wn b o (found .tree) → found .tree .there ≡ false → o ≡ none
+  no-tree none h e = refl
+  no-tree (some t) h e = false-true (sym e ∙ h .there)
+
+  no-undo : (o : Option (List Undo)) → UndoFound wr b o (found .undo) → found .undo .there ≡ false → o ≡ none
+  no-undo none h e = refl
+  no-undo (some us) h e = false-true (sym e ∙ h .there)
+
+  module _ (xs : List Extension) where
+    tree-found : (e : Extension) → TreeFound wn b (first (trees xs)) (found .tree) → Added wn wr b found f e → TreeFound wn b (first (trees (xs ++ (e ∷ [])))) (f .tree)
+    unfolding trees
+    tree-found (cacheTree t) h (new, is, same) = rw (trees-append xs (cacheTree t ∷ []), first-last (trees xs) t (no-tree (first (trees xs)) h new)) is
+    tree-found (resolveUndo us) h (new, is, same) = rw (trees-append xs (resolveUndo us ∷ []), append-nil (trees xs), same) h
+    tree-found (other s d) h same = rw (trees-append xs (other s d ∷ []), append-nil (trees xs), same) h
+
+    undo-found : (e : Extension) → UndoFound wr b (first (undos xs)) (found .undo) → Added wn wr b found f e → UndoFound wr b (first (undos (xs ++ (e ∷ [])))) (f .undo)
+    unfolding undos
+    undo-found (cacheTree t) h (new, is, same) = rw (undos-append xs (cacheTree t ∷ []), append-nil (undos xs), same) h
+    undo-found (resolveUndo us) h (new, is, same) = rw (undos-append xs (resolveUndo us ∷ []), first-last (undos xs) us (no-undo (first (undos xs)) h new)) is
+    undo-found (other s d) h same = rw (undos-append xs (other s d ∷ []), append-nil (undos xs), same) h
+
+-- ---- one reading after another
+
+-- xs, which took n bytes, in front of an answer
+abbrev pub inFront : List Extension → ℕ → Read (List Extension) → Read (List Extension)
+inFront xs n (bad m p) = bad m p
+inFront xs n (good ys k) = good (xs ++ ys) (n + k)
+
+front-none : (r : Read (List Extension)) → r ≡ inFront [] 0 r
+front-none (bad m p) = refl
+front-none (good ys k) = same-size (omega arith)
+
+front-front : (xs ys : List Extension) (m n : ℕ) (r : Read (List Extension)) → inFront xs m (inFront ys n r) ≡ inFront (xs ++ ys) (m + n) r
+front-front xs ys m n (bad a p) = refl
+front-front xs ys m n (good zs k) = let sum : m + (n + k) ≡ m + n + k = omega arith in rw (append-assoc xs ys zs, sum)
+
+front-one : (x : Extension) (m : ℕ) (r : Read (List Extension)) → shift m (bind r (λ xs n. good (x ∷ xs) 0)) ≡ inFront (x ∷ []) m r
+unfolding bind shift
+front-one x m (bad n p) = refl
+front-one x m (good xs k) = same-size (omega arith)
+
+module _ (ns : List (List ℕ)) (k : Seen) (p : ℕ) (s : List ℕ) (some : 1 ≤ length s) where
+  step-bad : (n q : ℕ) → readExtension 20 ns k p s ≡ bad n q → extensionsOf 20 ns k p s ≡ bad n q
+  unfolding bind
+  step-bad n q e = extensionsOf-step 20 ns k p s some ∙ rw e
+
+  step-good : (x : Extension) (m : ℕ) → readExtension 20 ns k p s ≡ good x m
+      → extensionsOf 20 ns k p s ≡ inFront (x ∷ []) m (extensionsOf 20 ns (alsoSeen x k) (p + m) (drop m s))
+  unfolding bind
+  step-good x m e = extensionsOf-step 20 ns k p s some ∙ rw e (front-one x m (extensionsOf 20 ns (alsoSeen x k) (p + m) (drop m s)))
+
+-- ---- the loop
+
+-- found is what the extensions from at to place have
+pub record Behind (wn wr : ℕ) (b : List ℕ) (ns : List (List ℕ)) (at place : ℕ) (found : Found) : Type 0 where
+  pub list : List Extension
+  pub order : at ≤ place
+  pub whole : extensionsOf 20 ns noneSeen at (drop at b) ≡ inFront list (place - at) (extensionsOf 20 ns (seenOf found) place (drop place b))
+  pub tree : TreeFound wn b (first (trees list)) (found .tree)
+  pub undo : UndoFound wr b (first (undos list)) (found .undo)
+
+module _ (wn wr : ℕ) (b : List ℕ) (ns : List (List ℕ)) (at : ℕ) where
+  pub behind-none : Behind wn wr b ns at at nothing
+  unfolding trees undos
+  behind-none =
+      let none : at - at ≡ 0 = omega arith in
+      record { list = []; order = omega arith; whole = rw none (front-none _); tree = refl; undo = refl }
+
+  module _ (place : ℕ) (found : Found) (h : Behind wn wr b ns at place found) where
+    pub behind-end : length b ≤ place → place ≤ length b → extensionsOf 20 ns noneSeen at (drop at b) ≡ good (h .list) (length b - at)
+    behind-end end inside =
+        let o = h .order in
+        let size : place - at + 0 ≡ length b - at = omega arith in
+        h .whole ∙ rw (drop-of-length-le b end, extensionsOf-end, append-nil (h .list), size)
+
+    module _ (more : place < length b) where
+      left : 1 ≤ length (drop place b)
+      left = let l = length-drop place b in omega arith
+
+      pub behind-bad : (n : ℕ) → readExtension 20 ns (seenOf found) place (drop place b) ≡ bad n place → extensionsOf 20 ns noneSeen at (drop at b) ≡ bad n place
+      behind-bad n e = h .whole ∙ rw (step-bad ns (seenOf found) place (drop place b) left n place e)
+
+      pub behind-more : (next : ℕ) (f : Found) (e : Extension) → Inside b place next → readExtension 20 ns (seenOf found) place (drop place b) ≡ good e (next - place)
+          → Added wn wr b found f e → Behind wn wr b ns at next f
+      behind-more next f e inside reads added =
+          let o = h .order in
+          let there : place + (next - place) ≡ next = omega arith in
+          let size : place - at + (next - place) ≡ next - at = omega arith in
+          record {
+            list = h .list ++ (e ∷ []);
+            order = omega arith;
+            whole =
+                h .whole
+                ∙ rw (
+                  step-good ns (seenOf found) place (drop place b) left e (next - place) reads,
+                  ← (seen-added wn wr b found f e added),
+                  drop-drop (next - place) place b,
+                  there,
+                  front-front (h .list) (e ∷ []) (place - at) (next - place),
+                  size,
+                );
+            tree = tree-found wn wr b found f (h .list) e (h .tree) added;
+            undo = undo-found wn wr b found f (h .list) e (h .undo) added;
+          }

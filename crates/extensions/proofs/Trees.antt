@@ -1,0 +1,95 @@
+-- The cache-tree extension, from the reading of its data and the test of its counts.
+use mathlib.Core.Path.{_≡_, refl, sym, ap, _∙_}
+use mathlib.Core.List.{List}
+use mathlib.Core.Bool.{Bool, true, false, cond}
+use Prim.Native.Nat.{ℕ, suc, _+_, _-_}
+use native.Mathlib.Omega.{arith}
+use lib.ListN.{length}
+use lib.Dec.{eqb, ltb}
+use borrow.Author.Tests.{eqb-true}
+use Rattle.format.specs.Records.{Tree, treeItems}
+use Rattle.format.specs.Layout.{Extension, cacheTree, distinct, okTreeCounts}
+use Rattle.format.specs.Reading.{Read, bad, good, need, shift, bind}
+use Rattle.format.specs.Reader.{readNodes, readTree}
+use Rattle.spelling_entries.proofs.Reading.{good-inv, need-inv, bind-inv}
+use Rattle.spelling_extensions.proofs.Answers.{same-size}
+use Rattle.cache_tree.specs.declared.TreeRead.the-variants as T
+use Rattle.cache_tree.specs.Answers.{levelIn}
+use Rattle.cache_tree.specs.Flat.{placeOf}
+use Rattle.cache_tree.specs.Shape.{readShape, treeOf, placed}
+use Rattle.cache_tree.proofs.Shape.{tree-counts}
+use Rattle.cache_tree.proofs.Faults.{shape-placed, tree-fault}
+use Rattle.extensions.specs.declared.Found.{Found}
+use Rattle.extensions.specs.declared.One.the-variants as O
+use Rattle.extensions.specs.Heads.{part, known, Inside}
+use Rattle.extensions.specs.Found.{TreeIs}
+use Rattle.extensions.specs.Steps.{Answered}
+use Rattle.extensions.proofs.Heads.{part-length}
+use Rattle.extensions.proofs.Known.{known-bad, known-good}
+
+-- what the data have been tested for
+shape-inv {ℓ} : {X : Type ℓ} (d : List ℕ) (t : Tree) (m : ℕ) → readShape 20 0 d ≡ good t m
+    → (m ≡ length d → readNodes 20 0 d ≡ good t (length d) → distinct (t .subtrees) ≡ true → X) → X
+unfolding readShape
+shape-inv d t m e f =
+    bind-inv (readNodes 20 0 d) _ _ _ e λ u i j nodes q size.
+    need-inv _ _ _ _ _ _ q λ whole q₁.
+    need-inv _ _ _ _ _ _ q₁ λ differ q₂.
+    good-inv _ _ _ _ q₂ λ is none.
+    let all : i ≡ length d = eqb-true _ _ whole in
+    f (omega arith) (nodes ∙ cc) (rw is at differ)
+
+tree-inv {ℓ} : {X : Type ℓ} (want : ℕ) (d : List ℕ) (n place level : ℕ) (r : Read Tree) → T.Good n place level ≡ treeOf want d r
+    → ((t : Tree) (m : ℕ) → r ≡ good t m → n ≡ length (treeItems t) → place ≡ cond (ltb want (length (treeItems t))) (placeOf want d) 0 → level ≡ levelIn (suc want) (treeItems t) → X)
+    → X
+unfolding treeOf
+tree-inv want d n place level (bad a p) e f = let z : _≡_ {A = ℕ} 0 1 = cc in absurd (omega arith)
+tree-inv want d n place level (good t m) e f = f t m refl (cc) (cc) (cc)
+
+-- the same reading at another place, and the test of the counts
+shape-at : (p : ℕ) (d : List ℕ) (t : Tree) (m : ℕ) → readShape 20 0 d ≡ good t m → readShape 20 p d ≡ good t m
+shape-at p d t m e = shape-placed p 20 d ∙ ap (placed p) e
+
+tree-read : (ns : List (List ℕ)) (p : ℕ) (d : List ℕ) (t : Tree) (m : ℕ) → readShape 20 0 d ≡ good t m → readTree 20 ns p d ≡ shift m (need (okTreeCounts ns t) 16 p (good t 0))
+unfolding bind
+tree-read ns p d t m e = tree-counts 20 ns p d ∙ rw (shape-at p d t m e)
+
+module _ (want wr : ℕ) (b : List ℕ) (at end : ℕ) (inside : Inside b at end) (found : Found) (new : found .tree .there ≡ false) (ns : List (List ℕ)) where
+  pub tree-refused : ((p : ℕ) → T.Bad ≡ treeOf want (part b (at + 8) end) (readShape 20 p (part b (at + 8) end)))
+      → known (found .tree .there) at (readTree 20 ns at (part b (at + 8) end)) cacheTree ≡ bad 15 at
+  unfolding bind
+  tree-refused e =
+      let d : List ℕ = part b (at + 8) end in
+      known-bad at _ cacheTree _ new 15 (tree-counts 20 ns at d ∙ rw (tree-fault want at d (e at)))
+
+  -- counted is what the test of the counts says of the tree in the data
+  module _ (n place level : ℕ) (counted : Bool) (e : (p : ℕ) → T.Good n place level ≡ treeOf want (part b (at + 8) end) (readShape 20 p (part b (at + 8) end)))
+      (test : (t : Tree) (m : ℕ) → readNodes 20 0 (part b (at + 8) end) ≡ good t m → m ≡ length (part b (at + 8) end) → distinct (t .subtrees) ≡ true → counted ≡ okTreeCounts ns t) where
+    pub tree-miscounted : counted ≡ false → known (found .tree .there) at (readTree 20 ns at (part b (at + 8) end)) cacheTree ≡ bad 16 at
+    unfolding shift need
+    tree-miscounted wrong =
+        let d : List ℕ = part b (at + 8) end in
+        tree-inv want d n place level (readShape 20 0 d) (e 0) λ t m q number place-is level-is.
+        shape-inv d t m q λ size nodes differ.
+        let miscounts : okTreeCounts ns t ≡ false = sym (test t _ nodes refl differ) ∙ wrong in
+        known-bad at _ cacheTree _ new 16 (tree-read ns at d t m q ∙ rw miscounts)
+
+    pub tree-added : counted ≡ true
+        → Answered want wr b at found (known (found .tree .there) at (readTree 20 ns at (part b (at + 8) end)) cacheTree)
+        (O.Good end (record { tree = record { there = true; at = at + 8; end = end; nodes = n; node = place; level = level }; undo = found .undo }))
+    unfolding shift need
+    tree-added right =
+        let d : List ℕ = part b (at + 8) end in
+        tree-inv want d n place level (readShape 20 0 d) (e 0) λ t m q number place-is level-is.
+        shape-inv d t m q λ size nodes differ.
+        let l = part-length b (at + 8) end (inside .0) (inside .1) in
+        let counts : okTreeCounts ns t ≡ true = sym (test t _ nodes refl differ) ∙ right in
+        let reads : readTree 20 ns at d ≡ good t (m + 0) = tree-read ns at d t m q ∙ rw counts in (
+          cacheTree t,
+          known-good at _ cacheTree _ new t (m + 0) reads ∙ same-size (omega arith),
+          (
+            new,
+            record { there = refl; order = inside .0; inside = inside .1; reads = nodes; nodes = number; node = place-is; level = level-is },
+            refl,
+          ),
+        )

@@ -1,0 +1,33 @@
+-- One extension and all of them: what the code answers, against what the reader answers. b is the body, work the workspace.
+use mathlib.Core.Path.{_≡_}
+use mathlib.Core.List.{List}
+use mathlib.Core.Bool.{false}
+use Prim.Native.Nat.{ℕ, _-_}
+use lib.ListN.{length, drop}
+use Rattle.format.specs.Records.{Entry, start}
+use Rattle.format.specs.Layout.{Extension, cacheTree, resolveUndo, other, trees, undos, names}
+use Rattle.format.specs.Reading.{Read, bad, good}
+use Rattle.format.specs.Reader.{noneSeen, readEntries, readExtension, readExtensions, first}
+use Rattle.extensions.specs.declared.Found.{Found}
+use Rattle.extensions.specs.declared.One.{One}
+use Rattle.extensions.specs.declared.One.the-variants as O
+use Rattle.extensions.specs.Heads.{Inside}
+use Rattle.extensions.specs.Found.{TreeIs, TreeFound, UndoIs, UndoFound, seenOf}
+
+-- ---- one extension. wn is the number of the node that is wanted, wr that of the record
+
+-- f is what was found, and this extension besides
+abbrev pub Added : ℕ → ℕ → List ℕ → Found → Found → Extension → Type 0
+Added wn wr b found f (cacheTree t) = (found .tree .there ≡ false) × TreeIs wn b t (f .tree) × (f .undo ≡ found .undo)
+Added wn wr b found f (resolveUndo us) = (found .undo .there ≡ false) × UndoIs wr b us (f .undo) × (f .tree ≡ found .tree)
+Added wn wr b found f (other s d) = f ≡ found
+
+-- the reading x of the extension at a place, answered
+abbrev pub Answered : ℕ → ℕ → List ℕ → ℕ → Found → Read Extension → One → Type 0
+Answered wn wr b at found x (O.Bad n) = x ≡ bad n at
+Answered wn wr b at found x (O.Good next f) = (e : Extension) × (x ≡ good e (next - at)) × Added wn wr b found f e
+
+-- the place after it is in the body
+abbrev pub OneInside : List ℕ → ℕ → One → Type 0
+OneInside b at (O.Bad n) = Unit
+OneInside b at (O.Good next f) = Inside b at next

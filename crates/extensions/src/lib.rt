@@ -1,0 +1,130 @@
+// All extensions of a body: which there are, where the data of the known ones stand, or the first refusal.
+ghost use mathlib.Core.Path.{_≡_};
+ghost use Prim.Native.Nat.{ℕ, _+_, _≤_};
+ghost use lib.ListN.{length};
+ghost use Rattle.format.specs.Layout.{resolveUndo};
+ghost use Rattle.extensions.specs.Heads.{part, undosIn, known, Headed, Inside};
+ghost use Rattle.extensions.specs.Found.{nothing, seenOf};
+ghost use Rattle.extensions.specs.Steps.{Answered, OneInside};
+use resolve_undo::RecordsRead;
+
+// The place after an extension's data, by its kind, or a refusal's number.
+pub enum Head {
+    Bad(u32),
+    Tree(usize),
+    Undo(usize),
+    Other(usize),
+}
+
+// Whether there is a cache tree, where its data stand in the body, how many nodes it has, and the node that was wanted: its place in
+// the data and its level, 0 where there are fewer nodes.
+pub struct TreePlace {
+    pub there: bool,
+    pub at: usize,
+    pub end: usize,
+    pub nodes: u32,
+    pub node: usize,
+    pub level: u32,
+}
+
+// The same of the resolve-undo records.
+pub struct UndoPlace {
+    pub there: bool,
+    pub at: usize,
+    pub end: usize,
+    pub records: u32,
+    pub record_at: usize,
+}
+
+// What was found so far.
+pub struct Found {
+    pub tree: TreePlace,
+    pub undo: UndoPlace,
+}
+
+// One extension: a refusal's number, or the place after it and what has been found with it.
+pub enum One {
+    Bad(u32),
+    Good(usize, Found),
+}
+
+// The signature and the size of the extension at a place. The data begin 8 bytes further on.
+fn read_head(b: &[u8], at: usize) -> Head
+    requires { ⌜ at ≤ length (now b) ⌝ }
+    ensures { λ r. ⌜ Headed (now (b .entry)) at r ⌝ }
+{
+    let left = b.len() - at;
+    if left < 8 {
+        return Head::Bad(12);
+    }
+    let sized = at + 4;
+    let size = fields::read32(b, sized) as usize;
+    if left - 8 < size {
+        return Head::Bad(12);
+    }
+    if b[at] < 65 {
+        return Head::Bad(13);
+    }
+    if 90 < b[at] {
+        return Head::Bad(13);
+    }
+    let end = sized + 4 + size;
+    if fields::same(&b[at..sized], b"TREE") {
+        return Head::Tree(end);
+    }
+    if fields::same(&b[at..sized], b"REUC") {
+        return Head::Undo(end);
+    }
+    Head::Other(end)
+}
+
+fn none_found() -> Found
+    ensures { λ r. ⌜ r ≡ nothing ⌝ }
+{
+    Found {
+        tree: TreePlace {
+            there: false,
+            at: 0,
+            end: 0,
+            nodes: 0,
+            node: 0,
+            level: 0,
+        },
+        undo: UndoPlace {
+            there: false,
+            at: 0,
+            end: 0,
+            records: 0,
+            record_at: 0,
+        },
+    }
+}
+
+// The resolve-undo extension at a place, whose data end at end.
+fn add_undo(b: &[u8], at: usize, end: usize, found: Found, want: u32) -> One
+    requires { ⌜ Inside (now b) at end × (length (now b) ≤ 16777216) ⌝ }
+    ensures { λ r. ⌜ ((wn : ℕ) → Answered wn want (now (b .entry)) at found (known (found .undo .there) at (undosIn at (part (now (b .entry)) (at + 8) end)) resolveUndo) r) × OneInside (now (b .entry)) at r ⌝ }
+{
+    if found.undo.there {
+        return One::Bad(14);
+    }
+    let tree = found.tree;
+    let from = at + 8;
+    let read = resolve_undo::read_undos(&b[from..end], want);
+    match read {
+        RecordsRead::Bad => One::Bad(17),
+        RecordsRead::Good(records, place) => One::Good(
+            end,
+            Found {
+                tree: tree,
+                undo: UndoPlace {
+                    there: true,
+                    at: from,
+                    end: end,
+                    records: records,
+                    record_at: place,
+                },
+            },
+        ),
+    }
+}
