@@ -1,7 +1,7 @@
 -- The tests of an extension's head, one after another.
-use mathlib.Core.Path.{_≡_, refl, sym, ap, _∙_}
+use mathlib.Core.Path.{_≡_, sym, _∙_}
 use mathlib.Core.List.{List}
-use mathlib.Core.Bool.{Bool, true, false, cond, not, _&&_}
+use mathlib.Core.Bool.{Bool, true, false}
 use Prim.Native.Nat.{ℕ, _+_, _-_, _≤_, _<_}
 use native.Mathlib.Omega.{arith}
 use lib.ListN.{length, take, drop, getD, length-drop}
@@ -9,8 +9,8 @@ use lib.Seq.{drop-drop, getD-drop, length-take-le}
 use lib.Dec.{leb}
 use borrow.Author.Tests.{le-leb, lt-leb}
 use Rattle.format.specs.Bytes.{be32, eqList}
-use Rattle.format.specs.Layout.{TREE, REUC, Extension, cacheTree, resolveUndo, other, optional}
-use Rattle.format.specs.Reading.{Read, bad, good, need, shift, bind}
+use Rattle.format.specs.Layout.{TREE, REUC, cacheTree, resolveUndo, other, optional}
+use Rattle.format.specs.Reading.{bad, good, need, shift}
 use Rattle.format.specs.Reader.{Seen, readTree, readData, readExtension}
 use Rattle.fields.proofs.Laws.{be32-drop}
 use Rattle.spelling_extensions.proofs.Answers.{same-size}

@@ -1,10 +1,10 @@
 -- An extension of a known kind, from what its data say.
-use mathlib.Core.Path.{_≡_, refl, sym, ap, _∙_}
+use mathlib.Core.Path.{_≡_, refl, _∙_}
 use mathlib.Core.List.{List, []}
-use mathlib.Core.Bool.{Bool, true, false, not}
-use Prim.Native.Nat.{ℕ, _+_, _-_, _≤_, _<_}
+use mathlib.Core.Bool.{Bool, true, false}
+use Prim.Native.Nat.{ℕ, _+_}
 use native.Mathlib.Omega.{arith}
-use lib.ListN.{length, drop}
+use lib.ListN.{length}
 use Rattle.format.specs.Records.{Undo}
 use Rattle.format.specs.Layout.{Extension, resolveUndo}
 use Rattle.format.specs.Reading.{Read, bad, good, need, shift, bind}
@@ -13,11 +13,10 @@ use Rattle.spelling_extensions.proofs.Undo.{read-undos, undos-read}
 use Rattle.resolve_undo.specs.declared.RecordsRead.the-variants as S
 use Rattle.resolve_undo.specs.Answers.{placeOf, recordsRead}
 use Rattle.resolve_undo.proofs.Showing.{read-item}
-use Rattle.extensions.specs.declared.TreePlace.{TreePlace}
 use Rattle.extensions.specs.declared.Found.{Found}
+use Rattle.extensions.specs.declared.One.{One}
 use Rattle.extensions.specs.declared.One.the-variants as O
 use Rattle.extensions.specs.Heads.{part, undosIn, known, Inside}
-use Rattle.extensions.specs.Found.{UndoIs}
 use Rattle.extensions.specs.Steps.{Answered}
 use Rattle.extensions.proofs.Heads.{part-length}
 use Rattle.extensions.proofs.Faults.{Faults, undos-faults}
@@ -35,6 +34,10 @@ module _ {A : Type 0} (p : ℕ) (x : Read A) (kind : A → Extension) where
     pub known-good : (a : A) (m : ℕ) → x ≡ good a m → known seen p x kind ≡ good (kind a) (8 + m)
     unfolding known need shift bind
     known-good a m e = rw (new, e) (same-size (omega arith))
+
+-- what is answered of a reading is answered of one that is equal to it
+pub answered-as : (wn wr : ℕ) (b : List ℕ) (at : ℕ) (found : Found) {x y : Read Extension} (r : One) → x ≡ y → Answered wn wr b at found y r → Answered wn wr b at found x r
+answered-as wn wr b at found r e h = rw e h
 
 -- ---- resolve undo
 

@@ -1,7 +1,7 @@
 -- The extensions one after another: those that have been read stand in front of the rest.
 use mathlib.Core.Path.{_≡_, refl, sym, ap, _∙_}
 use mathlib.Core.List.{List, [], _∷_, _++_, append-assoc, append-nil}
-use mathlib.Core.Bool.{true, false}
+use mathlib.Core.Bool.{false}
 use mathlib.Core.Option.{Option, none, some}
 use Prim.Native.Nat.{ℕ, _+_, _-_, _≤_, _<_}
 use native.Mathlib.Omega.{arith}
@@ -14,11 +14,9 @@ use Rattle.format.specs.Reader.{Seen, noneSeen, alsoSeen, readExtension, first}
 use Rattle.spelling_entries.proofs.Reading.{false-true}
 use Rattle.spelling_extensions.proofs.Answers.{same-size, none-some}
 use Rattle.spelling_extensions.proofs.Extensions.{extensionsOf, extensionsOf-end, extensionsOf-step}
-use Rattle.extensions.specs.declared.TreePlace.{TreePlace}
-use Rattle.extensions.specs.declared.UndoPlace.{UndoPlace}
 use Rattle.extensions.specs.declared.Found.{Found}
 use Rattle.extensions.specs.Heads.{Inside}
-use Rattle.extensions.specs.Found.{TreeIs, TreeFound, UndoIs, UndoFound, nothing, seenOf}
+use Rattle.extensions.specs.Found.{TreeFound, UndoFound, nothing, seenOf}
 use Rattle.extensions.specs.Steps.{Added}
 
 -- ---- the trees and the resolve-undo lists of two lists of extensions

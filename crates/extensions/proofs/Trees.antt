@@ -2,13 +2,13 @@
 use mathlib.Core.Path.{_≡_, refl, sym, ap, _∙_}
 use mathlib.Core.List.{List}
 use mathlib.Core.Bool.{Bool, true, false, cond}
-use Prim.Native.Nat.{ℕ, suc, _+_, _-_}
+use Prim.Native.Nat.{ℕ, suc, _+_}
 use native.Mathlib.Omega.{arith}
 use lib.ListN.{length}
-use lib.Dec.{eqb, ltb}
+use lib.Dec.{ltb}
 use borrow.Author.Tests.{eqb-true}
 use Rattle.format.specs.Records.{Tree, treeItems}
-use Rattle.format.specs.Layout.{Extension, cacheTree, distinct, okTreeCounts}
+use Rattle.format.specs.Layout.{cacheTree, distinct, okTreeCounts}
 use Rattle.format.specs.Reading.{Read, bad, good, need, shift, bind}
 use Rattle.format.specs.Reader.{readNodes, readTree}
 use Rattle.spelling_entries.proofs.Reading.{good-inv, need-inv, bind-inv}
@@ -22,7 +22,6 @@ use Rattle.cache_tree.proofs.Faults.{shape-placed, tree-fault}
 use Rattle.extensions.specs.declared.Found.{Found}
 use Rattle.extensions.specs.declared.One.the-variants as O
 use Rattle.extensions.specs.Heads.{part, known, Inside}
-use Rattle.extensions.specs.Found.{TreeIs}
 use Rattle.extensions.specs.Steps.{Answered}
 use Rattle.extensions.proofs.Heads.{part-length}
 use Rattle.extensions.proofs.Known.{known-bad, known-good}
@@ -64,14 +63,14 @@ module _ (want wr : ℕ) (b : List ℕ) (at end : ℕ) (inside : Inside b at end
 
   -- counted is what the test of the counts says of the tree in the data
   module _ (n place level : ℕ) (counted : Bool) (e : (p : ℕ) → T.Good n place level ≡ treeOf want (part b (at + 8) end) (readShape 20 p (part b (at + 8) end)))
-      (test : (t : Tree) (m : ℕ) → readNodes 20 0 (part b (at + 8) end) ≡ good t m → m ≡ length (part b (at + 8) end) → distinct (t .subtrees) ≡ true → counted ≡ okTreeCounts ns t) where
+      (test : (t : Tree) (m : ℕ) → readNodes 20 0 (part b (at + 8) end) ≡ good t m → distinct (t .subtrees) ≡ true → counted ≡ okTreeCounts ns t) where
     pub tree-miscounted : counted ≡ false → known (found .tree .there) at (readTree 20 ns at (part b (at + 8) end)) cacheTree ≡ bad 16 at
     unfolding shift need
     tree-miscounted wrong =
         let d : List ℕ = part b (at + 8) end in
         tree-inv want d n place level (readShape 20 0 d) (e 0) λ t m q number place-is level-is.
         shape-inv d t m q λ size nodes differ.
-        let miscounts : okTreeCounts ns t ≡ false = sym (test t _ nodes refl differ) ∙ wrong in
+        let miscounts : okTreeCounts ns t ≡ false = sym (test t _ nodes differ) ∙ wrong in
         known-bad at _ cacheTree _ new 16 (tree-read ns at d t m q ∙ rw miscounts)
 
     pub tree-added : counted ≡ true
@@ -83,7 +82,7 @@ module _ (want wr : ℕ) (b : List ℕ) (at end : ℕ) (inside : Inside b at end
         tree-inv want d n place level (readShape 20 0 d) (e 0) λ t m q number place-is level-is.
         shape-inv d t m q λ size nodes differ.
         let l = part-length b (at + 8) end (inside .0) (inside .1) in
-        let counts : okTreeCounts ns t ≡ true = sym (test t _ nodes refl differ) ∙ right in
+        let counts : okTreeCounts ns t ≡ true = sym (test t _ nodes differ) ∙ right in
         let reads : readTree 20 ns at d ≡ good t (m + 0) = tree-read ns at d t m q ∙ rw counts in (
           cacheTree t,
           known-good at _ cacheTree _ new t (m + 0) reads ∙ same-size (omega arith),

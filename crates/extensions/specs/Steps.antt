@@ -7,12 +7,14 @@ use lib.ListN.{length, drop}
 use Rattle.format.specs.Records.{Entry, start}
 use Rattle.format.specs.Layout.{Extension, cacheTree, resolveUndo, other, trees, undos, names}
 use Rattle.format.specs.Reading.{Read, bad, good}
-use Rattle.format.specs.Reader.{noneSeen, readEntries, readExtension, readExtensions, first}
+use Rattle.format.specs.Reader.{noneSeen, readEntries, readExtensions, first}
+use Rattle.extensions.specs.declared.Extended.{Extended}
+use Rattle.extensions.specs.declared.Extended.the-variants as E
 use Rattle.extensions.specs.declared.Found.{Found}
 use Rattle.extensions.specs.declared.One.{One}
 use Rattle.extensions.specs.declared.One.the-variants as O
 use Rattle.extensions.specs.Heads.{Inside}
-use Rattle.extensions.specs.Found.{TreeIs, TreeFound, UndoIs, UndoFound, seenOf}
+use Rattle.extensions.specs.Found.{TreeIs, TreeFound, UndoIs, UndoFound}
 
 -- ---- one extension. wn is the number of the node that is wanted, wr that of the record
 
@@ -31,3 +33,30 @@ Answered wn wr b at found x (O.Good next f) = (e : Extension) × (x ≡ good e (
 abbrev pub OneInside : List ℕ → ℕ → One → Type 0
 OneInside b at (O.Bad n) = Unit
 OneInside b at (O.Good next f) = Inside b at next
+
+-- what a function leaves behind that reads the extension at a place as read does of the entries' names
+pub record Passed (read : List (List ℕ) → Read Extension) (wn wr v count : ℕ) (b work : List ℕ) (at : ℕ) (found : Found) (work′ : List ℕ) (r : One) : Type 0 where
+  pub answered : (es : List Entry) (m : ℕ) → readEntries 20 v count start 12 (drop 12 b) ≡ good es m → Answered wn wr b at found (read (names es)) r
+  pub inside : OneInside b at r
+  pub long : length work′ ≡ length work
+  pub past : drop 8192 work′ ≡ drop 8192 work
+
+-- ---- all extensions
+
+-- the list xs was read to the end of the body
+pub record Whole (wn wr : ℕ) (b : List ℕ) (at : ℕ) (x : Read (List Extension)) (f : Found) : Type 0 where
+  pub list : List Extension
+  pub reads : x ≡ good list (length b - at)
+  pub tree : TreeFound wn b (first (trees list)) (f .tree)
+  pub undo : UndoFound wr b (first (undos list)) (f .undo)
+
+abbrev pub AllAnswered : ℕ → ℕ → List ℕ → ℕ → Read (List Extension) → Extended → Type 0
+AllAnswered wn wr b at x (E.Bad n p) = x ≡ bad n p
+AllAnswered wn wr b at x (E.Good f) = Whole wn wr b at x f
+
+-- what the reading of all extensions from a place on leaves behind
+pub record Ran (wn wr v count : ℕ) (b work : List ℕ) (at : ℕ) (work′ : List ℕ) (r : Extended) : Type 0 where
+  pub answered : (es : List Entry) (m : ℕ) → readEntries 20 v count start 12 (drop 12 b) ≡ good es m
+      → AllAnswered wn wr b at (readExtensions 20 (names es) (length (drop at b)) noneSeen at (drop at b)) r
+  pub long : length work′ ≡ length work
+  pub past : drop 8192 work′ ≡ drop 8192 work

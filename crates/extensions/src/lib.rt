@@ -1,12 +1,16 @@
 // All extensions of a body: which there are, where the data of the known ones stand, or the first refusal.
 ghost use mathlib.Core.Path.{_≡_};
 ghost use Prim.Native.Nat.{ℕ, _+_, _≤_};
-ghost use lib.ListN.{length};
-ghost use Rattle.format.specs.Layout.{resolveUndo};
+ghost use lib.ListN.{length, drop};
+ghost use Rattle.format.specs.Layout.{cacheTree, resolveUndo};
+ghost use Rattle.format.specs.Reader.{readTree, readExtension};
+ghost use Rattle.entries_run.specs.Steps.{Room};
 ghost use Rattle.extensions.specs.Heads.{part, undosIn, known, Headed, Inside};
 ghost use Rattle.extensions.specs.Found.{nothing, seenOf};
-ghost use Rattle.extensions.specs.Steps.{Answered, OneInside};
+ghost use Rattle.extensions.specs.Steps.{Answered, OneInside, Passed, Ran};
+use cache_tree::TreeRead;
 use resolve_undo::RecordsRead;
+use tree_walk::counts::counts_ok;
 
 // The place after an extension's data, by its kind, or a refusal's number.
 pub enum Head {
@@ -46,6 +50,12 @@ pub struct Found {
 pub enum One {
     Bad(u32),
     Good(usize, Found),
+}
+
+// All extensions: a refusal's number and place, or what was found.
+pub enum Extended {
+    Bad(u32, usize),
+    Good(Found),
 }
 
 // The signature and the size of the extension at a place. The data begin 8 bytes further on.
@@ -127,4 +137,75 @@ fn add_undo(b: &[u8], at: usize, end: usize, found: Found, want: u32) -> One
             },
         ),
     }
+}
+
+// The cache-tree extension at a place, whose data end at end. v and count are the version and the number of entries of the body.
+fn add_tree(b: &[u8], at: usize, end: usize, found: Found, v: u32, count: u32, work: &mut [u8], seed: u64, want: u32) -> One
+    requires { ⌜ Inside (now b) at end × Room (now b) (now work) ⌝ }
+    ensures { λ r. ⌜ ((wr : ℕ) → Passed (λ ns. known (found .tree .there) at (readTree 20 ns at (part (now (b .entry)) (at + 8) end)) cacheTree) want wr v count (now (b .entry)) (now (work .entry)) at found (now (work .exit)) r) ⌝ }
+{
+    if found.tree.there {
+        return One::Bad(14);
+    }
+    let undo = found.undo;
+    let from = at + 8;
+    let read = cache_tree::read_tree(&b[from..end], &mut *work, seed, want);
+    match read {
+        TreeRead::Bad => One::Bad(15),
+        TreeRead::Good { nodes, place, level } => {
+            if counts_ok(&b[from..end], b, v, count, work) {
+                return One::Good(
+                    end,
+                    Found {
+                        tree: TreePlace {
+                            there: true,
+                            at: from,
+                            end: end,
+                            nodes: nodes,
+                            node: place,
+                            level: level,
+                        },
+                        undo: undo,
+                    },
+                );
+            }
+            One::Bad(16)
+        }
+    }
+}
+
+// The extension at a place.
+fn read_extension(b: &[u8], at: usize, found: Found, v: u32, count: u32, work: &mut [u8], seed: u64, want_node: u32, want_record: u32) -> One
+    requires { ⌜ (at ≤ length (now b)) × Room (now b) (now work) ⌝ }
+    ensures { λ r. ⌜ Passed (λ ns. readExtension 20 ns (seenOf found) at (drop at (now (b .entry)))) «want_node» «want_record» v count (now (b .entry)) (now (work .entry)) at found (now (work .exit)) r ⌝ }
+{
+    let head = read_head(b, at);
+    match head {
+        Head::Bad(n) => One::Bad(n),
+        Head::Tree(end) => add_tree(b, at, end, found, v, count, work, seed, want_node),
+        Head::Undo(end) => add_undo(b, at, end, found, want_record),
+        Head::Other(end) => One::Good(end, found),
+    }
+}
+
+// All extensions of a body, from a place on, with a node of the cache tree and a resolve-undo record that are wanted, by their numbers.
+pub fn read_extensions(b: &[u8], at: usize, v: u32, count: u32, work: &mut [u8], seed: u64, want_node: u32, want_record: u32) -> Extended
+    requires { ⌜ (at ≤ length (now b)) × Room (now b) (now work) ⌝ }
+    ensures { λ r. ⌜ Ran «want_node» «want_record» v count (now (b .entry)) (now (work .entry)) at (now (work .exit)) r ⌝ }
+{
+    let mut place = at;
+    let mut found = none_found();
+    while place < b.len() {
+        let one = read_extension(b, place, found, v, count, &mut *work, seed, want_node, want_record);
+        match one {
+            One::Bad(n) => {
+                return Extended::Bad(n, place);
+            }
+            One::Good(next, f) => {
+                place = next;
+                found = f;
+            }
+        }
+    }
+    Extended::Good(found)
 }

@@ -96,7 +96,7 @@ number (valid c) = c
 number invalid = 0
 
 module _ (n : Node) (kids after : Forest) where
-  valid-step : allValid (tree n kids after) ≡ (isValid (n .count) && allValid after)
+  pub valid-step : allValid (tree n kids after) ≡ (isValid (n .count) && allValid after)
   unfolding allValid
   valid-step = go (n .count)
     where

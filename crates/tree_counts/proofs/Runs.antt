@@ -130,7 +130,7 @@ module _ (q s : List ℕ) (ss : List (List ℕ)) (b : begins q s ≡ true) where
   unfolding within span
   within-step = rw b
 
-  beyond-step : beyond (begins q) (s ∷ ss) ≡ beyond (begins q) ss
+  pub beyond-step : beyond (begins q) (s ∷ ss) ≡ beyond (begins q) ss
   unfolding beyond
   beyond-step = rw b
 
@@ -153,7 +153,7 @@ within-sorted q a (s ∷ ss) h =
     (λ e. rw e)
 
 -- a run is of the names of the directory one further down
-enter-begins : (q c s : List ℕ) → begins (enter q c) s ≡ (begins q s && under c (drop (length q) s))
+pub enter-begins : (q c s : List ℕ) → begins (enter q c) s ≡ (begins q s && under c (drop (length q) s))
 enter-begins q c s = begins-append q (c ++ (47 ∷ [])) s ∙ rw (under-begins c (drop (length q) s))
 
 module _ (q c : List ℕ) where
@@ -262,7 +262,7 @@ module _ (f : Forest) (q c a : List ℕ) (whole done : List (List ℕ)) (s : Lis
   matched-run d = matched-found c done (runIn q c (s ∷ ss)) f run-here d t found ∙ rw (runIn-inside q c (s ∷ ss))
 
 -- where the next name is outside the directory, or there is none, all of its names have been passed
-beyond-end : (p : List ℕ → Bool) (ss : List (List ℕ)) → leads p ss ≡ false → beyond p ss ≡ ss
+pub beyond-end : (p : List ℕ → Bool) (ss : List (List ℕ)) → leads p ss ≡ false → beyond p ss ≡ ss
 unfolding leads beyond
 beyond-end p [] e = refl
 beyond-end p (s ∷ ss) e = rw e

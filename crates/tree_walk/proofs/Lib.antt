@@ -1,0 +1,8 @@
+-- Laws that the functions' proofs cite.
+pub mod Siblings
+pub mod Trees
+pub mod Ahead
+pub mod Components
+pub mod Steps
+pub mod Parts
+pub mod Wholes

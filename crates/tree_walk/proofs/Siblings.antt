@@ -1,0 +1,162 @@
+-- Laws of siblings that stand in the data: the first of them, and the search for one by its name.
+use mathlib.Core.Path.{_≡_, refl, sym, ap, subst, _∙_}
+use mathlib.Core.List.{List, []}
+use mathlib.Core.Bool.{true, false, not}
+use mathlib.Core.Option.{none, some}
+use Prim.Native.Nat.{ℕ, suc, _+_, _-_, _≤_, _<_}
+use native.Mathlib.Omega.{arith}
+use lib.ListN.{take, drop}
+use lib.Seq.{drop-drop}
+use borrow.Author.Tests.{not-true}
+use Rattle.format.specs.Bytes.{eqList, before}
+use Rattle.format.specs.Records.{Node, Forest, nil, tree, Tree}
+use Rattle.format.specs.Layout.{has, distinct}
+use Rattle.format.specs.Reading.{good}
+use Rattle.format.specs.Reader.{Head, readNode}
+use Rattle.tree_counts.specs.Judge.{child}
+use Rattle.tree_counts.proofs.Tests.{clash, by-test, and-inv₃}
+use Rattle.tree_counts.proofs.Names.{eqList-true}
+use Rattle.tree_counts.proofs.Walk.{child-some}
+use Rattle.cache_tree.specs.Flat.{treesLength, nameOf}
+use Rattle.cache_tree.proofs.Nodes.{node-named}
+use Rattle.cache_tree.proofs.Flat.{Reads, reads-none, reads-more, trees-none, trees-step, reads-length}
+use Rattle.tree_walk.specs.Siblings.{Last, FoundAt}
+
+-- ---- the first of some siblings
+
+pub record First (s : List ℕ) (f : Forest) (k : ℕ) : Type 0 where
+  pub head : Head
+  pub kids : Forest
+  pub after : Forest
+  pub own : ℕ
+  pub below : ℕ
+  pub rest : ℕ
+  pub is : f ≡ tree (head .node) kids after
+  pub node : readNode 20 0 s ≡ good head own
+  pub reads-kids : Reads (drop own s) kids (head .subtrees) below
+  pub reads-after : Reads (drop below (drop own s)) after (k - 1) rest
+
+pub reads-first : (s : List ℕ) (f : Forest) (k m : ℕ) → Reads s f k m → 0 < k → First s f k
+reads-first s _ _ _ reads-none l = absurd (omega arith)
+reads-first s _ _ _ (reads-more {h = h} {kids = kids} {after = after} {a = a} {b = b} {c = c} {k = k} q r t) l =
+    let e : k ≡ suc k - 1 = omega arith in
+    record {
+      head = h;
+      kids = kids;
+      after = after;
+      own = a;
+      below = b;
+      rest = c;
+      is = refl;
+      node = q;
+      reads-kids = r;
+      reads-after = subst (λ (n : ℕ). Reads (drop b (drop a s)) after n c) e t;
+    }
+
+pub reads-empty : (s : List ℕ) (f : Forest) (k m : ℕ) → Reads s f k m → k ≤ 0 → f ≡ nil
+reads-empty s _ _ _ reads-none l = refl
+reads-empty s _ _ _ (reads-more q r t) l = absurd (omega arith)
+
+-- a node and its subtrees reach up to the sibling after it
+pub first-length : (s : List ℕ) (f : Forest) (k : ℕ) (x : First s f k) → treesLength 1 s ≡ x .own + x .below
+first-length s f k x =
+    let e : treesLength 1 s ≡ x .own + treesLength (0 + x .head .subtrees) (drop (x .own) s) = trees-step 0 s (x .head) (x .own) (x .node) in
+    let i : treesLength (x .head .subtrees + 0) (drop (x .own) s) ≡ x .below + treesLength 0 (drop (x .below) (drop (x .own) s)) = reads-length _ _ _ _ (x .reads-kids) 0 in
+    let z : treesLength 0 (drop (x .below) (drop (x .own) s)) ≡ 0 = trees-none (drop (x .below) (drop (x .own) s)) in
+    let same : treesLength (0 + x .head .subtrees) (drop (x .own) s) ≡ treesLength (x .head .subtrees + 0) (drop (x .own) s) = ap (λ (n : ℕ). treesLength n (drop (x .own) s)) (omega arith) in
+    omega arith
+
+first-named : (s : List ℕ) (f : Forest) (k : ℕ) (x : First s f k) → nameOf s ≡ x .head .node .name
+unfolding nameOf
+first-named s f k x = sym (node-named 20 0 s (x .head) (x .own) (x .node) .0)
+
+-- ---- a search by name
+
+module _ (name : List ℕ) (n : Node) (kids after : Forest) where
+  child-here : eqList name (n .name) ≡ true → child name (tree n kids after) ≡ some (record { root = n; subtrees = kids })
+  unfolding child
+  child-here e = rw e
+
+  child-on : eqList name (n .name) ≡ false → child name (tree n kids after) ≡ child name after
+  unfolding child
+  child-on e = rw e
+
+  distinct-parts : distinct (tree n kids after) ≡ true → (has (n .name) after ≡ false) × (distinct after ≡ true)
+  unfolding distinct
+  distinct-parts d = let i = and-inv₃ (not (has (n .name) after)) (distinct kids) (distinct after) d in (not-true _ (i .0), i .2)
+
+  -- what is found after the first of siblings that differ is found from it on
+  child-after : (t : Tree) → distinct (tree n kids after) ≡ true → child name after ≡ some t → child name (tree n kids after) ≡ some t
+  child-after t d e =
+      by-test (eqList name (n .name))
+      (λ q. clash (child-some name after t e) (ap (λ (x : List ℕ). has x after) (eqList-true name (n .name) q) ∙ distinct-parts d .0))
+      (λ q. child-on q ∙ e)
+
+pub child-none : (name : List ℕ) → child name nil ≡ none
+unfolding child
+child-none name = refl
+
+module _ (d : List ℕ) (f : Forest) where
+  pub last-all : (at k m : ℕ) → distinct f ≡ true → Reads (drop at d) f k m → Last d f at k
+  last-all at k m differ r = record { siblings = f; taken = m; reads = r; differ = differ; part = λ name t e. e }
+
+  module _ (place left : ℕ) (l : Last d f place left) (some-left : 0 < left) where
+    first-of : First (drop place d) (l .siblings) left
+    first-of = reads-first _ _ _ _ (l .reads) some-left
+
+    next-is : (next : ℕ) → next ≡ place + treesLength 1 (drop place d) → drop (first-of .below) (drop (first-of .own) (drop place d)) ≡ drop next d
+    next-is next is =
+        let e : place + (first-of .own + first-of .below) ≡ next = omega (arith, first-length _ _ _ first-of) in
+        drop-drop (first-of .below) (first-of .own) (drop place d)
+        ∙ drop-drop (first-of .own + first-of .below) place d
+        ∙ ap (λ (n : ℕ). drop n d) e
+
+    differs : distinct (tree (first-of .head .node) (first-of .kids) (first-of .after)) ≡ true
+    differs = ap distinct (sym (first-of .is)) ∙ l .differ
+
+    pub last-next : (next : ℕ) → next ≡ place + treesLength 1 (drop place d) → Last d f next (left - 1)
+    last-next next is = record {
+      siblings = first-of .after;
+      taken = first-of .rest;
+      reads = subst (λ (s : List ℕ). Reads s (first-of .after) (left - 1) (first-of .rest)) (next-is next is) (first-of .reads-after);
+      differ = distinct-parts [] (first-of .head .node) (first-of .kids) (first-of .after) differs .1;
+      part = λ name t e. l .part name t (ap (child name) (first-of .is) ∙ child-after name (first-of .head .node) (first-of .kids) (first-of .after) t differs e);
+    }
+
+    module _ (name : List ℕ) where
+      same-name : eqList name (nameOf (drop place d)) ≡ eqList name (first-of .head .node .name)
+      same-name = ap (eqList name) (first-named _ _ _ first-of)
+
+      pub last-here : eqList name (nameOf (drop place d)) ≡ true → FoundAt d f name place left
+      last-here e = record {
+        found = record { root = first-of .head .node; subtrees = first-of .kids };
+        is = l .part name _ (ap (child name) (first-of .is) ∙ child-here name (first-of .head .node) (first-of .kids) (first-of .after) (sym same-name ∙ e));
+        stands = record { subtrees = first-of .head .subtrees; own = first-of .own; below = first-of .below; node = first-of .node; kids = first-of .reads-kids };
+        last = l;
+      }
+
+      last-on : eqList name (nameOf (drop place d)) ≡ false → (next : ℕ) (is : next ≡ place + treesLength 1 (drop place d)) → child name (l .siblings) ≡ child name (last-next next is .siblings)
+      unfolding last-next first-of
+      last-on e next is = ap (child name) (first-of .is) ∙ child-on name (first-of .head .node) (first-of .kids) (first-of .after) (sym same-name ∙ e)
+
+-- a search that has come to a place: the name is not before it
+pub record Searching (d : List ℕ) (f : Forest) (name : List ℕ) (place left : ℕ) : Type 0 where
+  pub last : Last d f place left
+  pub same : child name f ≡ child name (last .siblings)
+
+module _ (d : List ℕ) (f : Forest) (name : List ℕ) where
+  pub search-start : (at k m : ℕ) → distinct f ≡ true → Reads (drop at d) f k m → Searching d f name at k
+  unfolding last-all
+  search-start at k m differ r = record { last = last-all d f at k m differ r; same = refl }
+
+  module _ (place left : ℕ) (x : Searching d f name place left) where
+    pub search-on : 0 < left → eqList name (nameOf (drop place d)) ≡ false → (next : ℕ) → next ≡ place + treesLength 1 (drop place d) → Searching d f name next (left - 1)
+    search-on l e next is = record { last = last-next d f place left (x .last) l next is; same = x .same ∙ last-on d f place left (x .last) l name e next is }
+
+    pub search-end : left ≤ 0 → child name f ≡ none
+    search-end l = x .same ∙ ap (child name) (reads-empty _ _ _ _ (x .last .reads) l) ∙ child-none name
+
+-- the bytes from a place to the NUL are the name of the node there
+pub name-is : (d : List ℕ) (at nul : ℕ) → nul ≡ at + before 0 (drop at d) → take (nul - at) (drop at d) ≡ nameOf (drop at d)
+unfolding nameOf
+name-is d at nul e = let i : nul - at ≡ before 0 (drop at d) = omega arith in rw i

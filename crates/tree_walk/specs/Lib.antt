@@ -1,0 +1,7 @@
+-- What the crate's contracts cite.
+pub mod Siblings
+pub mod Trees
+pub mod Ahead
+pub mod Components
+pub mod Steps
+pub mod Answers

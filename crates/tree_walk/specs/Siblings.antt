@@ -1,0 +1,47 @@
+-- Siblings that stand in the data of a cache tree.
+use mathlib.Core.Path.{_≡_}
+use mathlib.Core.List.{List}
+use mathlib.Core.Bool.{true}
+use mathlib.Core.Option.{none, some}
+use Prim.Native.Nat.{ℕ}
+use lib.ListN.{drop}
+use Rattle.format.specs.Records.{Forest, Tree}
+use Rattle.format.specs.Layout.{distinct}
+use Rattle.format.specs.Reading.{good}
+use Rattle.format.specs.Reader.{readNode}
+use Rattle.tree_counts.specs.Judge.{child}
+use Rattle.cache_tree.proofs.Flat.{Reads}
+use Rattle.tree_walk.specs.declared.child.Child.{Child}
+use Rattle.tree_walk.specs.declared.child.Child.the-variants as C
+
+-- a tree that stands at a place: its root, and its subtrees after it
+pub record TreeAt (d : List ℕ) (place : ℕ) (t : Tree) : Type 0 where
+  pub subtrees : ℕ
+  pub own : ℕ
+  pub below : ℕ
+  pub node : readNode 20 0 (drop place d) ≡ good (record { node = t .root; subtrees = subtrees }) own
+  pub kids : Reads (drop own (drop place d)) (t .subtrees) subtrees below
+
+-- the last of the siblings f stand from a place on, so many
+pub record Last (d : List ℕ) (f : Forest) (place left : ℕ) : Type 0 where
+  pub siblings : Forest
+  pub taken : ℕ
+  pub reads : Reads (drop place d) siblings left taken
+  pub differ : distinct siblings ≡ true
+  pub part : (name : List ℕ) (t : Tree) → child name siblings ≡ some t → child name f ≡ some t
+
+-- none of the siblings f has the name, or the tree of the one that has it stands at a place, and so many stand from it on
+pub record FoundAt (d : List ℕ) (f : Forest) (name : List ℕ) (place left : ℕ) : Type 0 where
+  pub found : Tree
+  pub is : child name f ≡ some found
+  pub stands : TreeAt d place found
+  pub last : Last d f place left
+
+abbrev pub Sought : List ℕ → Forest → List ℕ → Child → Type 0
+Sought d f name C.Missing = child name f ≡ none
+Sought d f name (C.Found place left) = FoundAt d f name place left
+
+-- the place of what was found; the end where nothing was
+abbrev pub placeIn : ℕ → Child → ℕ
+placeIn end C.Missing = end
+placeIn end (C.Found place left) = place

@@ -1,0 +1,94 @@
+-- The walk over the names in a directory, part by part: a name with no further "/", or the names under one component. q is the directory's name,
+-- with its last "/".
+use mathlib.Core.Path.{_≡_}
+use mathlib.Core.List.{List, _∷_}
+use mathlib.Core.Bool.{Bool, true, cond, _&&_}
+use Prim.Native.Nat.{ℕ, _+_, _≤_, _<_}
+use lib.ListN.{length, drop}
+use lib.Dec.{eqb, leb}
+use Rattle.format.specs.Records.{Forest}
+use Rattle.format.specs.Layout.{bit}
+use Rattle.cache_tree.specs.declared.node.Node.{Node}
+use Rattle.cache_tree.proofs.Flat.{Reads}
+use Rattle.tree_counts.specs.Judge.{judge, matched}
+use Rattle.tree_counts.specs.Runs.{sortedFrom, begins, within, Passed}
+use Rattle.tree_counts.proofs.Siblings.{Sound}
+use Rattle.tree_walk.specs.declared.front.Front.{Front}
+use Rattle.tree_walk.specs.declared.walk.Tally.{Tally}
+use Rattle.tree_walk.specs.Siblings.{Last}
+use Rattle.tree_walk.specs.Ahead.{Fits, Ahead, After, Left}
+
+-- ---- sums
+
+-- n after a; the numbers of nodes are added where they fit
+pub record Joined (a n r : Tally) : Type 0 where
+  pub ok : r .ok ≡ (a .ok && n .ok)
+  pub met : a .met + n .met < 4294967296 → r .met ≡ a .met + n .met
+  pub count : r .count ≡ a .count + n .count
+  pub front : r .front ≡ n .front
+  pub place : r .place ≡ n .place
+  pub left : r .left ≡ n .left
+
+-- the tally t of what is below a node, and the node
+pub record NodeAdded (node : Node) (t : Tally) (p l : ℕ) (r : Tally) : Type 0 where
+  pub ok : r .ok ≡ (cond (node .valid) (eqb (node .count) (t .count)) true && t .ok)
+  pub met : cond (node .valid) (bit (leb 1 (node .count))) 0 + t .met < 4294967296 → r .met ≡ cond (node .valid) (bit (leb 1 (node .count))) 0 + t .met
+  pub count : r .count ≡ t .count
+  pub front : r .front ≡ t .front
+  pub place : r .place ≡ p
+  pub left : r .left ≡ l
+
+-- ---- one part
+
+-- of the names in the directory q, from whole on, done were passed before it, and the tally r is of this part
+pub record Moved (valid : Bool) (f : Forest) (q : List ℕ) (whole done : List (List ℕ)) (v : ℕ) (b work : List ℕ) (r : Tally) : Type 0 where
+  pub now-done : List (List ℕ)
+  pub rest : List (List ℕ)
+  pub last : List ℕ
+  pub passed : Passed f q whole now-done rest
+  pub ok : judge valid now-done f ≡ (judge valid done f && r .ok)
+  pub met : matched now-done f ≡ matched done f + r .met
+  pub count : length now-done ≡ length done + r .count
+  pub in-it : begins q last ≡ true
+  pub after : After v b work (r .front) last rest
+
+-- k siblings at a place of the data d, and the entries ahead, of which the first has k bytes or more
+pub record Ready (d : List ℕ) (at : ℕ) (b work : List ℕ) (q : ℕ) (s : Front) : Type 0 where
+  pub inside : at ≤ length d
+  pub small : length d ≤ 16777216
+  pub fits : Fits b s
+  pub room : 8192 ≤ length work
+  pub some : 1 ≤ s .ahead
+  pub long : q ≤ s .cursor .len
+
+-- what any part of the walk leaves behind
+pub record Kept (d : List ℕ) (at : ℕ) (b work : List ℕ) (s : Front) (work′ : List ℕ) (r : Tally) : Type 0 where
+  pub fits : Fits b (r .front)
+  pub fewer : r .count + r .front .ahead ≤ s .ahead
+  pub less : r .front .ahead < s .ahead
+  pub least : at ≤ r .place
+  pub most : r .place ≤ length d
+  pub long : length work′ ≡ length work
+  pub past : drop 8192 work′ ≡ drop 8192 work
+
+pub record PartWalked (d : List ℕ) (at k : ℕ) (valid : Bool) (place left : ℕ) (b : List ℕ) (v : ℕ) (work : List ℕ) (q : ℕ) (s : Front) (work′ : List ℕ) (r : Tally) : Type 0 where
+  pub kept : Kept d at b work s work′ r
+  pub hint : (f : Forest) (m : ℕ) → Sound f → Reads (drop at d) f k m → Last d f place left → Last d f (r .place) (r .left)
+  pub moved : (f : Forest) (m : ℕ) → Sound f → Reads (drop at d) f k m → Last d f place left
+      → (p x : List ℕ) (xs : List (List ℕ)) → Ahead v b work s x xs → begins p x ≡ true → length p ≡ q
+      → (a : List ℕ) (whole done : List (List ℕ)) → sortedFrom a whole ≡ true → Passed f p whole done (x ∷ xs)
+      → Moved valid f p whole done v b work′ r
+
+-- ---- a whole directory
+
+pub record Tallied (valid : Bool) (f : Forest) (q : List ℕ) (whole : List (List ℕ)) (v : ℕ) (b work : List ℕ) (r : Tally) : Type 0 where
+  pub ok : r .ok ≡ judge valid (within q whole) f
+  pub met : r .met ≡ matched (within q whole) f
+  pub count : r .count ≡ length (within q whole)
+  pub left : Left v b work (r .front) q whole
+
+pub record DirectoryWalked (d : List ℕ) (at k : ℕ) (valid : Bool) (b : List ℕ) (v : ℕ) (work : List ℕ) (q : ℕ) (s : Front) (work′ : List ℕ) (r : Tally) : Type 0 where
+  pub kept : Kept d at b work s work′ r
+  pub tallied : (f : Forest) (m : ℕ) → Sound f → Reads (drop at d) f k m
+      → (p x : List ℕ) (xs : List (List ℕ)) → Ahead v b work s x xs → begins p x ≡ true → length p ≡ q
+      → Tallied valid f p (x ∷ xs) v b work′ r

@@ -1,0 +1,64 @@
+// Whether the counts of a cache tree are right: refusal 16.
+use crate::front::Front;
+use crate::front::advance;
+use crate::survey::Survey;
+use crate::survey::survey_trees;
+use crate::walk::agrees;
+use crate::walk::both;
+use crate::walk::walk_directory;
+use cache_tree::node::Node;
+use cache_tree::node::NodeRead;
+use cache_tree::node::read_node;
+use entries_run::first;
+ghost use Prim.Native.Nat.{_≤_};
+ghost use lib.ListN.{length};
+ghost use Rattle.entries_run.specs.Steps.{Room};
+ghost use Rattle.tree_walk.specs.Answers.{RootWalked, CountsTold};
+
+// What the walk over all entries tests of the root and of what is below it, where met nodes have a count of at least 1.
+fn walk_root(d: &[u8], root: Node, met: u32, b: &[u8], v: u32, count: u32, work: &mut [u8]) -> bool
+    requires { ⌜ (root .next ≤ length (now d)) × (length (now d) ≤ 16777216) × Room (now b) (now work) ⌝ }
+    ensures { λ r. ⌜ RootWalked (now (d .entry)) root met (now (b .entry)) v count (now (work .entry)) (now (work .exit)) r ⌝ }
+{
+    let c = first();
+    let start = Front {
+        cursor: c,
+        ahead: count as usize + 1,
+        common: 0,
+    };
+    let front = advance(b, v, &mut *work, start);
+    if front.ahead == 0 {
+        return both(agrees(root.valid, root.count, 0), 0 == met);
+    }
+    let t = walk_directory(
+        d,
+        root.next,
+        root.subtrees,
+        root.valid,
+        b,
+        v,
+        work,
+        0,
+        front,
+    );
+    let whole = both(t.ok, t.met == met);
+    both(agrees(root.valid, root.count, t.count), whole)
+}
+
+// Whether the counts of the cache tree d are right for the first count entries of the body b of version v.
+pub fn counts_ok(d: &[u8], b: &[u8], v: u32, count: u32, work: &mut [u8]) -> bool
+    requires { ⌜ (length (now d) ≤ 16777216) × Room (now b) (now work) ⌝ }
+    ensures { λ r. ⌜ CountsTold (now (d .entry)) (now (b .entry)) v count (now (work .entry)) (now (work .exit)) r ⌝ }
+{
+    let read = read_node(d, 0);
+    match read {
+        NodeRead::Bad => false,
+        NodeRead::Good(root) => {
+            let found = survey_trees(d, root.next, root.subtrees, root.valid);
+            match found {
+                Survey::Untidy => false,
+                Survey::Tidy(met) => walk_root(d, root, met, b, v, count, work),
+            }
+        }
+    }
+}

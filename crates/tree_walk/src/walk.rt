@@ -1,0 +1,192 @@
+// The walk over the entries: what it tests of the counts of a cache tree.
+use crate::front::Front;
+use crate::front::advance;
+use crate::front::pass;
+use crate::front::stays;
+use crate::look::Look;
+use crate::look::look_up;
+use crate::survey::weight;
+use cache_tree::node::Node;
+use cache_tree::node::NodeRead;
+use cache_tree::node::read_node;
+ghost use mathlib.Core.Path.{_≡_};
+ghost use mathlib.Core.Bool.{true, cond, _&&_};
+ghost use Prim.Native.Nat.{ℕ, _+_, _≤_, _<_};
+ghost use lib.ListN.{length};
+ghost use lib.Dec.{eqb};
+ghost use Rattle.tree_walk.specs.Steps.{Joined, NodeAdded, Ready, PartWalked, DirectoryWalked};
+
+// Whether the tests pass, how many nodes with a count of at least 1 were met, how many entries were passed, what is ahead of them, and a hint
+// to find_child.
+pub struct Tally {
+    pub ok: bool,
+    pub met: u32,
+    pub count: usize,
+    pub front: Front,
+    pub place: usize,
+    pub left: u32,
+}
+
+// The sum of two numbers, where it fits.
+fn plus(a: u32, b: u32) -> u32
+    ensures { λ r. ⌜ (a + b < 4294967296 → r ≡ a + b) ⌝ }
+{
+    if 4294967295 - a < b {
+        return 0;
+    }
+    a + b
+}
+
+pub(crate) fn both(a: bool, b: bool) -> bool
+    ensures { λ r. ⌜ r ≡ (a && b) ⌝ }
+{
+    if a {
+        return b;
+    }
+    false
+}
+
+// Whether a valid node counts n entries.
+pub(crate) fn agrees(valid: bool, count: u32, n: usize) -> bool
+    ensures { λ r. ⌜ r ≡ cond valid (eqb count n) true ⌝ }
+{
+    if valid {
+        return count as usize == n;
+    }
+    true
+}
+
+// The entries of which one is refused: none is ahead.
+fn ended(s: Front) -> Front
+    ensures { λ r. ⌜ r ≡ record { cursor = s .cursor; ahead = 0; common = 0 } ⌝ }
+{
+    let c = s.cursor;
+    Front {
+        cursor: c,
+        ahead: 0,
+        common: 0,
+    }
+}
+
+// The tally of entries that met no node.
+fn told(ok: bool, count: usize, front: Front, place: usize, left: u32) -> Tally
+    ensures { λ r. ⌜ r ≡ record { ok = ok; met = 0; count = count; front = front; place = place; left = left } ⌝ }
+{
+    Tally {
+        ok: ok,
+        met: 0,
+        count: count,
+        front: front,
+        place: place,
+        left: left,
+    }
+}
+
+// One part of a directory after those before it.
+fn join(a: Tally, n: Tally) -> Tally
+    requires { ⌜ a .count + n .count ≤ 4294967296 ⌝ }
+    ensures { λ r. ⌜ Joined a n r ⌝ }
+{
+    let front = n.front;
+    Tally {
+        ok: both(a.ok, n.ok),
+        met: plus(a.met, n.met),
+        count: a.count + n.count,
+        front: front,
+        place: n.place,
+        left: n.left,
+    }
+}
+
+// A node's test and its number, with those of all below it.
+fn add_node(node: Node, t: Tally, place: usize, left: u32) -> Tally
+    ensures { λ r. ⌜ NodeAdded node t place left r ⌝ }
+{
+    let front = t.front;
+    let fits = agrees(node.valid, node.count, t.count);
+    Tally {
+        ok: both(fits, t.ok),
+        met: plus(weight(node.valid, node.count), t.met),
+        count: t.count,
+        front: front,
+        place: place,
+        left: left,
+    }
+}
+
+// One part of a directory's entries: the first ahead where it has no further "/" after its first q bytes, or all in the directory of its next
+// component. k nodes stand at a place; the node above them is valid or not.
+fn walk_part(
+    d: &[u8],
+    at: usize,
+    k: u32,
+    valid: bool,
+    place: usize,
+    left: u32,
+    b: &[u8],
+    v: u32,
+    work: &mut [u8],
+    q: usize,
+    s: Front,
+) -> Tally
+    requires { ⌜ Ready (now d) at (now b) (now work) q s × (at ≤ place) × (place ≤ length (now d)) ⌝ }
+    ensures { λ r. ⌜ PartWalked (now (d .entry)) at k valid place left (now (b .entry)) v (now (work .entry)) q s (now (work .exit)) r ⌝ }
+{
+    let look = look_up(d, at, k, place, left, b, v, &work[..], q, s);
+    match look {
+        Look::File => {
+            let next = advance(b, v, work, s);
+            told(true, 1, next, place, left)
+        }
+        Look::Missing(e) => {
+            let gone = pass(b, v, work, s, e);
+            let next = gone.front;
+            told(!valid, gone.count, next, place, left)
+        }
+        Look::Found(e, p, l) => {
+            let read = read_node(d, p);
+            match read {
+                NodeRead::Bad => told(false, 0, ended(s), place, left),
+                NodeRead::Good(node) => {
+                    let t = walk_directory(
+                        d,
+                        node.next,
+                        node.subtrees,
+                        node.valid,
+                        b,
+                        v,
+                        work,
+                        e,
+                        s,
+                    );
+                    add_node(node, t, p, l)
+                }
+            }
+        }
+    }
+}
+
+// All of a directory's entries that are ahead, of which the first is one. k nodes stand at a place; the node above them is valid or not.
+pub(crate) fn walk_directory(
+    d: &[u8],
+    at: usize,
+    k: u32,
+    valid: bool,
+    b: &[u8],
+    v: u32,
+    work: &mut [u8],
+    q: usize,
+    s: Front,
+) -> Tally
+    requires { ⌜ Ready (now d) at (now b) (now work) q s ⌝ }
+    ensures { λ r. ⌜ DirectoryWalked (now (d .entry)) at k valid (now (b .entry)) v (now (work .entry)) q s (now (work .exit)) r ⌝ }
+{
+    let mut r = walk_part(d, at, k, valid, at, 0, b, v, &mut *work, q, s);
+    let mut front = r.front;
+    while stays(front, q) {
+        let n = walk_part(d, at, k, valid, r.place, r.left, b, v, &mut *work, q, front);
+        r = join(r, n);
+        front = r.front;
+    }
+    r
+}
