@@ -13,10 +13,13 @@ use Rattle.format.specs.Layout.{Extension, trees, undos, names}
 use Rattle.format.specs.Reading.{Read, bad, good, shift, bind}
 use Rattle.format.specs.Reader.{Contents, noneSeen, readEntry, readEntries, readExtensions, readBody, first}
 use Rattle.spelling_entries.proofs.Reading.{bad-good, good-inv, bind-inv}
-use Rattle.spelling_extensions.proofs.Extensions.{extensionsOf}
-use Rattle.entries_run.specs.Steps.{Room}
+use Rattle.entries_run.specs.declared.Run.the-variants as R
+use Rattle.entries_run.specs.Steps.{runOf}
+use Rattle.entries_run.proofs.Steps.{runOf-bad, runOf-good}
 use Rattle.extensions.specs.declared.Found.{Found}
+use Rattle.extensions.specs.declared.Extended.the-variants as X
 use Rattle.extensions.specs.Found.{TreeFound, UndoFound}
+use Rattle.extensions.specs.Steps as E
 use Rattle.file.specs.declared.Count.the-variants.{Absent, Present}
 use Rattle.file.specs.declared.Checked.the-variants as K
 use Rattle.file.specs.Answers.{treeCount, undoCount, summaryOf, checkedOf}
@@ -36,43 +39,58 @@ entries-length w v (suc n) k p s es m q =
 -- ---- the body
 
 module _ (v : ℕ) (b : List ℕ) (count : ℕ) (counted : count ≡ be32 b 8) where
-  pub body-no-entries : (n p : ℕ) → readEntries 20 v count F.start 12 (drop 12 b) ≡ bad n p → readBody 20 v b ≡ bad n p
+  no-entries : (n p : ℕ) → readEntries 20 v count F.start 12 (drop 12 b) ≡ bad n p → readBody 20 v b ≡ bad n p
   unfolding readBody bind shift
-  body-no-entries n p e = rw (← counted, e)
+  no-entries n p e = rw (← counted, e)
+
+  pub body-no-entries : (n p : ℕ) → R.Bad n p ≡ runOf (readEntries 20 v count F.start 12 (drop 12 b)) → readBody 20 v b ≡ bad n p
+  body-no-entries n p e = no-entries n p (runOf-bad _ n p e)
 
   module _ (es : List F.Entry) (m : ℕ) (entries : readEntries 20 v count F.start 12 (drop 12 b) ≡ good es m) where
-    rest : drop m (drop 12 b) ≡ drop (12 + m) b
-    rest = drop-drop m 12 b
+    module _ (end : ℕ) (last : end ≡ 12 + m) where
+      rest : drop m (drop 12 b) ≡ drop (12 + m) b
+      rest = drop-drop m 12 b
 
-    pub body-no-extensions : (n p : ℕ) → extensionsOf 20 (names es) noneSeen (12 + m) (drop (12 + m) b) ≡ bad n p → readBody 20 v b ≡ bad n p
-    unfolding readBody bind shift extensionsOf
-    body-no-extensions n p e = rw (← counted, entries, rest, e)
+      body-no-extensions : (n p : ℕ) → readExtensions 20 (names es) (length (drop end b)) noneSeen end (drop end b) ≡ bad n p → readBody 20 v b ≡ bad n p
+      unfolding readBody bind shift
+      body-no-extensions n p e = rw (← counted, entries, rest, ← last, e)
 
-    pub body-read : (xs : List Extension) (k : ℕ) → extensionsOf 20 (names es) noneSeen (12 + m) (drop (12 + m) b) ≡ good xs k
-        → readBody 20 v b
-        ≡ good (record { version = v; end = 12 + m; records = record { entries = es; cacheTree = first (trees xs); resolveUndo = first (undos xs) } })
-        (12 + (m + (k + 0)))
-    unfolding readBody bind shift extensionsOf
-    body-read xs k e = rw (← counted, entries, rest, e)
+      contents : List Extension → Contents
+      contents xs = record { version = v; end = end; records = record { entries = es; cacheTree = first (trees xs); resolveUndo = first (undos xs) } }
 
-    pub body-contains : (work : List ℕ) → Room b work → (wn wr : ℕ) (xs : List Extension) (k : ℕ) → extensionsOf 20 (names es) noneSeen (12 + m) (drop (12 + m) b) ≡ good xs k
-        → (end : ℕ) (found : Found) → end ≡ 12 + m → TreeFound wn b (first (trees xs)) (found .tree) → UndoFound wr b (first (undos xs)) (found .undo)
+      body-read : (xs : List Extension) (k : ℕ) → readExtensions 20 (names es) (length (drop end b)) noneSeen end (drop end b) ≡ good xs k
+          → readBody 20 v b ≡ good (contents xs) (12 + (m + (k + 0)))
+      unfolding readBody bind shift contents
+      body-read xs k e = rw (← counted, entries, rest, ← last, e)
+
+      body-contains : 12 ≤ length b → length b ≤ 16777216 → (wn wr : ℕ) (found : Found)
+          → E.Whole wn wr b end (readExtensions 20 (names es) (length (drop end b)) noneSeen end (drop end b)) found
+          → Contains wn wr (readBody 20 v b) b (record { version = v; count = count; end = end; found = found })
+      unfolding contents
+      body-contains least most wn wr found h =
+          let taken : m ≡ end - 12 = omega arith in
+          record {
+            contents = contents (h .list);
+            taken = 12 + (m + (length b - end + 0));
+            read = body-read (h .list) (length b - end) (h .reads);
+            least = least;
+            most = most;
+            version = refl;
+            end = refl;
+            counted = entries-length 20 v count F.start 12 (drop 12 b) es m entries;
+            entries = entries ∙ ap (good es) taken;
+            tree = h .tree;
+            undo = h .undo;
+          }
+
+  -- after the run of entries, which ends at a place
+  module _ (end : ℕ) (run : R.Good end ≡ runOf (readEntries 20 v count F.start 12 (drop 12 b))) (wn wr : ℕ) (work work′ : List ℕ) where
+    pub body-refused : (n p : ℕ) → E.Ran wn wr v count b work end work′ (X.Bad n p) → readBody 20 v b ≡ bad n p
+    body-refused n p h = runOf-good _ end run λ es m e last. body-no-extensions es m e end last n p (h .answered es m e)
+
+    pub body-accepted : (found : Found) → 12 ≤ length b → length b ≤ 16777216 → E.Ran wn wr v count b work end work′ (X.Good found)
         → Contains wn wr (readBody 20 v b) b (record { version = v; count = count; end = end; found = found })
-    body-contains work room wn wr xs k e end found last tree undo =
-        let taken : m ≡ end - 12 = omega arith in
-        record {
-          contents = record { version = v; end = 12 + m; records = record { entries = es; cacheTree = first (trees xs); resolveUndo = first (undos xs) } };
-          taken = 12 + (m + (k + 0));
-          read = body-read xs k e;
-          least = room .least;
-          most = room .most;
-          version = refl;
-          end = sym last;
-          counted = entries-length 20 v count F.start 12 (drop 12 b) es m entries;
-          entries = entries ∙ ap (good es) taken;
-          tree = tree;
-          undo = undo;
-        }
+    body-accepted found least most h = runOf-good _ end run λ es m e last. body-contains es m e end last least most wn wr found (h .answered es m e)
 
 -- ---- what check says
 

@@ -12,10 +12,11 @@ use Rattle.format.specs.Records as F
 use Rattle.format.specs.Reader as R
 use Rattle.entries_run.specs.declared.Step.{Step}
 use Rattle.entries_run.specs.Steps.{nameAt, entryAt, Placed}
+use Rattle.file.specs.declared.EntryAnswer.{EntryAnswer}
 use Rattle.file.specs.declared.Fields.{Fields}
 use Rattle.file.specs.declared.Shown.the-variants as S
-use Rattle.file.specs.Answers.{View, refused, inFile, inWorkspace, pick, cleared, holding, nameIn, entryWith, entrySaid, refusedEntry}
-use Rattle.file.proofs.Laws.{holding-after, holding-name, part-in}
+use Rattle.file.specs.Answers.{View, refused, inFile, inWorkspace, pick, cleared, holding, workAfter, nameIn, entryWith, entrySaid, refusedEntry}
+use Rattle.file.proofs.Laws.{cleared-large, holding-after, holding-name, part-in}
 use Rattle.index.specs.Calls.{bodyOf, EntryShows}
 use Rattle.index.proofs.Views.{part-within, pick-file, pick-work}
 
@@ -50,11 +51,12 @@ module _ (v : ℕ) (f written : List ℕ) (at : ℕ) (st : Step) (o : Option F.E
       }
 
   -- version 4: the name stands first in the workspace
-  pub shown-work : eqb v 4 ≡ true → st .next .len ≤ length written → drop 8192 written ≡ drop 8192 work
+  pub shown-work : eqb v 4 ≡ true → st .next .len ≤ 8192 → length written ≡ length work → 8192 ≤ length work → drop 8192 written ≡ drop 8192 work
       → work′ ≡ take (st .next .len) written ++ (replicate (8192 - st .next .len) 0 ++ drop 8192 written)
       → EntryShows (pick (eqb v 4) o) f work work′ (record { shown = S.InWorkspace (st .next .len); fields = x })
   unfolding entrySaid nameAt entry
-  shown-work new fits rest held =
+  shown-work new short same room rest held =
+      let fits : st .next .len ≤ length written = omega arith in
       let name : List ℕ = take (st .next .len) written in
       let long : length name ≡ st .next .len = length-take-le (st .next .len) written fits in
       let is : pick (eqb v 4) o ≡ inWorkspace entry = pick-work (eqb v 4) o entry new found in
@@ -66,3 +68,17 @@ module _ (v : ℕ) (f written : List ℕ) (at : ℕ) (st : Step) (o : Option F.E
         after = rw is (holds ∙ ap (λ (s : List ℕ). holding s work) (sym (entry-name ∙ own)));
         bare = λ n p q. let z : _≡_ {A = ℕ} 0 1 = cc in absurd (omega arith);
       }
+
+-- ---- after another function has written to the workspace
+
+after-same : (v : View F.Entry) (work written : List ℕ) → drop 8192 written ≡ drop 8192 work → 8192 ≤ length work → 8192 ≤ length written
+    → workAfter v written ≡ workAfter v work
+unfolding holding
+after-same (refused n p) work written rest room same = rw (cleared-large written same, cleared-large work room, rest)
+after-same (inFile e) work written rest room same = rw (cleared-large written same, cleared-large work room, rest)
+after-same (inWorkspace e) work written rest room same = rw rest
+
+pub shown-again : (v u : View F.Entry) (f work written work′ : List ℕ) (r : EntryAnswer) → v ≡ u → EntryShows u f written work′ r
+    → drop 8192 written ≡ drop 8192 work → 8192 ≤ length work → 8192 ≤ length written → EntryShows v f work work′ r
+shown-again v u f work written work′ r e h rest room same =
+    rw e (record { said = h .said; after = h .after ∙ after-same u work written rest room same; bare = h .bare })

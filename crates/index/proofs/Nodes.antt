@@ -36,17 +36,22 @@ use Rattle.index.proofs.Views.{part-within, part-of-body, item-none, it
 root : F.Tree → F.Item
 root t = record { node = t .root; level = 1; subtrees = 0 }
 
--- the node that was wanted
-pub record Stands (k : ℕ) (f : List ℕ) (tree : TreePlace) (i : F.Item) : Type 0 where
+-- where the data stand, and in them the node that was wanted
+pub record Within (f : List ℕ) (tree : TreePlace) : Type 0 where
   pub order : tree .at ≤ tree .end
   pub inside : tree .end ≤ length f
+  pub long : length (part f (tree .at) (tree .end)) ≡ tree .end - tree .at
   pub place : tree .node < tree .end - tree .at
+
+-- and the item that it is
+pub record Stands (f : List ℕ) (tree : TreePlace) (i : F.Item) : Type 0 where
+  pub within : Within f tree
   pub level : i .level ≡ tree .level
   pub taken : ℕ
   pub reads : readNode 20 0 (drop (tree .node) (part f (tree .at) (tree .end))) ≡ good (record { node = i .node; subtrees = i .subtrees }) taken
 
 module _ (k : ℕ) (f : List ℕ) (tree : TreePlace) where
-  stands-is : (t : F.Tree) → TreeIs k (bodyOf f) t tree → k < tree .nodes → Stands k f tree (getD (F.treeItems t) k (root t))
+  stands-is : (t : F.Tree) → TreeIs k (bodyOf f) t tree → k < tree .nodes → Stands f tree (getD (F.treeItems t) k (root t))
   stands-is t is more =
       let d : List ℕ = part f (tree .at) (tree .end) in
       let same : part (bodyOf f) (tree .at) (tree .end) ≡ d = part-of-body f (tree .at) (tree .end) (is .order) (is .inside) in
@@ -56,11 +61,11 @@ module _ (k : ℕ) (f : List ℕ) (tree : TreePlace) where
       let reads : readNodes 20 0 d ≡ good t (length d) = rw same at (is .reads) in
       let shown : Shown (drop (placeOf k d) d) (getD (F.treeItems t) k (root t)) = tree-item d t (length d) reads k (root t) few in
       let took = node-took 20 0 (drop (placeOf k d) d) .of _ _ (shown .reads) in
-      let long : length d ≤ tree .end - tree .at = simp length-take (omega arith) in
+      let order = is .order in
+      let inside = is .inside in
+      let long : length d ≡ tree .end - tree .at = simp (length-take, length-drop) (omega arith) in
       record {
-        order = is .order;
-        inside = omega (arith, is .inside);
-        place = omega (arith, took, length-drop (placeOf k d) d);
+        within = record { order = order; inside = omega arith; long = long; place = omega (arith, took, length-drop (placeOf k d) d) };
         level = sym (is .level ∙ level-is k (F.treeItems t) (root t) few);
         taken = shown .taken;
         reads = rw place (shown .reads);
@@ -68,11 +73,14 @@ module _ (k : ℕ) (f : List ℕ) (tree : TreePlace) where
 
   -- by what was found
   pub stands {ℓ} : {X : Type ℓ} (o : Option F.Tree) → TreeFound k (bodyOf f) o tree → k < tree .nodes
-      → ((i : F.Item) → listed (itemsOf o) k ≡ inFile i → Stands k f tree i → X) → X
+      → ((i : F.Item) → listed (itemsOf o) k ≡ inFile i → Stands f tree i → X) → X
   stands none is more g = let z : tree .nodes ≡ 0 = ap (λ (x : TreePlace). x .nodes) is in absurd (omega arith)
   stands (some t) is more g =
       let few : k < length (F.treeItems t) = omega (arith, is .nodes) in
       g (getD (F.treeItems t) k (root t)) (pick-file false _ _ refl (item-some (F.treeItems t) k (root t) few)) (stands-is t is more)
+
+  pub within : (o : Option F.Tree) → TreeFound k (bodyOf f) o tree → k < tree .nodes → Within f tree
+  within o is more = stands o is more λ i v h. h .within
 
   pub no-node-there : (o : Option F.Tree) → TreeFound k (bodyOf f) o tree → tree .nodes ≤ k → listed (itemsOf o) k ≡ refused 18 0
   no-node-there none is few = refl
@@ -156,9 +164,17 @@ module _ (d : List ℕ) (at : ℕ) (i : F.Item) (taken : ℕ)
       let q = rw reads at e in
       let is : n ≡ nodeOf at (record { node = i .node; subtrees = i .subtrees }) taken = cc in rw is parts-are
 
+-- the places of the node that was wanted
+pub places : (k : ℕ) (f : List ℕ) (tree : TreePlace) (o : Option F.Tree) → TreeFound k (bodyOf f) o tree → k < tree .nodes
+    → (n : Code.Node) → N.Good n ≡ nodeAt (tree .node) (readNode 20 0 (drop (tree .node) (part f (tree .at) (tree .end))))
+    → (tree .node ≤ n .nul) × (n .valid ≡ true → n .object + 20 ≤ length (part f (tree .at) (tree .end)))
+places k f tree o is more n e =
+    stands k f tree o is more λ i v h.
+    let p = node-parts (part f (tree .at) (tree .end)) (tree .node) i (h .taken) (h .reads) n e in (p .named, p .there)
+
 -- ---- the answer
 
-pub node-shows : (k : ℕ) (f : List ℕ) (tree : TreePlace) (v : View F.Item) (i : F.Item) → v ≡ inFile i → Stands k f tree i
+pub node-shows : (f : List ℕ) (tree : TreePlace) (v : View F.Item) (i : F.Item) → v ≡ inFile i → Stands f tree i
     → (n : Code.Node) → NodeParts (part f (tree .at) (tree .end)) (tree .node) i n
     → (object : List ℕ) → object ≡ cond (n .valid) (take 20 (drop (n .object) (part f (tree .at) (tree .end)))) (replicate 20 0)
     → NodeShows v f
@@ -171,11 +187,9 @@ pub node-shows : (k : ℕ) (f : List ℕ) (tree : TreePlace) (v : View F.Item) (
       object = object;
     })
 unfolding nodeSaid nameIn
-node-shows k f tree v i is h n p object o =
+node-shows f tree v i is h n p object o =
     let d : List ℕ = part f (tree .at) (tree .end) in
-    let long : length d ≤ tree .end - tree .at = simp length-take (omega arith) in
-    let order = h .order in
-    let last = h .inside in
+    let w = h .within in
     let named = p .named in
     let inside = p .inside in
     let fits : tree .at + tree .node + (n .nul - tree .node) ≤ length f = omega arith in

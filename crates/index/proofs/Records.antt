@@ -28,10 +28,14 @@ item-is (suc n) [] = refl
 item-is zero (u ∷ us) = refl
 item-is (suc n) (u ∷ us) = item-is n us
 
--- the record that was wanted
-pub record Stands (f : List ℕ) (undo : UndoPlace) (u : F.Undo) : Type 0 where
+-- where the data stand
+pub record Within (f : List ℕ) (undo : UndoPlace) : Type 0 where
   pub order : undo .at ≤ undo .end
   pub inside : undo .end ≤ length f
+
+-- and in them the record that was wanted
+pub record Stands (f : List ℕ) (undo : UndoPlace) (u : F.Undo) : Type 0 where
+  pub within : Within f undo
   pub reads : undoAt 20 0 (drop (undo .«record_at») (part f (undo .at) (undo .end))) ≡ some u
 
 no-record : F.Undo
@@ -48,7 +52,10 @@ module _ (k : ℕ) (f : List ℕ) (undo : UndoPlace) where
       let there : getElem? us k ≡ some (getD us k no-record) = item-some us k no-record few in
       let same = part-of-body f (undo .at) (undo .end) (is .order) (is .inside) in
       g (getD us k no-record) (pick-file false _ _ refl there)
-      (record { order = is .order; inside = omega (arith, is .inside); reads = rw same at (is .wanted few) ∙ item-is k us ∙ there })
+      (record { within = record { order = is .order; inside = omega (arith, is .inside) }; reads = rw same at (is .wanted few) ∙ item-is k us ∙ there })
+
+  pub within : (o : Option (List F.Undo)) → UndoFound k (bodyOf f) o undo → k < undo .records → Within f undo
+  within o is more = stands o is more λ u v h. h .within
 
   pub no-record-there : (o : Option (List F.Undo)) → UndoFound k (bodyOf f) o undo → undo .records ≤ k → listed o k ≡ refused 18 0
   no-record-there none is few = refl
@@ -74,8 +81,7 @@ module _ (f : List ℕ) (undo : UndoPlace) (v : View F.Undo) (u : F.Undo) (is : 
       let d : List ℕ = part f (undo .at) (undo .end) in
       let q : s ≡ shown (undo .«record_at») (some u) = shows ∙ ap (shown (undo .«record_at»)) (h .reads) in
       let long : length d ≤ undo .end - undo .at = simp length-take (omega arith) in
-      let order = h .order in
-      let last = h .inside in
+      let w = h .within in
       let at : s .path ≡ undo .«record_at» = ap (λ (x : Code.Shown). x .path) q in
       let size : s .«path_length» ≡ length (u .path) = ap (λ (x : Code.Shown). x .«path_length») q in
       let fits : undo .at + s .path + s .«path_length» ≤ length f = omega arith in

@@ -1,22 +1,23 @@
 -- Laws of parts of lists, of the answers' views, and of refusals.
 use mathlib.Core.Path.{_≡_, refl, sym, ap, _∙_}
-use mathlib.Core.List.{List, [], _∷_}
+use mathlib.Core.List.{List, [], _∷_, _++_}
 use mathlib.Core.Bool.{Bool, true, false}
 use mathlib.Core.Option.{Option, none, some}
 use Prim.Native.Nat.{ℕ, zero, suc, _+_, _-_, _≤_, _<_}
 use native.Mathlib.Omega.{arith}
-use lib.ListN.{length, take, drop, getD, getElem?, length-take}
+use lib.ListN.{length, take, drop, getD, replicate, getElem?, length-take}
 use lib.Seq.{take-take}
 use Rattle.format.specs.Records as F
 use Rattle.format.specs.Reading.{Read}
 use Rattle.format.specs.Reader.{Contents}
+use Rattle.entries_run.specs.Steps.{Room}
 use Rattle.file.specs.declared.Checked.{Checked}
 use Rattle.file.specs.declared.Checked.the-variants as K
 use Rattle.file.specs.declared.EntryAnswer.{EntryAnswer}
 use Rattle.file.specs.declared.NodeAnswer.{NodeAnswer}
 use Rattle.file.specs.declared.UndoAnswer.{UndoAnswer}
 use Rattle.file.specs.Answers.{View, refused, inFile, inWorkspace, pick, given, cleared, checkedOf, checkAnswer, entryOf, entryAnswer, nodeOf, nodeAnswer, undoOf, undoAnswer, entrySaid, nodeSaid, undoSaid, refusedEntry, refusedNode, refusedUndo}
-use Rattle.file.proofs.Laws.{small, large}
+use Rattle.file.proofs.Laws.{small, large, cleared-large}
 use Rattle.extensions.specs.Heads.{part}
 use Rattle.index.specs.Calls.{bodyOf, EntryShows, NodeShows, UndoShows}
 
@@ -28,6 +29,13 @@ part-within m zero n s h = take-take n m s (omega arith)
 part-within zero (suc at) n s h = absurd (omega arith)
 part-within (suc m) (suc at) n [] h = refl
 part-within (suc m) (suc at) n (x ∷ s) h = part-within m at n s (omega arith)
+
+-- the body's length
+pub file-long : (f : List ℕ) → 12 ≤ length (bodyOf f) → 32 ≤ length f
+file-long f h = let l = length-take (length f - 20) f in omega arith
+
+pub body-room : (f work : List ℕ) → 32 ≤ length f → length f ≤ 16777216 → 8192 ≤ length work → Room (bodyOf f) work
+body-room f work long short room = let l = length-take (length f - 20) f in record { least = omega arith; most = omega arith; room = room }
 
 -- data in the body are data in the file
 pub part-of-body : (f : List ℕ) (a e : ℕ) → a ≤ e → e ≤ length (bodyOf f) → part (bodyOf f) a e ≡ part f a e
@@ -45,6 +53,11 @@ module _ {A : Type 0} where
   item-some [] k z h = absurd (omega arith)
   item-some (a ∷ l) zero z h = refl
   item-some (a ∷ l) (suc k) z h = item-some l k z (omega arith)
+
+-- ---- the workspace, cleared after it was written to
+
+pub cleared-by : (work after left : List ℕ) → 8192 ≤ length work → after ≡ replicate 8192 0 ++ left → left ≡ drop 8192 work → after ≡ cleared work
+cleared-by work after left room e rest = e ∙ rw (rest, cleared-large work room)
 
 -- ---- views
 

@@ -19,7 +19,9 @@ ghost use Rattle.index.specs.Calls.{bodyOf, WholeOf, EntryShows, NodeSho
 use cache_tree::node::Node;
 use cache_tree::node::NodeRead;
 use cache_tree::node::read_node;
+use entries_run::Run;
 use entries_run::Sought;
+use extensions::Extended;
 use extensions::Found;
 use extensions::TreePlace;
 use extensions::UndoPlace;
@@ -158,7 +160,22 @@ fn read_body(b: &[u8], v: u32, count: u32, work: &mut [u8], seed: u64, want_node
     requires { ⌜ Room (now b) (now work) × (count ≡ be32 (now b) 8) ⌝ }
     ensures { λ r. ⌜ WholeOf «want_node» «want_record» (readBody 20 v (now (b .entry))) (now (b .entry)) r × (drop 8192 (now (work .exit)) ≡ drop 8192 (now (work .entry))) ⌝ }
 {
-    Whole::Bad(0, 0)
+    let run = entries_run::run_entries(b, v, &mut *work, count);
+    match run {
+        Run::Bad(n, p) => Whole::Bad(n, p),
+        Run::Good(end) => {
+            let read = extensions::read_extensions(b, end, v, count, work, seed, want_node, want_record);
+            match read {
+                Extended::Bad(n, p) => Whole::Bad(n, p),
+                Extended::Good(found) => Whole::Good(Parts {
+                    version: v,
+                    count: count,
+                    end: end,
+                    found: found,
+                }),
+            }
+        }
+    }
 }
 
 // The whole file. want_node and want_record are numbers of a node and of a record, from 0 on.

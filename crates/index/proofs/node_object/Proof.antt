@@ -1,19 +1,14 @@
+-- The proof that `node_object` meets its contract.
 use borrow.Author.Needs.{needs}
 use Rattle.index.proofs.node_object.Statement.{statement}
 use Rattle.index.proofs.node_object.Tie as tie
-use Rattle.index.proofs.node_object.Reads as reads
-use Rattle.index.proofs.node_object.Lts as lts
-use Rattle.file.proofs.object_at.Reads as object-at-reads
 
--- src/lib.rt:91:9
 object-at-requires : tie.Need-object-at-requires
-object-at-requires c κs = ?
+object-at-requires c κs = c .before .before .pre (c .if1 .taken)
 
--- src/lib.rt:91:9
 returns : tie.Need-returns
-returns c = ?
+returns c = rw (c .before .if1 .taken) (c .object-at .ensures)
 
--- src/lib.rt:86:1
 returns-2 : tie.Need-returns-2
 returns-2 c = search needs
 

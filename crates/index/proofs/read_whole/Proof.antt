@@ -1,46 +1,49 @@
+-- The proof that `read_whole` meets its contract.
+use mathlib.Core.Path.{refl, sym}
+use native.Mathlib.Omega.{arith}
+use lib.Seq.{length-take-le}
+use Rattle.file_header.specs.Header.{Opened}
+use Rattle.index.proofs.Views.{body-room}
 use borrow.Author.Needs.{needs}
 use Rattle.index.proofs.read_whole.Statement.{statement}
 use Rattle.index.proofs.read_whole.Tie as tie
-use Rattle.index.proofs.read_whole.Reads as reads
-use Rattle.index.proofs.read_whole.Lts as lts
-use Rattle.file_header.proofs.read_header.Reads as read-header-reads
-use Rattle.index.proofs.read_body.Reads as read-body-reads
 
--- src/lib.rt:166:9
+-- the header is accepted
+opened : (c : tie.After-header2) → Opened (c .before .before .before .before .before .args .file .now) (c .header2 .given .0 .0)
+opened c = rw (c .header2 .given .1) at (c .before .before .read-header .ensures)
+
 read-header-requires : tie.Need-read-header-requires
 read-header-requires c κs = search needs
 
--- src/lib.rt:168:21
 enum-known-header : tie.Need-enum-known-header
 enum-known-header c = search needs
 
--- src/lib.rt:169:22
 enum-known-header-2 : tie.Need-enum-known-header-2
 enum-known-header-2 c = search needs
 
--- src/lib.rt:170:21
 sub-n : tie.Need-sub-n
-sub-n c = ?
+sub-n c = let h = opened (c .before) in omega arith
 
--- src/lib.rt:171:23
 slice-aggregate-read-body : tie.Need-slice-aggregate-read-body
-slice-aggregate-read-body c = ?
+slice-aggregate-read-body c = sym (length-take-le _ (c .before .before .before .before .before .before .before .args .file .now) (omega arith))
 
--- src/lib.rt:171:13
 read-body-requires : tie.Need-read-body-requires
-read-body-requires c κs = ?
+read-body-requires c κs =
+    let h = opened (c .before .before .before) in
+    let st = c .before .before .before .before .before .before .before .before in
+    (body-room (st .args .file .now) _ (h .long) (h .short) (st .pre), h .counted)
 
--- src/lib.rt:162:1
 returns : tie.Need-returns
-returns c = ?
+returns c = (rw (c .before .header .given .1) at (c .before .before .before .read-header .ensures), refl)
 
--- src/lib.rt:162:1
 same-length : tie.Need-same-length
 same-length c = search needs
 
--- src/lib.rt:162:1
 returns-2 : tie.Need-returns-2
-returns-2 c = ?
+returns-2 c =
+    let m = c .before .before in
+    let h = opened (m .before .before .before .before) in
+    (rw (h .read) (m .read-body .ensures .0), m .read-body .ensures .1)
 
 pub read-whole-spec : {M : Type 1} → statement M
 read-whole-spec =
