@@ -96,7 +96,7 @@ pub fn clear_work(work: &mut [u8]) -> bool
 // ---- the fields of an entry
 
 // The object name at a place.
-fn object_at(b: &[u8], at: usize) -> [u8; 20]
+pub fn object_at(b: &[u8], at: usize) -> [u8; 20]
     requires { ⌜ at + 20 ≤ length (now b) ⌝ }
     ensures { λ r. ⌜ r ≡ take 20 (drop at (now (b .entry))) ⌝ }
 {

@@ -1,0 +1,84 @@
+-- Laws of an entry that was sought and is shown.
+use mathlib.Core.Path.{_≡_, refl, sym, ap, _∙_}
+use mathlib.Core.List.{List, _++_}
+use mathlib.Core.Bool.{true, false}
+use mathlib.Core.Option.{Option, some}
+use Prim.Native.Nat.{ℕ, _+_, _-_, _≤_, _<_}
+use native.Mathlib.Omega.{arith}
+use lib.ListN.{length, take, drop, replicate, length-take}
+use lib.Seq.{length-take-le}
+use lib.Dec.{eqb}
+use Rattle.format.specs.Records as F
+use Rattle.format.specs.Reader as R
+use Rattle.entries_run.specs.declared.Step.{Step}
+use Rattle.entries_run.specs.Steps.{nameAt, entryAt, Placed}
+use Rattle.file.specs.declared.EntryAnswer.{EntryAnswer}
+use Rattle.file.specs.declared.Fields.{Fields}
+use Rattle.file.specs.declared.Shown.the-variants as S
+use Rattle.file.specs.Answers.{View, refused, inFile, inWorkspace, pick, cleared, holding, workAfter, nameIn, entryWith, entrySaid, refusedEntry}
+use Rattle.file.proofs.Laws.{cleared-large, holding-after, holding-name, part-in}
+use Rattle.index.specs.Calls.{bodyOf, EntryShows}
+use Rattle.index.proofs.Views.{part-within, pick-file, pick-work}
+
+module _ (v : ℕ) (f written : List ℕ) (at : ℕ) (st : Step) (o : Option F.Entry) (found : o ≡ some (entryAt v (bodyOf f) written at st))
+    (x : Fields) (fields : (name : List ℕ) → entryWith x name ≡ R.entryOf 20 (drop at (bodyOf f)) (st .flags) (st .word) name)
+    (work work′ : List ℕ) where
+  entry : F.Entry
+  entry = entryAt v (bodyOf f) written at st
+
+  entry-name : entry .name ≡ nameAt v (bodyOf f) written (st .next .start) (st .next .len)
+  unfolding entry R.entryOf
+  entry-name = refl
+
+  entry-with : (name : List ℕ) → name ≡ nameAt v (bodyOf f) written (st .next .start) (st .next .len) → entryWith x name ≡ entry
+  unfolding entry
+  entry-with name e = fields name ∙ rw e
+
+  -- versions 2 and 3: the name is a part of the file
+  pub shown-file : eqb v 4 ≡ false → st .next .start + st .next .len ≤ length (bodyOf f) → work′ ≡ cleared work
+      → EntryShows (pick (eqb v 4) o) f work work′ (record { shown = S.InFile (st .next .start) (st .next .len); fields = x })
+  unfolding entrySaid nameIn nameAt entry
+  shown-file old inside after =
+      let b : length (bodyOf f) ≤ length f - 20 = simp length-take (omega arith) in
+      let fits : st .next .start + st .next .len ≤ length f = omega arith in
+      let is : pick (eqb v 4) o ≡ inFile entry = pick-file (eqb v 4) o entry old found in
+      let name : nameIn (S.InFile (st .next .start) (st .next .len)) f work′ ≡ nameAt v (bodyOf f) written (st .next .start) (st .next .len) =
+      part-in _ _ f fits ∙ rw old (sym (part-within (length f - 20) (st .next .start) (st .next .len) f (omega arith))) in
+      record {
+        said = ap inFile (entry-with _ name) ∙ sym is;
+        after = rw is after;
+        bare = λ n p q. let z : _≡_ {A = ℕ} 0 1 = cc in absurd (omega arith);
+      }
+
+  -- version 4: the name stands first in the workspace
+  pub shown-work : eqb v 4 ≡ true → st .next .len ≤ 8192 → length written ≡ length work → 8192 ≤ length work → drop 8192 written ≡ drop 8192 work
+      → work′ ≡ take (st .next .len) written ++ (replicate (8192 - st .next .len) 0 ++ drop 8192 written)
+      → EntryShows (pick (eqb v 4) o) f work work′ (record { shown = S.InWorkspace (st .next .len); fields = x })
+  unfolding entrySaid nameAt entry
+  shown-work new short same room rest held =
+      let fits : st .next .len ≤ length written = omega arith in
+      let name : List ℕ = take (st .next .len) written in
+      let long : length name ≡ st .next .len = length-take-le (st .next .len) written fits in
+      let is : pick (eqb v 4) o ≡ inWorkspace entry = pick-work (eqb v 4) o entry new found in
+      let holds : work′ ≡ holding name work = held ∙ holding-after work written rest (st .next .len) fits in
+      let own : nameAt v (bodyOf f) written (st .next .start) (st .next .len) ≡ name = rw new in
+      let named : nameIn (S.InWorkspace (st .next .len)) f work′ ≡ name = rw holds (rw long at (holding-name name f work)) in
+      record {
+        said = ap inWorkspace (entry-with _ (named ∙ sym own)) ∙ sym is;
+        after = rw is (holds ∙ ap (λ (s : List ℕ). holding s work) (sym (entry-name ∙ own)));
+        bare = λ n p q. let z : _≡_ {A = ℕ} 0 1 = cc in absurd (omega arith);
+      }
+
+-- ---- after another function has written to the workspace
+
+after-same : (v : View F.Entry) (work written : List ℕ) → drop 8192 written ≡ drop 8192 work → 8192 ≤ length work → 8192 ≤ length written
+    → workAfter v written ≡ workAfter v work
+unfolding holding
+after-same (refused n p) work written rest room same = rw (cleared-large written same, cleared-large work room, rest)
+after-same (inFile e) work written rest room same = rw (cleared-large written same, cleared-large work room, rest)
+after-same (inWorkspace e) work written rest room same = rw rest
+
+pub shown-again : (v u : View F.Entry) (f work written work′ : List ℕ) (r : EntryAnswer) → v ≡ u → EntryShows u f written work′ r
+    → drop 8192 written ≡ drop 8192 work → 8192 ≤ length work → 8192 ≤ length written → EntryShows v f work work′ r
+shown-again v u f work written work′ r e h rest room same =
+    rw e (record { said = h .said; after = h .after ∙ after-same u work written rest room same; bare = h .bare })

@@ -1,0 +1,6 @@
+-- Laws that the proofs of the functions cite.
+pub mod Views
+pub mod Entries
+pub mod Nodes
+pub mod Records
+pub mod Bodies

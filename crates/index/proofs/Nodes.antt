@@ -1,0 +1,205 @@
+-- Laws of a node of the cache tree that is shown.
+use mathlib.Core.Path.{_≡_, refl, sym, ap, _∙_}
+use mathlib.Core.List.{List}
+use mathlib.Core.Bool.{Bool, true, false, cond}
+use mathlib.Core.Option.{Option, none, some}
+use Prim.Native.Nat.{ℕ, suc, _+_, _-_, _≤_, _<_}
+use native.Mathlib.Omega.{arith}
+use lib.ListN.{length, take, drop, getD, replicate, length-take, length-drop}
+use lib.Seq.{drop-drop}
+use lib.Dec.{leb, ltb}
+use borrow.Author.Tests.{lt-ltb}
+use Rattle.format.specs.Records as F
+use Rattle.format.specs.Reading.{Read, bad, good}
+use Rattle.format.specs.Bytes.{before}
+use Rattle.format.specs.Reader.{Head, readText, readCount, readSubtrees, readObject, readNode, readNodes}
+use Rattle.cache_tree.specs.declared.node.Node as Code
+use Rattle.cache_tree.specs.declared.node.NodeRead.the-variants as N
+use Rattle.cache_tree.specs.Answers.{isValid, counted, objectLength, nodeOf, nodeAt, levelIn}
+use Rattle.cache_tree.specs.Flat.{placeOf}
+use Rattle.cache_tree.proofs.Readings.{need-inv, bind-inv, node-took}
+use Rattle.cache_tree.proofs.Nodes.{node-named, node-object}
+use Rattle.cache_tree.proofs.Flat.{Shown}
+use Rattle.cache_tree.proofs.Shape.{tree-item, level-is}
+use Rattle.spelling_entries.proofs.Reading.{false-true}
+use Rattle.file.specs.declared.Shown.the-variants as S
+use Rattle.file.specs.Answers.{View, refused, inFile, listed, itemsOf, partIn, nameIn, countWith, nodeSaid}
+use Rattle.file.proofs.Laws.{part-in}
+use Rattle.extensions.specs.declared.TreePlace.{TreePlace}
+use Rattle.extensions.specs.Heads.{part}
+use Rattle.extensions.specs.Found.{TreeIs, TreeFound}
+use Rattle.index.specs.Calls.{bodyOf, NodeShows}
+use Rattle.index.proofs.Views.{part-within, part-of-body, item-none, item-some, pick-none, pick-file}
+
+-- ---- a tree that was found, with more than k nodes
+
+root : F.Tree → F.Item
+root t = record { node = t .root; level = 1; subtrees = 0 }
+
+-- where the data stand, and in them the node that was wanted
+pub record Within (f : List ℕ) (tree : TreePlace) : Type 0 where
+  pub order : tree .at ≤ tree .end
+  pub inside : tree .end ≤ length f
+  pub long : length (part f (tree .at) (tree .end)) ≡ tree .end - tree .at
+  pub place : tree .node < tree .end - tree .at
+
+-- and the item that it is
+pub record Stands (f : List ℕ) (tree : TreePlace) (i : F.Item) : Type 0 where
+  pub within : Within f tree
+  pub level : i .level ≡ tree .level
+  pub taken : ℕ
+  pub reads : readNode 20 0 (drop (tree .node) (part f (tree .at) (tree .end))) ≡ good (record { node = i .node; subtrees = i .subtrees }) taken
+
+module _ (k : ℕ) (f : List ℕ) (tree : TreePlace) where
+  stands-is : (t : F.Tree) → TreeIs k (bodyOf f) t tree → k < tree .nodes → Stands f tree (getD (F.treeItems t) k (root t))
+  stands-is t is more =
+      let d : List ℕ = part f (tree .at) (tree .end) in
+      let same : part (bodyOf f) (tree .at) (tree .end) ≡ d = part-of-body f (tree .at) (tree .end) (is .order) (is .inside) in
+      let b : length (bodyOf f) ≤ length f = simp length-take (omega arith) in
+      let few : k < length (F.treeItems t) = omega (arith, is .nodes) in
+      let place : tree .node ≡ placeOf k d = is .node ∙ rw (lt-ltb k (length (F.treeItems t)) few, same) in
+      let reads : readNodes 20 0 d ≡ good t (length d) = rw same at (is .reads) in
+      let shown : Shown (drop (placeOf k d) d) (getD (F.treeItems t) k (root t)) = tree-item d t (length d) reads k (root t) few in
+      let took = node-took 20 0 (drop (placeOf k d) d) .of _ _ (shown .reads) in
+      let order = is .order in
+      let inside = is .inside in
+      let long : length d ≡ tree .end - tree .at = simp (length-take, length-drop) (omega arith) in
+      record {
+        within = record { order = order; inside = omega arith; long = long; place = omega (arith, took, length-drop (placeOf k d) d) };
+        level = sym (is .level ∙ level-is k (F.treeItems t) (root t) few);
+        taken = shown .taken;
+        reads = rw place (shown .reads);
+      }
+
+  -- by what was found
+  pub stands {ℓ} : {X : Type ℓ} (o : Option F.Tree) → TreeFound k (bodyOf f) o tree → k < tree .nodes
+      → ((i : F.Item) → listed (itemsOf o) k ≡ inFile i → Stands f tree i → X) → X
+  stands none is more g = let z : tree .nodes ≡ 0 = ap (λ (x : TreePlace). x .nodes) is in absurd (omega arith)
+  stands (some t) is more g =
+      let few : k < length (F.treeItems t) = omega (arith, is .nodes) in
+      g (getD (F.treeItems t) k (root t)) (pick-file false _ _ refl (item-some (F.treeItems t) k (root t) few)) (stands-is t is more)
+
+  pub within : (o : Option F.Tree) → TreeFound k (bodyOf f) o tree → k < tree .nodes → Within f tree
+  within o is more = stands o is more λ i v h. h .within
+
+  pub no-node-there : (o : Option F.Tree) → TreeFound k (bodyOf f) o tree → tree .nodes ≤ k → listed (itemsOf o) k ≡ refused 18 0
+  no-node-there none is few = refl
+  no-node-there (some t) is few = pick-none false _ (item-none (F.treeItems t) k (omega (arith, is .nodes)))
+
+-- ---- what is read there
+
+-- the parts of the node, as the code has them
+pub record NodeParts (d : List ℕ) (at : ℕ) (i : F.Item) (n : Code.Node) : Type 0 where
+  pub named : at ≤ n .nul
+  pub inside : n .nul ≤ length d
+  pub name : i .node .name ≡ take (n .nul - at) (drop at d)
+  pub count : countWith (n .valid) (n .count) ≡ i .node .count
+  pub subtrees : n .subtrees ≡ i .subtrees
+  pub there : n .valid ≡ true → n .object + 20 ≤ length d
+  pub object : i .node .object ≡ cond (n .valid) (take 20 (drop (n .object) d)) (replicate 20 0)
+
+with-count : (c : F.Count) → countWith (isValid c) (counted c) ≡ c
+with-count (F.valid n) = refl
+with-count F.invalid = refl
+
+valid-length : (c : F.Count) → isValid c ≡ true → objectLength c ≡ 20
+valid-length (F.valid n) e = refl
+valid-length F.invalid e = false-true e
+
+object-takes : (w p : ℕ) (c : F.Count) (s o : List ℕ) (k : ℕ) → readObject w p c s ≡ good o k → isValid c ≡ true → w ≡ k
+unfolding readObject
+object-takes w p (F.valid n) s o k e v = need-inv (leb w (length s)) 15 p k o _ e (λ l r. (cc))
+object-takes w p F.invalid s o k e v = false-true v
+
+-- a node with a valid entry count takes the bytes of its object name
+node-takes : (w p : ℕ) (s : List ℕ) (h : Head) (m : ℕ) → readNode w p s ≡ good h m → isValid (h .node .count) ≡ true → w ≤ m
+unfolding readNode
+node-takes w p s h m e v =
+    bind-inv (readText 0 15 p s) _ h m e λ name a i q r is.
+    bind-inv (readCount p (drop a s)) _ h i r λ count b j q₁ r₁ is₁.
+    bind-inv (readSubtrees p (drop b (drop a s))) _ h j r₁ λ k c l q₂ r₂ is₂.
+    bind-inv (readObject w p count (drop c (drop b (drop a s)))) _ h l r₂ λ object o z q₃ r₃ is₃.
+    let same : record { node = record { name = name; count = count; object = object }; subtrees = k } ≡ h = cc in
+    let valid : isValid count ≡ true = ap (λ (x : Head). isValid (x .node .count)) same ∙ v in
+    omega (arith, object-takes w p count _ object o q₃ valid)
+
+module _ (d : List ℕ) (at : ℕ) (i : F.Item) (taken : ℕ)
+    (reads : readNode 20 0 (drop at d) ≡ good (record { node = i .node; subtrees = i .subtrees }) taken) where
+  pub node-there : N.Bad ≡ nodeAt at (readNode 20 0 (drop at d)) → ⊥
+  unfolding nodeAt
+  node-there e = let q = rw reads at e in let z : _≡_ {A = ℕ} 0 1 = cc in omega arith
+
+  object-at : (t : Bool) → isValid (i .node .count) ≡ t
+      → i .node .object ≡ cond t (take 20 (drop (at + taken - objectLength (i .node .count)) d)) (replicate 20 0)
+  object-at true e =
+      let long = node-takes 20 0 (drop at d) _ taken reads e in
+      let o : objectLength (i .node .count) ≡ 20 = valid-length (i .node .count) e in
+      let place : at + (taken - 20) ≡ at + taken - objectLength (i .node .count) = omega arith in
+      node-object 20 0 (drop at d) _ taken reads .0 e ∙ rw (drop-drop (taken - 20) at d, place)
+  object-at false e = node-object 20 0 (drop at d) _ taken reads .1 e
+
+  parts-are : NodeParts d at i (nodeOf at (record { node = i .node; subtrees = i .subtrees }) taken)
+  parts-are =
+      let took = node-took 20 0 (drop at d) .of _ _ reads in
+      let g = node-named 20 0 (drop at d) _ taken reads in
+      let l = length-drop at d in
+      let short : before 0 (drop at d) < length (drop at d) = g .2 in
+      let size : length (i .node .name) ≡ before 0 (drop at d) = ap length (g .0) ∙ simp length-take (omega arith) in
+      let end : at + length (i .node .name) - at ≡ before 0 (drop at d) = omega arith in
+      record {
+        named = omega arith;
+        inside = omega arith;
+        name = g .0 ∙ rw end;
+        count = with-count (i .node .count);
+        subtrees = refl;
+        there = λ v.
+            let long = node-takes 20 0 (drop at d) _ taken reads v in
+            let o = valid-length (i .node .count) v in omega arith;
+        object = object-at (isValid (i .node .count)) refl;
+      }
+
+  pub node-parts : (n : Code.Node) → N.Good n ≡ nodeAt at (readNode 20 0 (drop at d)) → NodeParts d at i n
+  unfolding nodeAt
+  node-parts n e =
+      let q = rw reads at e in
+      let is : n ≡ nodeOf at (record { node = i .node; subtrees = i .subtrees }) taken = cc in rw is parts-are
+
+-- the places of the node that was wanted
+pub places : (k : ℕ) (f : List ℕ) (tree : TreePlace) (o : Option F.Tree) → TreeFound k (bodyOf f) o tree → k < tree .nodes
+    → (n : Code.Node) → N.Good n ≡ nodeAt (tree .node) (readNode 20 0 (drop (tree .node) (part f (tree .at) (tree .end))))
+    → (tree .node ≤ n .nul) × (n .valid ≡ true → n .object + 20 ≤ length (part f (tree .at) (tree .end)))
+places k f tree o is more n e =
+    stands k f tree o is more λ i v h.
+    let p = node-parts (part f (tree .at) (tree .end)) (tree .node) i (h .taken) (h .reads) n e in (p .named, p .there)
+
+-- ---- the answer
+
+pub node-shows : (f : List ℕ) (tree : TreePlace) (v : View F.Item) (i : F.Item) → v ≡ inFile i → Stands f tree i
+    → (n : Code.Node) → NodeParts (part f (tree .at) (tree .end)) (tree .node) i n
+    → (object : List ℕ) → object ≡ cond (n .valid) (take 20 (drop (n .object) (part f (tree .at) (tree .end)))) (replicate 20 0)
+    → NodeShows v f
+    (record {
+      shown = S.InFile (tree .at + tree .node) (n .nul - tree .node);
+      level = tree .level;
+      valid = n .valid;
+      count = n .count;
+      subtrees = n .subtrees;
+      object = object;
+    })
+unfolding nodeSaid nameIn
+node-shows f tree v i is h n p object o =
+    let d : List ℕ = part f (tree .at) (tree .end) in
+    let w = h .within in
+    let named = p .named in
+    let inside = p .inside in
+    let fits : tree .at + tree .node + (n .nul - tree .node) ≤ length f = omega arith in
+    let name : partIn (tree .at + tree .node) (n .nul - tree .node) f ≡ i .node .name =
+    part-in _ _ f fits
+    ∙ sym
+    (p .name
+    ∙ part-within (tree .end - tree .at) (tree .node) (n .nul - tree .node) (drop (tree .at) f) (omega arith)
+    ∙ ap (take (n .nul - tree .node)) (drop-drop (tree .node) (tree .at) f)) in
+    record {
+      said = λ work. rw (name, p .count, p .subtrees, o, ← (p .object), ← (h .level), is) refl;
+      bare = λ a b q. let z : _≡_ {A = ℕ} 0 1 = cc in absurd (omega arith);
+    }

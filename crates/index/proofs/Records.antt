@@ -1,0 +1,96 @@
+-- Laws of a resolve-undo record that is shown.
+use mathlib.Core.Path.{_≡_, refl, sym, ap, _∙_}
+use mathlib.Core.List.{List, [], _∷_}
+use mathlib.Core.Bool.{false}
+use mathlib.Core.Option.{Option, none, some}
+use Prim.Native.Nat.{ℕ, zero, suc, _+_, _-_, _≤_, _<_}
+use native.Mathlib.Omega.{arith}
+use lib.ListN.{length, take, drop, getD, getElem?, length-take}
+use lib.Seq.{drop-drop}
+use lib.Dec.{lit≤}
+use Rattle.format.specs.Records as F
+use Rattle.resolve_undo.specs.declared.Shown as Code
+use Rattle.resolve_undo.specs.Answers.{undoAt, item, shown}
+use Rattle.resolve_undo.proofs.Showing.{shown-path}
+use Rattle.file.specs.declared.Shown.the-variants as S
+use Rattle.file.specs.Answers.{View, refused, inFile, listed, partIn, nameIn, undoSaid}
+use Rattle.file.proofs.Laws.{part-in}
+use Rattle.extensions.specs.declared.UndoPlace.{UndoPlace}
+use Rattle.extensions.specs.Heads.{part}
+use Rattle.extensions.specs.Found.{UndoIs, UndoFound}
+use Rattle.index.specs.Calls.{bodyOf, UndoShows}
+use Rattle.index.proofs.Views.{part-within, part-of-body, item-none, item-some, pick-none, pick-file}
+
+item-is : (n : ℕ) (us : List F.Undo) → item n us ≡ getElem? us n
+unfolding item
+item-is zero [] = refl
+item-is (suc n) [] = refl
+item-is zero (u ∷ us) = refl
+item-is (suc n) (u ∷ us) = item-is n us
+
+-- where the data stand
+pub record Within (f : List ℕ) (undo : UndoPlace) : Type 0 where
+  pub order : undo .at ≤ undo .end
+  pub inside : undo .end ≤ length f
+
+-- and in them the record that was wanted
+pub record Stands (f : List ℕ) (undo : UndoPlace) (u : F.Undo) : Type 0 where
+  pub within : Within f undo
+  pub reads : undoAt 20 0 (drop (undo .«record_at») (part f (undo .at) (undo .end))) ≡ some u
+
+no-record : F.Undo
+no-record = record { path = []; first = record { mode = 0; object = [] }; second = record { mode = 0; object = [] }; third = record { mode = 0; object = [] } }
+
+module _ (k : ℕ) (f : List ℕ) (undo : UndoPlace) where
+  -- by what was found
+  pub stands {ℓ} : {X : Type ℓ} (o : Option (List F.Undo)) → UndoFound k (bodyOf f) o undo → k < undo .records
+      → ((u : F.Undo) → listed o k ≡ inFile u → Stands f undo u → X) → X
+  stands none is more g = let z : undo .records ≡ 0 = ap (λ (x : UndoPlace). x .records) is in absurd (omega arith)
+  stands (some us) is more g =
+      let few : k < length us = omega (arith, is .records) in
+      let b : length (bodyOf f) ≤ length f = simp length-take (omega arith) in
+      let there : getElem? us k ≡ some (getD us k no-record) = item-some us k no-record few in
+      let same = part-of-body f (undo .at) (undo .end) (is .order) (is .inside) in
+      g (getD us k no-record) (pick-file false _ _ refl there)
+      (record { within = record { order = is .order; inside = omega (arith, is .inside) }; reads = rw same at (is .wanted few) ∙ item-is k us ∙ there })
+
+  pub within : (o : Option (List F.Undo)) → UndoFound k (bodyOf f) o undo → k < undo .records → Within f undo
+  within o is more = stands o is more λ u v h. h .within
+
+  pub no-record-there : (o : Option (List F.Undo)) → UndoFound k (bodyOf f) o undo → undo .records ≤ k → listed o k ≡ refused 18 0
+  no-record-there none is few = refl
+  no-record-there (some us) is few = pick-none false _ (item-none us k (omega (arith, is .records)))
+
+-- ---- the answer
+
+module _ (f : List ℕ) (undo : UndoPlace) (v : View F.Undo) (u : F.Undo) (is : v ≡ inFile u) (h : Stands f undo u) (s : Code.Shown)
+    (shows : s ≡ shown (undo .«record_at») (undoAt 20 0 (drop (undo .«record_at») (part f (undo .at) (undo .end)))))
+    (inside : s .path + s .«path_length» ≤ length (part f (undo .at) (undo .end))) where
+  pub undo-shows : UndoShows v f
+      (record {
+        shown = S.InFile (undo .at + s .path) (s .«path_length»);
+        «first_mode» = s .first;
+        «second_mode» = s .second;
+        «third_mode» = s .third;
+        first = s .«first_object»;
+        second = s .«second_object»;
+        third = s .«third_object»;
+      })
+  unfolding undoSaid nameIn
+  undo-shows =
+      let d : List ℕ = part f (undo .at) (undo .end) in
+      let q : s ≡ shown (undo .«record_at») (some u) = shows ∙ ap (shown (undo .«record_at»)) (h .reads) in
+      let long : length d ≤ undo .end - undo .at = simp length-take (omega arith) in
+      let w = h .within in
+      let at : s .path ≡ undo .«record_at» = ap (λ (x : Code.Shown). x .path) q in
+      let size : s .«path_length» ≡ length (u .path) = ap (λ (x : Code.Shown). x .«path_length») q in
+      let fits : undo .at + s .path + s .«path_length» ≤ length f = omega arith in
+      let name : partIn (undo .at + s .path) (s .«path_length») f ≡ u .path =
+      part-in _ _ f fits
+      ∙ ap (take (s .«path_length»)) (sym (drop-drop (s .path) (undo .at) f))
+      ∙ sym (part-within (undo .end - undo .at) (s .path) (s .«path_length») (drop (undo .at) f) (omega arith))
+      ∙ rw (at, size) (shown-path 20 0 (drop (undo .«record_at») d) u (lit≤ tt) (h .reads)) in
+      record {
+        said = λ work. rw (name, q, is) refl;
+        bare = λ a b e. let z : _≡_ {A = ℕ} 0 1 = cc in absurd (omega arith);
+      }

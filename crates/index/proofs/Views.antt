@@ -1,0 +1,142 @@
+-- Laws of parts of lists, of the answers' views, and of refusals.
+use mathlib.Core.Path.{_≡_, refl, sym, ap, _∙_}
+use mathlib.Core.List.{List, [], _∷_, _++_}
+use mathlib.Core.Bool.{Bool, true, false}
+use mathlib.Core.Option.{Option, none, some}
+use Prim.Native.Nat.{ℕ, zero, suc, _+_, _-_, _≤_, _<_}
+use native.Mathlib.Omega.{arith}
+use lib.ListN.{length, take, drop, getD, replicate, getElem?, length-take}
+use lib.Seq.{take-take}
+use Rattle.format.specs.Records as F
+use Rattle.format.specs.Reading.{Read}
+use Rattle.format.specs.Reader.{Contents}
+use Rattle.entries_run.specs.Steps.{Room}
+use Rattle.file.specs.declared.Checked.{Checked}
+use Rattle.file.specs.declared.Checked.the-variants as K
+use Rattle.file.specs.declared.EntryAnswer.{EntryAnswer}
+use Rattle.file.specs.declared.NodeAnswer.{NodeAnswer}
+use Rattle.file.specs.declared.UndoAnswer.{UndoAnswer}
+use Rattle.file.specs.Answers.{View, refused, inFile, inWorkspace, pick, given, cleared, checkedOf, checkAnswer, entryOf, entryAnswer, nodeOf, nodeAnswer, undoOf, undoAnswer, entrySaid, nodeSaid, undoSaid, refusedEntry, refusedNode, refusedUndo}
+use Rattle.file.proofs.Laws.{small, large, cleared-large}
+use Rattle.extensions.specs.Heads.{part}
+use Rattle.index.specs.Calls.{bodyOf, EntryShows, NodeShows, UndoShows}
+
+-- ---- lists
+
+-- a part of the first m elements
+pub part-within : (m at n : ℕ) (s : List ℕ) → at + n ≤ m → take n (drop at (take m s)) ≡ take n (drop at s)
+part-within m zero n s h = take-take n m s (omega arith)
+part-within zero (suc at) n s h = absurd (omega arith)
+part-within (suc m) (suc at) n [] h = refl
+part-within (suc m) (suc at) n (x ∷ s) h = part-within m at n s (omega arith)
+
+-- the body's length
+pub file-long : (f : List ℕ) → 12 ≤ length (bodyOf f) → 32 ≤ length f
+file-long f h = let l = length-take (length f - 20) f in omega arith
+
+pub body-room : (f work : List ℕ) → 32 ≤ length f → length f ≤ 16777216 → 8192 ≤ length work → Room (bodyOf f) work
+body-room f work long short room = let l = length-take (length f - 20) f in record { least = omega arith; most = omega arith; room = room }
+
+-- data in the body are data in the file
+pub part-of-body : (f : List ℕ) (a e : ℕ) → a ≤ e → e ≤ length (bodyOf f) → part (bodyOf f) a e ≡ part f a e
+part-of-body f a e order inside =
+    let b : length (bodyOf f) ≤ length f - 20 = simp length-take (omega arith) in
+    part-within (length f - 20) a (e - a) f (omega arith)
+
+module _ {A : Type 0} where
+  pub item-none : (l : List A) (k : ℕ) → length l ≤ k → getElem? l k ≡ none
+  item-none [] k h = refl
+  item-none (a ∷ l) zero h = absurd (omega arith)
+  item-none (a ∷ l) (suc k) h = item-none l k (omega arith)
+
+  pub item-some : (l : List A) (k : ℕ) (z : A) → k < length l → getElem? l k ≡ some (getD l k z)
+  item-some [] k z h = absurd (omega arith)
+  item-some (a ∷ l) zero z h = refl
+  item-some (a ∷ l) (suc k) z h = item-some l k z (omega arith)
+
+-- ---- the workspace, cleared after it was written to
+
+pub cleared-by : (work after left : List ℕ) → 8192 ≤ length work → after ≡ replicate 8192 0 ++ left → left ≡ drop 8192 work → after ≡ cleared work
+cleared-by work after left room e rest = e ∙ rw (rest, cleared-large work room)
+
+-- ---- views
+
+module _ {A : Type 0} where
+  pub pick-none : (t : Bool) (o : Option A) → o ≡ none → pick t o ≡ refused 18 0
+  pick-none true o e = rw e
+  pick-none false o e = rw e
+
+  pub pick-file : (t : Bool) (o : Option A) (a : A) → t ≡ false → o ≡ some a → pick t o ≡ inFile a
+  pick-file t o a f e = rw (f, e)
+
+  pub pick-work : (t : Bool) (o : Option A) (a : A) → t ≡ true → o ≡ some a → pick t o ≡ inWorkspace a
+  pick-work t o a f e = rw (f, e)
+
+  given-small : (work : List ℕ) (v : View A) → length work < 8192 → given work v ≡ refused 19 0
+  unfolding given
+  given-small work v h = rw (small work h)
+
+  given-large : (work : List ℕ) (v : View A) → 8192 ≤ length work → given work v ≡ v
+  unfolding given
+  given-large work v h = rw (large work h)
+
+-- the answers for a workspace that is too small
+module _ (work : List ℕ) (k : ℕ) (x : Read Contents) (h : length work < 8192) where
+  pub check-small : checkAnswer work x ≡ K.Refused 19 0
+  unfolding checkAnswer
+  check-small = rw (small work h)
+
+  pub entry-small : entryAnswer work k x ≡ refused 19 0
+  unfolding entryAnswer
+  entry-small = given-small work _ h
+
+  pub node-small : nodeAnswer work k x ≡ refused 19 0
+  unfolding nodeAnswer
+  node-small = given-small work _ h
+
+  pub undo-small : undoAnswer work k x ≡ refused 19 0
+  unfolding undoAnswer
+  undo-small = given-small work _ h
+
+-- and for any other, where the reading x is y
+module _ (work : List ℕ) (k : ℕ) (x y : Read Contents) (h : 8192 ≤ length work) (e : x ≡ y) where
+  pub check-large : checkAnswer work x ≡ checkedOf y
+  unfolding checkAnswer
+  check-large = rw (large work h, e)
+
+  pub entry-large : entryAnswer work k x ≡ entryOf k y
+  unfolding entryAnswer
+  entry-large = given-large work _ h ∙ ap (entryOf k) e
+
+  pub node-large : nodeAnswer work k x ≡ nodeOf k y
+  unfolding nodeAnswer
+  node-large = given-large work _ h ∙ ap (nodeOf k) e
+
+  pub undo-large : undoAnswer work k x ≡ undoOf k y
+  unfolding undoAnswer
+  undo-large = given-large work _ h ∙ ap (undoOf k) e
+
+-- ---- refusals
+
+same-refusal : {A : Type 0} {B : Type 0} (g : ℕ → ℕ → B) (v : View A) (n p i j : ℕ) (r : B) → v ≡ refused n p → r ≡ g n p → v ≡ refused i j → r ≡ g i j
+same-refusal g v n p i j r e q f =
+    let a : n ≡ i = cc in
+    let b : p ≡ j = cc in q ∙ rw (a, b)
+
+module _ (n p : ℕ) (f : List ℕ) where
+  pub entry-refused :
+      (v : View F.Entry) (work work′ : List ℕ) (r : EntryAnswer) → v ≡ refused n p →
+      ((file work : List ℕ) → entrySaid r file work ≡ refused n p) × (r ≡ refusedEntry n p) → work′ ≡ cleared work →
+      EntryShows v f work work′ r
+  entry-refused v work work′ r e (said, is) after =
+      record { said = said f work′ ∙ sym e; after = rw e after; bare = λ i j q. same-refusal refusedEntry v n p i j r e is q }
+
+  pub node-refused :
+      (v : View F.Item) (r : NodeAnswer) → v ≡ refused n p → ((file work : List ℕ) → nodeSaid r file work ≡ refused n p) × (r ≡ refusedNode n p) →
+      NodeShows v f r
+  node-refused v r e (said, is) = record { said = λ work. said f work ∙ sym e; bare = λ i j q. same-refusal refusedNode v n p i j r e is q }
+
+  pub undo-refused :
+      (v : View F.Undo) (r : UndoAnswer) → v ≡ refused n p → ((file work : List ℕ) → undoSaid r file work ≡ refused n p) × (r ≡ refusedUndo n p) →
+      UndoShows v f r
+  undo-refused v r e (said, is) = record { said = λ work. said f work ∙ sym e; bare = λ i j q. same-refusal refusedUndo v n p i j r e is q }

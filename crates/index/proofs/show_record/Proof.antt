@@ -1,0 +1,58 @@
+-- The proof that `show_record` meets its contract.
+use native.Mathlib.Omega.{arith}
+use Rattle.index.proofs.Views.{undo-refused}
+use Rattle.index.proofs.Records.{Within, stands, within, no-record-there, undo-shows}
+use borrow.Author.Needs.{needs}
+use Rattle.index.proofs.show_record.Statement.{statement}
+use Rattle.index.proofs.show_record.Tie as tie
+
+-- where the data stand
+inside : (c : tie.Else1) → let a = c .before .before .before .args in Within (a .file .now) (a .undo)
+inside c =
+    let st = c .before .before .before in
+    within (st .args .k) (st .args .file .now) (st .args .undo) (st .pre .0) (st .pre .1) (c .if1 .left)
+
+refused-undo-requires : tie.Need-refused-undo-requires
+refused-undo-requires c κs = search needs
+
+returns : tie.Need-returns
+returns c =
+    let a = c .before .before .before .before .args in
+    λ o is. undo-refused 18 0 (a .file .now) _ _ (no-record-there (a .k) (a .file .now) (a .undo) o is (c .before .if1 .taken)) (c .refused-undo .ensures)
+
+sub-show-undo : tie.Need-sub-show-undo
+sub-show-undo c = inside c .order
+
+part-show-undo-start : tie.Need-part-show-undo-start
+part-show-undo-start c = let h = inside c in omega arith
+
+part-show-undo-end : tie.Need-part-show-undo-end
+part-show-undo-end c = inside c .inside
+
+show-undo-requires : tie.Need-show-undo-requires
+show-undo-requires c κs = search needs
+
+add-t12 : tie.Need-add-t12
+add-t12 c = search needs
+
+returns-2 : tie.Need-returns-2
+returns-2 c =
+    let q = c .before .before .before .before in
+    let t = q .before .before in
+    let a = t .before .before .before .args in
+    λ o is.
+        stands (a .k) (a .file .now) (a .undo) o is (t .if1 .left) λ u v h.
+        undo-shows (a .file .now) (a .undo) _ u v h _ (q .show-undo .ensures .0 0) (q .show-undo .ensures .1)
+
+pub show-record-spec : {M : Type 1} → statement M
+show-record-spec =
+    tie.close
+    (tie.spec
+    refused-undo-requires
+    returns
+    sub-show-undo
+    part-show-undo-start
+    part-show-undo-end
+    show-undo-requires
+    add-t12
+    returns-2)

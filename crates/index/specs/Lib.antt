@@ -1,0 +1,2 @@
+-- What the calls on an index leave behind.
+pub mod Calls

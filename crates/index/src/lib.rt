@@ -1,0 +1,271 @@
+// The calls on an index: check it, show an entry, a node of its cache tree, a resolve-undo record.
+ghost use mathlib.Core.Path.{_≡_};
+ghost use mathlib.Core.List.{List};
+ghost use mathlib.Core.Bool.{true, cond};
+ghost use mathlib.Core.Option.{Option};
+ghost use Prim.Native.Nat.{ℕ, _+_, _≤_, _<_};
+ghost use lib.ListN.{length, take, drop, replicate, getElem?};
+ghost use lib.Dec.{eqb};
+ghost use Rattle.format.specs.Bytes.{be32};
+ghost use Rattle.format.specs.Records as F;
+ghost use Rattle.format.specs.Reading.{good};
+ghost use Rattle.format.specs.Reader.{readEntries, readBody, readFile};
+ghost use Rattle.hash.specs.Sha1.{sha1};
+ghost use Rattle.entries_run.specs.Steps.{Room};
+ghost use Rattle.extensions.specs.Found.{TreeFound, UndoFound};
+ghost use Rattle.file.specs.declared.Count.the-variants.{Absent, Present};
+ghost use Rattle.file.specs.Answers.{cleared, pick, listed, itemsOf, checkAnswer, entryAnswer, nodeAnswer, undoAnswer};
+ghost use Rattle.index.specs.Calls.{bodyOf, WholeOf, EntryShows, NodeShows, UndoShows};
+use cache_tree::node::Node;
+use cache_tree::node::NodeRead;
+use cache_tree::node::read_node;
+use entries_run::Run;
+use entries_run::Sought;
+use extensions::Extended;
+use extensions::Found;
+use extensions::TreePlace;
+use extensions::UndoPlace;
+use file_header::Header;
+use file::Checked;
+use file::Count;
+use file::EntryAnswer;
+use file::NodeAnswer;
+use file::Shown;
+use file::Summary;
+use file::UndoAnswer;
+use file::refused_entry;
+use file::refused_node;
+use file::refused_undo;
+
+// What an accepted file has; end is the byte where entries end.
+pub struct Parts {
+    pub version: u32,
+    pub count: u32,
+    pub end: usize,
+    pub found: Found,
+}
+
+// A refusal's number and place, or what the file has.
+pub enum Whole {
+    Bad(u32, usize),
+    Good(Parts),
+}
+
+// ---- the parts of an accepted file, shown
+
+// Entry number k of a file of version v.
+fn show_entry(file: &[u8], v: u32, work: &mut [u8], k: u32) -> EntryAnswer
+    requires { ⌜ Room (bodyOf (now file)) (now work) ⌝ }
+    ensures { λ r. ⌜ ((count : ℕ) (es : List F.Entry) (m : ℕ) → readEntries 20 v count F.start 12 (drop 12 (bodyOf (now (file .entry)))) ≡ good es m → k < count → EntryShows (pick (eqb v 4) (getElem? es k)) (now (file .entry)) (now (work .entry)) (now (work .exit)) r) ⌝ }
+{
+    let n = file.len() - 20;
+    let sought = entries_run::seek_entry(&file[..n], v, &mut *work, k);
+    match sought {
+        Sought::Bad(_, _) => {
+            fields::clear(work);
+            refused_entry(18, 0)
+        }
+        Sought::Good(at, step) => {
+            let fields = file::fields_at(&file[..n], at, step.flags, step.word);
+            let len = step.next.len;
+            if v == 4 {
+                fields::clear_from(work, len);
+                return EntryAnswer {
+                    shown: Shown::InWorkspace(len),
+                    fields: fields,
+                };
+            }
+            fields::clear(work);
+            EntryAnswer {
+                shown: Shown::InFile(step.next.start, len),
+                fields: fields,
+            }
+        }
+    }
+}
+
+// The object name of a node; zeros where its entry count is invalid.
+fn node_object(d: &[u8], node: Node) -> [u8; 20]
+    requires { ⌜ (node .valid ≡ true → node .object + 20 ≤ length (now d)) ⌝ }
+    ensures { λ r. ⌜ r ≡ cond (node .valid) (take 20 (drop (node .object) (now (d .entry)))) (replicate 20 0) ⌝ }
+{
+    if node.valid {
+        return file::object_at(d, node.object);
+    }
+    [0u8; 20]
+}
+
+// Node number k of the cache tree, which was wanted when the file was read.
+fn show_node(file: &[u8], tree: TreePlace, k: u32) -> NodeAnswer
+    requires { ⌜ ((o : Option F.Tree) × TreeFound k (bodyOf (now file)) o tree) ⌝ }
+    ensures { λ r. ⌜ ((o : Option F.Tree) → TreeFound k (bodyOf (now (file .entry))) o tree → NodeShows (listed (itemsOf o) k) (now (file .entry)) r) ⌝ }
+{
+    if tree.nodes <= k {
+        return refused_node(18, 0);
+    }
+    let from = tree.at;
+    let end = tree.end;
+    let read = read_node(&file[from..end], tree.node);
+    match read {
+        NodeRead::Bad => refused_node(18, 0),
+        NodeRead::Good(node) => NodeAnswer {
+            shown: Shown::InFile(from + tree.node, node.nul - tree.node),
+            level: tree.level,
+            valid: node.valid,
+            count: node.count,
+            subtrees: node.subtrees,
+            object: node_object(&file[from..end], node),
+        },
+    }
+}
+
+// Record number k of the resolve-undo records, which was wanted when the file was read.
+fn show_record(file: &[u8], undo: UndoPlace, k: u32) -> UndoAnswer
+    requires { ⌜ ((o : Option (List F.Undo)) × UndoFound k (bodyOf (now file)) o undo) ⌝ }
+    ensures { λ r. ⌜ ((o : Option (List F.Undo)) → UndoFound k (bodyOf (now (file .entry))) o undo → UndoShows (listed o k) (now (file .entry)) r) ⌝ }
+{
+    if undo.records <= k {
+        return refused_undo(18, 0);
+    }
+    let from = undo.at;
+    let end = undo.end;
+    let s = resolve_undo::show_undo(&file[from..end], undo.record_at);
+    let first = s.first_object;
+    let second = s.second_object;
+    let third = s.third_object;
+    UndoAnswer {
+        shown: Shown::InFile(from + s.path, s.path_length),
+        first_mode: s.first,
+        second_mode: s.second,
+        third_mode: s.third,
+        first: first,
+        second: second,
+        third: third,
+    }
+}
+
+fn count_of(there: bool, n: u32) -> Count
+    ensures { λ r. ⌜ r ≡ cond there (Present n) Absent ⌝ }
+{
+    if there {
+        return Count::Present(n);
+    }
+    Count::Absent
+}
+
+// ---- the whole file
+
+// The body b of version v with so many entries.
+fn read_body(b: &[u8], v: u32, count: u32, work: &mut [u8], seed: u64, want_node: u32, want_record: u32) -> Whole
+    requires { ⌜ Room (now b) (now work) × (count ≡ be32 (now b) 8) ⌝ }
+    ensures { λ r. ⌜ WholeOf «want_node» «want_record» (readBody 20 v (now (b .entry))) (now (b .entry)) r × (drop 8192 (now (work .exit)) ≡ drop 8192 (now (work .entry))) ⌝ }
+{
+    let run = entries_run::run_entries(b, v, &mut *work, count);
+    match run {
+        Run::Bad(n, p) => Whole::Bad(n, p),
+        Run::Good(end) => {
+            let read = extensions::read_extensions(b, end, v, count, work, seed, want_node, want_record);
+            match read {
+                Extended::Bad(n, p) => Whole::Bad(n, p),
+                Extended::Good(found) => Whole::Good(Parts {
+                    version: v,
+                    count: count,
+                    end: end,
+                    found: found,
+                }),
+            }
+        }
+    }
+}
+
+// The whole file. want_node and want_record are numbers of a node and of a record, from 0 on.
+pub fn read_whole(file: &[u8], work: &mut [u8], want_node: u32, want_record: u32) -> Whole
+    requires { ⌜ 8192 ≤ length (now work) ⌝ }
+    ensures { λ r. ⌜ WholeOf «want_node» «want_record» (readFile 20 sha1 (now (file .entry))) (bodyOf (now (file .entry))) r × (drop 8192 (now (work .exit)) ≡ drop 8192 (now (work .entry))) ⌝ }
+{
+    let header = file_header::read_header(file);
+    match header {
+        Header::Bad(n, p) => Whole::Bad(n, p),
+        Header::Good(h) => {
+            let n = file.len() - 20;
+            read_body(&file[..n], h.version, h.count, work, h.seed, want_node, want_record)
+        }
+    }
+}
+
+// ---- the calls. A workspace below 8,192 bytes is refused with 19 and left as it is; else its first 8,192 bytes are zero afterwards,
+// but for an entry's name of version 4, which stands first.
+
+// Whether the file is an index, and what it has.
+pub fn check(file: &[u8], work: &mut [u8]) -> Checked
+    ensures { λ r. ⌜ (r ≡ checkAnswer (now (work .entry)) (readFile 20 sha1 (now (file .entry)))) × (now (work .exit) ≡ cleared (now (work .entry))) ⌝ }
+{
+    if work.len() < fields::LONGEST {
+        return Checked::Refused(19, 0);
+    }
+    let whole = read_whole(file, &mut *work, 0, 0);
+    fields::clear(work);
+    match whole {
+        Whole::Bad(n, p) => Checked::Refused(n, p),
+        Whole::Good(parts) => Checked::Accepted(Summary {
+            version: parts.version,
+            entries: parts.count,
+            end: parts.end,
+            nodes: count_of(parts.found.tree.there, parts.found.tree.nodes),
+            records: count_of(parts.found.undo.there, parts.found.undo.records),
+        }),
+    }
+}
+
+// Entry number k.
+pub fn entry(file: &[u8], work: &mut [u8], k: u32) -> EntryAnswer
+    ensures { λ r. ⌜ EntryShows (entryAnswer (now (work .entry)) k (readFile 20 sha1 (now (file .entry)))) (now (file .entry)) (now (work .entry)) (now (work .exit)) r ⌝ }
+{
+    if work.len() < fields::LONGEST {
+        return refused_entry(19, 0);
+    }
+    let whole = read_whole(file, &mut *work, 0, 0);
+    match whole {
+        Whole::Bad(n, p) => {
+            fields::clear(work);
+            refused_entry(n, p)
+        }
+        Whole::Good(parts) => {
+            if parts.count <= k {
+                fields::clear(work);
+                return refused_entry(18, 0);
+            }
+            show_entry(file, parts.version, work, k)
+        }
+    }
+}
+
+// Node number k of the cache tree.
+pub fn tree_node(file: &[u8], work: &mut [u8], k: u32) -> NodeAnswer
+    ensures { λ r. ⌜ NodeShows (nodeAnswer (now (work .entry)) k (readFile 20 sha1 (now (file .entry)))) (now (file .entry)) r × (now (work .exit) ≡ cleared (now (work .entry))) ⌝ }
+{
+    if work.len() < fields::LONGEST {
+        return refused_node(19, 0);
+    }
+    let whole = read_whole(file, &mut *work, k, 0);
+    fields::clear(work);
+    match whole {
+        Whole::Bad(n, p) => refused_node(n, p),
+        Whole::Good(parts) => show_node(file, parts.found.tree, k),
+    }
+}
+
+// Resolve-undo record number k.
+pub fn undo_record(file: &[u8], work: &mut [u8], k: u32) -> UndoAnswer
+    ensures { λ r. ⌜ UndoShows (undoAnswer (now (work .entry)) k (readFile 20 sha1 (now (file .entry)))) (now (file .entry)) r × (now (work .exit) ≡ cleared (now (work .entry))) ⌝ }
+{
+    if work.len() < fields::LONGEST {
+        return refused_undo(19, 0);
+    }
+    let whole = read_whole(file, &mut *work, 0, k);
+    fields::clear(work);
+    match whole {
+        Whole::Bad(n, p) => refused_undo(n, p),
+        Whole::Good(parts) => show_record(file, parts.found.undo, k),
+    }
+}
