@@ -1,6 +1,7 @@
 -- What the calls leave behind, from the reading of the whole file.
 use mathlib.Core.Path.{_≡_}
 use mathlib.Core.List.{List}
+use mathlib.Core.Bool.{cond}
 use Prim.Native.Nat.{ℕ, _-_, _≤_}
 use lib.ListN.{length, take, drop}
 use Rattle.format.specs.Records as F
@@ -9,7 +10,7 @@ use Rattle.format.specs.Reader.{Contents, readEntries}
 use Rattle.file.specs.declared.EntryAnswer.{EntryAnswer}
 use Rattle.file.specs.declared.NodeAnswer.{NodeAnswer}
 use Rattle.file.specs.declared.UndoAnswer.{UndoAnswer}
-use Rattle.file.specs.Answers.{View, refused, workAfter, entrySaid, nodeSaid, undoSaid, refusedEntry, refusedNode, refusedUndo}
+use Rattle.file.specs.Answers.{tooSmall, View, refused, workAfter, entrySaid, nodeSaid, undoSaid, refusedEntry, refusedNode, refusedUndo}
 use Rattle.extensions.specs.Found.{TreeFound, UndoFound}
 use Rattle.index.specs.declared.Parts.{Parts}
 use Rattle.index.specs.declared.Whole.{Whole}
@@ -20,6 +21,10 @@ abbrev pub bodyOf : List ℕ → List ℕ
 bodyOf f = take (length f - 20) f
 
 -- ---- the whole file
+
+-- the reading x with a workspace that may be too small
+unfoldable pub inRoom : List ℕ → Read Contents → Read Contents
+inRoom work x = cond (tooSmall work) (bad 19 0) x
 
 -- the reading x has the contents of which the code answers parts; b is the body, wn and wr are the numbers of the node and of the
 -- record that were wanted
