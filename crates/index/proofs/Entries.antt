@@ -18,7 +18,7 @@ use Rattle.file.specs.declared.Shown.the-variants as S
 use Rattle.file.specs.Answers.{View, refused, inFile, inWorkspace, pick, cleared, holding, workAfter, nameIn, entryWith, entrySaid, refusedEntry}
 use Rattle.file.proofs.Laws.{cleared-large, holding-after, holding-name, part-in}
 use Rattle.index.specs.Calls.{bodyOf, EntryShows}
-use Rattle.index.proofs.Views.{part-within, pick-file, pick-work}
+use Rattle.index.proofs.Views.{cleared-past, part-within, pick-file, pick-work}
 
 module _ (v : ℕ) (f written : List ℕ) (at : ℕ) (st : Step) (o : Option F.Entry) (found : o ≡ some (entryAt v (bodyOf f) written at st))
     (x : Fields) (fields : (name : List ℕ) → entryWith x name ≡ R.entryOf 20 (drop at (bodyOf f)) (st .flags) (st .word) name)
@@ -69,7 +69,7 @@ module _ (v : ℕ) (f written : List ℕ) (at : ℕ) (st : Step) (o : Option F.E
         bare = λ n p q. let z : _≡_ {A = ℕ} 0 1 = cc in absurd (omega arith);
       }
 
--- ---- after another function has written to the workspace
+-- ---- where the workspace was cleared before
 
 after-same : (v : View F.Entry) (work written : List ℕ) → drop 8192 written ≡ drop 8192 work → 8192 ≤ length work → 8192 ≤ length written
     → workAfter v written ≡ workAfter v work
@@ -79,6 +79,7 @@ after-same (inFile e) work written rest room same = rw (cleared-large written sa
 after-same (inWorkspace e) work written rest room same = rw rest
 
 pub shown-again : (v u : View F.Entry) (f work written work′ : List ℕ) (r : EntryAnswer) → v ≡ u → EntryShows u f written work′ r
-    → drop 8192 written ≡ drop 8192 work → 8192 ≤ length work → 8192 ≤ length written → EntryShows v f work work′ r
-shown-again v u f work written work′ r e h rest room same =
+    → written ≡ cleared work → 8192 ≤ length work → 8192 ≤ length written → EntryShows v f work work′ r
+shown-again v u f work written work′ r e h clean room same =
+    let rest : drop 8192 written ≡ drop 8192 work = ap (drop 8192) clean ∙ cleared-past work room in
     rw e (record { said = h .said; after = h .after ∙ after-same u work written rest room same; bare = h .bare })

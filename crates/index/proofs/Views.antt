@@ -1,25 +1,28 @@
 -- Laws of parts of lists, of the answers' views, and of refusals.
 use mathlib.Core.Path.{_≡_, refl, sym, ap, _∙_}
 use mathlib.Core.List.{List, [], _∷_, _++_}
-use mathlib.Core.Bool.{Bool, true, false}
+use mathlib.Core.Bool.{Bool, true, false, cond}
 use mathlib.Core.Option.{Option, none, some}
 use Prim.Native.Nat.{ℕ, zero, suc, _+_, _-_, _≤_, _<_}
 use native.Mathlib.Omega.{arith}
-use lib.ListN.{length, take, drop, getD, replicate, getElem?, length-take}
-use lib.Seq.{take-take}
+use lib.ListN.{length, take, drop, getD, replicate, getElem?, length-take, length-replicate}
+use lib.Seq.{take-take, drop-at}
+use lib.Dec.{ltb}
+use borrow.Author.Tests.{ltb-false}
 use Rattle.format.specs.Records as F
-use Rattle.format.specs.Reading.{Read}
+use Rattle.format.specs.Reading.{Read, bad, good}
 use Rattle.format.specs.Reader.{Contents}
+use Rattle.spelling_entries.proofs.Reading.{bad-good}
 use Rattle.entries_run.specs.Steps.{Room}
 use Rattle.file.specs.declared.Checked.{Checked}
 use Rattle.file.specs.declared.Checked.the-variants as K
 use Rattle.file.specs.declared.EntryAnswer.{EntryAnswer}
 use Rattle.file.specs.declared.NodeAnswer.{NodeAnswer}
 use Rattle.file.specs.declared.UndoAnswer.{UndoAnswer}
-use Rattle.file.specs.Answers.{View, refused, inFile, inWorkspace, pick, given, cleared, checkedOf, checkAnswer, entryOf, entryAnswer, nodeOf, nodeAnswer, undoOf, undoAnswer, entrySaid, nodeSaid, undoSaid, refusedEntry, refusedNode, refusedUndo}
+use Rattle.file.specs.Answers.{tooSmall, View, refused, inFile, inWorkspace, pick, given, cleared, checkedOf, checkAnswer, entryOf, entryAnswer, nodeOf, nodeAnswer, undoOf, undoAnswer, entrySaid, nodeSaid, undoSaid, refusedEntry, refusedNode, refusedUndo}
 use Rattle.file.proofs.Laws.{small, large, cleared-large}
 use Rattle.extensions.specs.Heads.{part}
-use Rattle.index.specs.Calls.{bodyOf, EntryShows, NodeShows, UndoShows}
+use Rattle.index.specs.Calls.{bodyOf, inRoom, EntryShows, NodeShows, UndoShows}
 
 -- ---- lists
 
@@ -54,7 +57,10 @@ module _ {A : Type 0} where
   item-some (a ∷ l) zero z h = refl
   item-some (a ∷ l) (suc k) z h = item-some l k z (omega arith)
 
--- ---- the workspace, cleared after it was written to
+-- ---- the workspace, cleared
+
+pub cleared-past : (work : List ℕ) → 8192 ≤ length work → drop 8192 (cleared work) ≡ drop 8192 work
+cleared-past work room = rw (cleared-large work room) (drop-at (replicate 8192 0) (drop 8192 work) 8192 (length-replicate {A = ℕ} 8192 0))
 
 pub cleared-by : (work after left : List ℕ) → 8192 ≤ length work → after ≡ replicate 8192 0 ++ left → left ≡ drop 8192 work → after ≡ cleared work
 cleared-by work after left room e rest = e ∙ rw (rest, cleared-large work room)
@@ -72,49 +78,47 @@ module _ {A : Type 0} where
   pub pick-work : (t : Bool) (o : Option A) (a : A) → t ≡ true → o ≡ some a → pick t o ≡ inWorkspace a
   pick-work t o a f e = rw (f, e)
 
-  given-small : (work : List ℕ) (v : View A) → length work < 8192 → given work v ≡ refused 19 0
-  unfolding given
-  given-small work v h = rw (small work h)
+-- the answers, from the reading with a workspace that may be too small
+pub in-room : (work : List ℕ) (x : Read Contents) → 8192 ≤ length work → inRoom work x ≡ x
+unfolding inRoom
+in-room work x h = rw (large work h)
 
-  given-large : (work : List ℕ) (v : View A) → 8192 ≤ length work → given work v ≡ v
-  unfolding given
-  given-large work v h = rw (large work h)
+pub no-room : (work : List ℕ) (x : Read Contents) → length work < 8192 → inRoom work x ≡ bad 19 0
+unfolding inRoom
+no-room work x h = rw (small work h)
 
--- the answers for a workspace that is too small
-module _ (work : List ℕ) (k : ℕ) (x : Read Contents) (h : length work < 8192) where
-  pub check-small : checkAnswer work x ≡ K.Refused 19 0
-  unfolding checkAnswer
-  check-small = rw (small work h)
+pub room-of : (work : List ℕ) (x : Read Contents) (c : Contents) (m : ℕ) → inRoom work x ≡ good c m → 8192 ≤ length work
+unfolding inRoom tooSmall
+room-of work x c m e = by (ltb (length work) 8192) refl e
+  where
+    by : (t : Bool) → ltb (length work) 8192 ≡ t → cond t (bad 19 0) x ≡ good c m → 8192 ≤ length work
+    by true q e = bad-good _ _ _ _ e
+    by false q e = ltb-false (length work) 8192 q
 
-  pub entry-small : entryAnswer work k x ≡ refused 19 0
-  unfolding entryAnswer
-  entry-small = given-small work _ h
+module _ (work : List ℕ) (k : ℕ) (x y : Read Contents) (e : inRoom work x ≡ y) where
+  check-by : (t : Bool) → cond t (K.Refused 19 0) (checkedOf x) ≡ checkedOf (cond t (bad 19 0) x)
+  check-by true = refl
+  check-by false = refl
 
-  pub node-small : nodeAnswer work k x ≡ refused 19 0
-  unfolding nodeAnswer
-  node-small = given-small work _ h
+  given-by : {A : Type 0} (view : Read Contents → View A) (t : Bool) → view (bad 19 0) ≡ refused 19 0 → cond t (refused 19 0) (view x) ≡ view (cond t (bad 19 0) x)
+  given-by view true q = sym q
+  given-by view false q = refl
 
-  pub undo-small : undoAnswer work k x ≡ refused 19 0
-  unfolding undoAnswer
-  undo-small = given-small work _ h
+  pub check-is : checkAnswer work x ≡ checkedOf y
+  unfolding checkAnswer inRoom
+  check-is = check-by (tooSmall work) ∙ ap checkedOf e
 
--- and for any other, where the reading x is y
-module _ (work : List ℕ) (k : ℕ) (x y : Read Contents) (h : 8192 ≤ length work) (e : x ≡ y) where
-  pub check-large : checkAnswer work x ≡ checkedOf y
-  unfolding checkAnswer
-  check-large = rw (large work h, e)
+  pub entry-is : entryAnswer work k x ≡ entryOf k y
+  unfolding entryAnswer given inRoom
+  entry-is = given-by (entryOf k) (tooSmall work) refl ∙ ap (entryOf k) e
 
-  pub entry-large : entryAnswer work k x ≡ entryOf k y
-  unfolding entryAnswer
-  entry-large = given-large work _ h ∙ ap (entryOf k) e
+  pub node-is : nodeAnswer work k x ≡ nodeOf k y
+  unfolding nodeAnswer given inRoom
+  node-is = given-by (nodeOf k) (tooSmall work) refl ∙ ap (nodeOf k) e
 
-  pub node-large : nodeAnswer work k x ≡ nodeOf k y
-  unfolding nodeAnswer
-  node-large = given-large work _ h ∙ ap (nodeOf k) e
-
-  pub undo-large : undoAnswer work k x ≡ undoOf k y
-  unfolding undoAnswer
-  undo-large = given-large work _ h ∙ ap (undoOf k) e
+  pub undo-is : undoAnswer work k x ≡ undoOf k y
+  unfolding undoAnswer given inRoom
+  undo-is = given-by (undoOf k) (tooSmall work) refl ∙ ap (undoOf k) e
 
 -- ---- refusals
 

@@ -15,7 +15,7 @@ ghost use Rattle.entries_run.specs.Steps.{Room};
 ghost use Rattle.extensions.specs.Found.{TreeFound, UndoFound};
 ghost use Rattle.file.specs.declared.Count.the-variants.{Absent, Present};
 ghost use Rattle.file.specs.Answers.{cleared, pick, listed, itemsOf, checkAnswer, entryAnswer, nodeAnswer, undoAnswer};
-ghost use Rattle.index.specs.Calls.{bodyOf, WholeOf, EntryShows, NodeShows, UndoShows};
+ghost use Rattle.index.specs.Calls.{bodyOf, inRoom, isPresent, numberOf, plainOf, WholeOf, EntryShows, NodeShows, UndoShows};
 use cache_tree::node::Node;
 use cache_tree::node::NodeRead;
 use cache_tree::node::read_node;
@@ -218,18 +218,25 @@ pub fn read_whole(file: &[u8], work: &mut [u8], want_node: u32, want_record: u32
     }
 }
 
-// ---- the calls. A workspace below 8,192 bytes is refused with 19 and left as it is; else its first 8,192 bytes are zero afterwards,
-// but for an entry's name of version 4, which stands first.
+// The same for any workspace, which is cleared afterwards; one below 8,192 bytes is refused with 19 and left as it is.
+fn read_cleared(file: &[u8], work: &mut [u8], want_node: u32, want_record: u32) -> Whole
+    ensures { λ r. ⌜ WholeOf «want_node» «want_record» (inRoom (now (work .entry)) (readFile 20 sha1 (now (file .entry)))) (bodyOf (now (file .entry))) r × (now (work .exit) ≡ cleared (now (work .entry))) ⌝ }
+{
+    if work.len() < fields::LONGEST {
+        return Whole::Bad(19, 0);
+    }
+    let whole = read_whole(file, &mut *work, want_node, want_record);
+    fields::clear(work);
+    whole
+}
+
+// ---- the calls
 
 // Whether the file is an index, and what it has.
 pub fn check(file: &[u8], work: &mut [u8]) -> Checked
     ensures { λ r. ⌜ (r ≡ checkAnswer (now (work .entry)) (readFile 20 sha1 (now (file .entry)))) × (now (work .exit) ≡ cleared (now (work .entry))) ⌝ }
 {
-    if work.len() < fields::LONGEST {
-        return Checked::Refused(19, 0);
-    }
-    let whole = read_whole(file, &mut *work, 0, 0);
-    fields::clear(work);
+    let whole = read_cleared(file, work, 0, 0);
     match whole {
         Whole::Bad(n, p) => Checked::Refused(n, p),
         Whole::Good(parts) => Checked::Accepted(Summary {
@@ -242,22 +249,15 @@ pub fn check(file: &[u8], work: &mut [u8]) -> Checked
     }
 }
 
-// Entry number k.
+// Entry number k. A name of version 4 is left at the start of the workspace.
 pub fn entry(file: &[u8], work: &mut [u8], k: u32) -> EntryAnswer
     ensures { λ r. ⌜ EntryShows (entryAnswer (now (work .entry)) k (readFile 20 sha1 (now (file .entry)))) (now (file .entry)) (now (work .entry)) (now (work .exit)) r ⌝ }
 {
-    if work.len() < fields::LONGEST {
-        return refused_entry(19, 0);
-    }
-    let whole = read_whole(file, &mut *work, 0, 0);
+    let whole = read_cleared(file, &mut *work, 0, 0);
     match whole {
-        Whole::Bad(n, p) => {
-            fields::clear(work);
-            refused_entry(n, p)
-        }
+        Whole::Bad(n, p) => refused_entry(n, p),
         Whole::Good(parts) => {
             if parts.count <= k {
-                fields::clear(work);
                 return refused_entry(18, 0);
             }
             show_entry(file, parts.version, work, k)
@@ -269,11 +269,7 @@ pub fn entry(file: &[u8], work: &mut [u8], k: u32) -> EntryAnswer
 pub fn tree_node(file: &[u8], work: &mut [u8], k: u32) -> NodeAnswer
     ensures { λ r. ⌜ NodeShows (nodeAnswer (now (work .entry)) k (readFile 20 sha1 (now (file .entry)))) (now (file .entry)) r × (now (work .exit) ≡ cleared (now (work .entry))) ⌝ }
 {
-    if work.len() < fields::LONGEST {
-        return refused_node(19, 0);
-    }
-    let whole = read_whole(file, &mut *work, k, 0);
-    fields::clear(work);
+    let whole = read_cleared(file, work, k, 0);
     match whole {
         Whole::Bad(n, p) => refused_node(n, p),
         Whole::Good(parts) => show_node(file, parts.found.tree, k),
@@ -284,13 +280,78 @@ pub fn tree_node(file: &[u8], work: &mut [u8], k: u32) -> NodeAnswer
 pub fn undo_record(file: &[u8], work: &mut [u8], k: u32) -> UndoAnswer
     ensures { λ r. ⌜ UndoShows (undoAnswer (now (work .entry)) k (readFile 20 sha1 (now (file .entry)))) (now (file .entry)) r × (now (work .exit) ≡ cleared (now (work .entry))) ⌝ }
 {
-    if work.len() < fields::LONGEST {
-        return refused_undo(19, 0);
-    }
-    let whole = read_whole(file, &mut *work, 0, k);
-    fields::clear(work);
+    let whole = read_cleared(file, work, 0, k);
     match whole {
         Whole::Bad(n, p) => refused_undo(n, p),
         Whole::Good(parts) => show_record(file, parts.found.undo, k),
+    }
+}
+
+// ---- for programs in other languages
+
+// The answer of check in plain fields: refusal is 0 where the file is accepted, and all that does not apply is 0 or false.
+#[repr(C)]
+pub struct CheckAnswer {
+    pub refusal: u32,
+    pub version: u32,
+    pub place: usize,
+    pub end: usize,
+    pub entries: u32,
+    pub nodes: u32,
+    pub records: u32,
+    pub has_tree: bool,
+    pub has_undo: bool,
+}
+
+fn is_present(c: Count) -> bool
+    ensures { λ r. ⌜ r ≡ isPresent c ⌝ }
+{
+    match c {
+        Count::Absent => false,
+        Count::Present(_) => true,
+    }
+}
+
+fn number_of(c: Count) -> u32
+    ensures { λ r. ⌜ r ≡ numberOf c ⌝ }
+{
+    match c {
+        Count::Absent => 0,
+        Count::Present(n) => n,
+    }
+}
+
+#[no_mangle]
+pub extern "C" fn nerupazhil_check(file: &[u8], work: &mut [u8]) -> CheckAnswer
+    ensures { λ r. ⌜ (r ≡ plainOf (checkAnswer (now (work .entry)) (readFile 20 sha1 (now (file .entry))))) × (now (work .exit) ≡ cleared (now (work .entry))) ⌝ }
+{
+    let checked = check(file, work);
+    match checked {
+        Checked::Refused(n, p) => CheckAnswer {
+            refusal: n,
+            version: 0,
+            place: p,
+            end: 0,
+            entries: 0,
+            nodes: 0,
+            records: 0,
+            has_tree: false,
+            has_undo: false,
+        },
+        Checked::Accepted(s) => {
+            let nodes = s.nodes;
+            let records = s.records;
+            CheckAnswer {
+                refusal: 0,
+                version: s.version,
+                place: 0,
+                end: s.end,
+                entries: s.entries,
+                nodes: number_of(nodes),
+                records: number_of(records),
+                has_tree: is_present(nodes),
+                has_undo: is_present(records),
+            }
+        }
     }
 }

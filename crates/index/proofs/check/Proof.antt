@@ -1,20 +1,23 @@
 -- The proof that `check` meets its contract.
 use mathlib.Core.Path.{sym, _∙_}
-use Rattle.file.proofs.Laws.{cleared-small}
-use Rattle.index.proofs.Views.{cleared-by, check-small, check-large}
+use Rattle.format.specs.Reader.{readFile}
+use Rattle.hash.specs.Sha1.{sha1}
+use Rattle.index.specs.Calls.{bodyOf, inRoom, Contains}
+use Rattle.index.proofs.Views.{check-is}
 use Rattle.index.proofs.Bodies.{check-says}
 use borrow.Author.Needs.{needs}
 use Rattle.index.proofs.check.Statement.{statement}
 use Rattle.index.proofs.check.Tie as tie
 
-returns : tie.Need-returns
-returns c = (sym (check-small _ 0 _ (c .if1 .taken)), sym (cleared-small _ (c .if1 .taken)))
+-- the file is accepted
+accepted :
+    (c : tie.After-whole2) →
+    let a = c .before .before .before .before .before .before .before .before .args in
+    Contains 0 0 (inRoom (a .work .now) (readFile 20 sha1 (a .file .now))) (bodyOf (a .file .now)) (c .whole2 .given .0 .0)
+accepted c = rw (c .whole2 .given .1) at (c .before .before .before .before .read-cleared .ensures .0)
 
-read-whole-requires : tie.Need-read-whole-requires
-read-whole-requires c κs = search needs
-
-clear-requires : tie.Need-clear-requires
-clear-requires c κs = search needs
+read-cleared-requires : tie.Need-read-cleared-requires
+read-cleared-requires c κs = search needs
 
 enum-known-whole : tie.Need-enum-known-whole
 enum-known-whole c = search needs
@@ -31,42 +34,33 @@ count-of-requires-2 c κs = search needs
 same-length : tie.Need-same-length
 same-length c = search needs
 
-returns-2 : tie.Need-returns-2
-returns-2 c =
-    let m = c .before .before .before .before .before in
-    let q = m .before .before .before .before in
-    let e = q .before .before in
-    let a = e .before .before .before .args in
-    let refusal = rw (c .before .whole .given .1) at (q .read-whole .ensures .0) in
-    (sym (check-large (a .work .now) 0 _ _ (e .if1 .left) refusal), cleared-by (a .work .now) _ _ (e .if1 .left) (m .clear .ensures) (q .read-whole .ensures .1))
+returns : tie.Need-returns
+returns c =
+    let q = c .before .before .before .before .before in
+    let refusal = rw (c .before .whole .given .1) at (q .read-cleared .ensures .0) in
+    (sym (check-is _ 0 _ _ refusal), q .read-cleared .ensures .1)
 
 same-length-2 : tie.Need-same-length-2
 same-length-2 c = search needs
 
-returns-3 : tie.Need-returns-3
-returns-3 c =
+returns-2 : tie.Need-returns-2
+returns-2 c =
     let w = c .before .before .before in
-    let m = w .before .before .before .before in
-    let q = m .before .before .before .before in
-    let e = q .before .before in
-    let a = e .before .before .before .args in
-    let h = rw (w .whole2 .given .1) at (q .read-whole .ensures .0) in (
-      rw (c .count-of2 .ensures, c .before .count-of .ensures) (check-says 0 0 _ _ _ h ∙ sym (check-large (a .work .now) 0 _ _ (e .if1 .left) (h .read))),
-      cleared-by (a .work .now) _ _ (e .if1 .left) (m .clear .ensures) (q .read-whole .ensures .1),
+    let h = accepted w in (
+      rw (c .count-of2 .ensures, c .before .count-of .ensures) (check-says 0 0 _ _ _ h ∙ sym (check-is _ 0 _ _ (h .read))),
+      w .before .before .before .before .read-cleared .ensures .1,
     )
 
 pub check-spec : {M : Type 1} → statement M
 check-spec =
     tie.close
     (tie.spec
-    returns
-    read-whole-requires
-    clear-requires
+    read-cleared-requires
     enum-known-whole
     enum-known-whole-2
     count-of-requires
     count-of-requires-2
     same-length
-    returns-2
+    returns
     same-length-2
-    returns-3)
+    returns-2)
