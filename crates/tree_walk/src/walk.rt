@@ -21,17 +21,17 @@ ghost use Rattle.tree_walk.specs.Steps.{Joined, NodeAdded, Ready, Taken,
 pub struct Tally {
     pub ok: bool,
     pub met: u32,
+    pub place: u32,
+    pub left: u32,
     pub count: usize,
     pub front: Front,
-    pub place: usize,
-    pub left: u32,
 }
 
 // A part of a directory's entries: its tally, or the place after the component in its names, the place of that component's node, how many siblings
 // there are from it on, and the node.
 pub enum Part {
     Flat(Tally),
-    Below(usize, usize, u32, Node),
+    Below(usize, u32, u32, Node),
 }
 
 // The sum of two numbers, where it fits.
@@ -76,7 +76,7 @@ fn ended(s: Front) -> Front
 }
 
 // The tally of entries that met no node.
-fn told(ok: bool, count: usize, front: Front, place: usize, left: u32) -> Tally
+fn told(ok: bool, count: usize, front: Front, place: u32, left: u32) -> Tally
     ensures { λ r. ⌜ r ≡ record { ok = ok; met = 0; count = count; front = front; place = place; left = left } ⌝ }
 {
     Tally {
@@ -106,7 +106,7 @@ fn join(a: Tally, n: Tally) -> Tally
 }
 
 // A node's test and its number, with those of all below it.
-fn add_node(node: Node, t: Tally, place: usize, left: u32) -> Tally
+fn add_node(node: Node, t: Tally, place: u32, left: u32) -> Tally
     ensures { λ r. ⌜ NodeAdded node t place left r ⌝ }
 {
     let front = t.front;
@@ -123,11 +123,11 @@ fn add_node(node: Node, t: Tally, place: usize, left: u32) -> Tally
 
 // One part of a directory's entries: the first ahead where it has no further "/" after its first q bytes, or all in the directory of its next
 // component, which are passed here where that has no node. k nodes stand at a place; the node above them is valid or not.
-fn take_part(d: &[u8], at: usize, k: u32, valid: bool, place: usize, left: u32, b: &[u8], v: u32, work: &mut [u8], q: usize, s: Front) -> Part
+fn take_part(d: &[u8], at: usize, k: u32, valid: bool, place: u32, left: u32, b: &[u8], v: u32, work: &mut [u8], q: usize, s: Front) -> Part
     requires { ⌜ Ready (now d) at (now b) (now work) q s × (at ≤ place) × (place ≤ length (now d)) ⌝ }
     ensures { λ r. ⌜ Taken (now (d .entry)) at k valid place left (now (b .entry)) v (now (work .entry)) q s (now (work .exit)) r ⌝ }
 {
-    let look = look_up(d, at, k, place, left, b, v, &work[..], q, s);
+    let look = look_up(d, at, k, place as usize, left, b, v, &work[..], q, s);
     match look {
         Look::File => {
             let next = advance(b, v, work, s);
@@ -142,7 +142,7 @@ fn take_part(d: &[u8], at: usize, k: u32, valid: bool, place: usize, left: u32, 
             let read = read_node(d, p);
             match read {
                 NodeRead::Bad => Part::Flat(told(false, 0, ended(s), place, left)),
-                NodeRead::Good(node) => Part::Below(e, p, l, node),
+                NodeRead::Good(node) => Part::Below(e, p as u32, l, node),
             }
         }
     }
@@ -167,16 +167,17 @@ pub(crate) fn walk_directory(d: &[u8], at: usize, k: u32, valid: bool, b: &[u8],
     requires { ⌜ Ready (now d) at (now b) (now work) q s ⌝ }
     ensures { λ r. ⌜ DirectoryWalked (now (d .entry)) at k valid (now (b .entry)) v (now (work .entry)) q s (now (work .exit)) r ⌝ }
 {
+    let place = at as u32;
     let mut r = Tally {
         ok: true,
         met: 0,
+        place: place,
+        left: 0,
         count: 0,
         front: s,
-        place: at,
-        left: 0,
     };
     let mut front = s;
-    let mut part = take_part(d, at, k, valid, at, 0, b, v, &mut *work, q, s);
+    let mut part = take_part(d, at, k, valid, place, 0, b, v, &mut *work, q, s);
     loop {
         let n = finish_part(d, b, v, &mut *work, part, front);
         r = join(r, n);

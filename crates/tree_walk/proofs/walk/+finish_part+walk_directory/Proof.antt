@@ -119,15 +119,28 @@ finish-part-returns-2 t c =
     rw (c .before .before .before .before .before .before .part2 .given .1) (record { is = record { below = c .before .before .before .walk-directory .result; walked = c .before .before .before .walk-directory .ensures; added = c .add-node .ensures } })
 
 abbrev walk-directory-Inv-loop : walk-directory-lts.InvT-loop
-walk-directory-Inv-loop d at k valid b v work₀ q r₀ front₀ part₀ work r front part =
+walk-directory-Inv-loop d at k valid b v work₀ q place r₀ front₀ part₀ work r front part =
     (front ≡ r .front)
     × ((w₀ : List ℕ) → Ready d at b w₀ q (r₀ .front) → Taken d at k valid (r₀ .place) (r₀ .left) b v w₀ q (r₀ .front) work₀ part₀
     → (w : List ℕ) × Looping d at k valid b v w₀ q r₀ w r × Taken d at k valid (r .place) (r .left) b v w q (r .front) work part)
 
 abbrev walk-directory-μ-loop : walk-directory-lts.MeasureT-loop
-walk-directory-μ-loop d at k valid b v work₀ q r₀ front₀ part₀ work r front part = front .ahead
+walk-directory-μ-loop d at k valid b v work₀ q place r₀ front₀ part₀ work r front part = front .ahead
 
--- src/walk.rt:179:9
+-- src/walk.rt:170:17
+walk-directory-cast-place : (t : ℕ) → walk-directory-lts.Need-cast-place (
+  take-part-reads.Asked,
+  take-part-reads.Learnt,
+  finish-part-below t,
+  finish-part.Post,
+  join-reads.Asked,
+  join-reads.Learnt,
+  stays-reads.Asked,
+  stays-reads.Learnt,
+) (walk-directory-at t) walk-directory.Post walk-directory-Inv-loop walk-directory-μ-loop
+walk-directory-cast-place t c = let ready = c .before .before .before .pre .1 in omega (arith, ready .inside, ready .small)
+
+-- src/walk.rt:180:9
 walk-directory-take-part-requires : (t : ℕ) → walk-directory-lts.Need-take-part-requires (
   take-part-reads.Asked,
   take-part-reads.Learnt,
@@ -142,7 +155,7 @@ walk-directory-take-part-requires t c κs =
     let ready = c .before .before .before .before .pre .1 in
     (ready, omega arith, ready .inside)
 
--- src/walk.rt:180:5
+-- src/walk.rt:181:5
 walk-directory-loop-holds : (t : ℕ) → walk-directory-lts.Need-loop-holds (
   take-part-reads.Asked,
   take-part-reads.Learnt,
@@ -155,7 +168,7 @@ walk-directory-loop-holds : (t : ℕ) → walk-directory-lts.Need-loop-holds (
 ) (walk-directory-at t) walk-directory.Post walk-directory-Inv-loop walk-directory-μ-loop
 walk-directory-loop-holds t c = (refl, λ w₀ ready taken. (w₀, loop-start _ _ _ _ _ _ _ _ _ ready, taken))
 
--- src/walk.rt:181:13
+-- src/walk.rt:182:13
 walk-directory-finish-part-requires : (t : ℕ) → walk-directory-lts.Need-finish-part-requires (
   take-part-reads.Asked,
   take-part-reads.Learnt,
@@ -173,7 +186,7 @@ walk-directory-finish-part-requires t c κs =
     let g = l .loop .inv .1 (st .args .work .now) (st .pre .1) (l .before .before .before .take-part .ensures) in
     (omega (arith, st .pre .0, taken-room _ _ _ _ _ _ _ _ _ _ _ _ (g .1 .ready) _ (g .2)), rw same (taken-ready _ _ _ _ _ _ _ _ _ _ _ _ (g .1 .ready) _ (g .2)))
 
--- src/walk.rt:182:9
+-- src/walk.rt:183:9
 walk-directory-join-requires : (t : ℕ) → walk-directory-lts.Need-join-requires (
   take-part-reads.Asked,
   take-part-reads.Learnt,
@@ -192,7 +205,7 @@ walk-directory-join-requires t c κs =
     let kept = part-done _ _ _ _ _ _ _ _ _ _ _ (g .1) _ _ (g .2) _ _ (rw same at (c .before .before .finish-part .ensures)) .kept in
     omega (arith, kept .fewer, g .1 .fewer, st .pre .1 .fits .few)
 
--- src/walk.rt:184:12
+-- src/walk.rt:185:12
 walk-directory-stays-requires : (t : ℕ) → walk-directory-lts.Need-stays-requires (
   take-part-reads.Asked,
   take-part-reads.Learnt,
@@ -205,7 +218,7 @@ walk-directory-stays-requires : (t : ℕ) → walk-directory-lts.Need-stays-requ
 ) (walk-directory-at t) walk-directory.Post walk-directory-Inv-loop walk-directory-μ-loop
 walk-directory-stays-requires t c κs = search needs
 
--- src/walk.rt:185:13
+-- src/walk.rt:186:13
 walk-directory-take-part-requires-2 : (t : ℕ) → walk-directory-lts.Need-take-part-requires-2 (
   take-part-reads.Asked,
   take-part-reads.Learnt,
@@ -225,7 +238,7 @@ walk-directory-take-part-requires-2 t c κs =
     let h = loop-more _ _ _ _ _ _ _ _ _ _ _ (g .1) _ _ (g .2) _ _ (rw same at (c .before .before .before .before .before .before .before .finish-part .ensures)) _ (c .before .before .before .before .join .ensures) on in
     (h .ready, h .least, h .most)
 
--- src/walk.rt:180:5
+-- src/walk.rt:181:5
 walk-directory-loop-less : (t : ℕ) → walk-directory-lts.Need-loop-less (
   take-part-reads.Asked,
   take-part-reads.Learnt,
@@ -244,7 +257,7 @@ walk-directory-loop-less t c =
     let kept = part-done _ _ _ _ _ _ _ _ _ _ _ (g .1) _ _ (g .2) _ _ (rw same at (c .before .before .before .before .before .before .before .before .before .before .finish-part .ensures)) .kept in
     rw (c .before .before .before .before .before .before .before .join .ensures .front, same) (kept .less)
 
--- src/walk.rt:180:5
+-- src/walk.rt:181:5
 walk-directory-loop-again : (t : ℕ) → walk-directory-lts.Need-loop-again (
   take-part-reads.Asked,
   take-part-reads.Learnt,
@@ -263,7 +276,7 @@ walk-directory-loop-again t c =
     let g = l .loop .inv .1 w₀ ready taken in
     (_, loop-more _ _ _ _ _ _ _ _ _ _ _ (g .1) _ _ (g .2) _ _ (rw same at (c .before .before .before .before .before .before .before .before .before .before .finish-part .ensures)) _ (c .before .before .before .before .before .before .before .join .ensures) on, c .before .before .take-part2 .ensures))
 
--- src/walk.rt:187:13
+-- src/walk.rt:188:13
 walk-directory-same-length : (t : ℕ) → walk-directory-lts.Need-same-length (
   take-part-reads.Asked,
   take-part-reads.Learnt,
@@ -282,7 +295,7 @@ walk-directory-same-length t c =
     let off = sym (c .before .stays .ensures) ∙ c .if1 .left in
     loop-end _ _ _ _ _ _ _ _ _ _ _ (g .1) _ _ (g .2) _ _ (rw same at (c .before .before .before .before .before .before .finish-part .ensures)) _ (c .before .before .before .join .ensures) off refl .kept .long
 
--- src/walk.rt:187:13
+-- src/walk.rt:188:13
 walk-directory-returns : (t : ℕ) → walk-directory-lts.Need-returns (
   take-part-reads.Asked,
   take-part-reads.Learnt,
@@ -331,6 +344,7 @@ pub +finish-part+walk-directory-spec : {M : Type 1} → statement M
     walk-directory.Post
     walk-directory-Inv-loop
     walk-directory-μ-loop
+    (walk-directory-cast-place t)
     (walk-directory-take-part-requires t)
     (walk-directory-loop-holds t)
     (walk-directory-finish-part-requires t)

@@ -1,4 +1,5 @@
 use mathlib.Core.Path.{refl, sym, _∙_}
+use native.Mathlib.Omega.{arith}
 use Rattle.tree_walk.proofs.Parts.{part-file, part-missing, part-lost}
 use borrow.Author.Needs.{needs}
 use Rattle.tree_walk.proofs.walk.take_part.Statement.{statement}
@@ -66,6 +67,14 @@ told-requires-3 c κs = search needs
 enum-known-read : tie.Need-enum-known-read
 enum-known-read c = search needs
 
+-- src/walk.rt:145:56
+cast-t36 : tie.Need-cast-t36
+cast-t36 c =
+    let k = c .before .before .before .before in
+    let u = k .before .before .before in
+    let look = rw (k .before .look2 .given .1) at (u .look-up .ensures) in
+    omega (arith, look .most, u .before .before .before .before .before .pre .0 .small)
+
 -- src/walk.rt:126:1
 same-length : tie.Need-same-length
 same-length c = search needs
@@ -131,6 +140,7 @@ take-part-spec =
     ended-requires
     told-requires-3
     enum-known-read
+    cast-t36
     same-length
     returns
     same-length-2
