@@ -213,8 +213,16 @@ module _ (d : List ℕ) (at k : ℕ) (valid : Bool) (place left : ℕ) (b : List
       let is = node-is d p (taken .is .1 .most) node (taken .is .2) in
       omega (arith, taken .is .1 .least, is .named, is .ended, is .within)
 
+-- the loop's tally, from its parts
+abbrev pub tallyOf : Bool → ℕ → ℕ → Front → ℕ → ℕ → Tally
+tallyOf ok met count front place left = record { ok = ok; met = met; place = place; left = left; count = count; front = front }
+
+pub joined : (a n : Tally) (ok : Bool) (met : ℕ) → ok ≡ (a .ok && n .ok) → (a .met + n .met < 4294967296 → met ≡ a .met + n .met)
+    → Joined a n (tallyOf ok met (a .count + n .count) (n .front) (n .place) (n .left))
+joined a n ok met both plus = record { ok = both; met = plus; count = refl; front = refl; place = refl; left = refl }
+
 pub loop-start : (d : List ℕ) (at k : ℕ) (valid : Bool) (b : List ℕ) (v : ℕ) (work : List ℕ) (q : ℕ) (s : Front) → Ready d at b work q s
-    → Looping d at k valid b v work q (record { ok = true; met = 0; count = 0; front = s; place = at; left = 0 }) work (record { ok = true; met = 0; count = 0; front = s; place = at; left = 0 })
+    → Looping d at k valid b v work q (tallyOf true 0 0 s at 0) work (tallyOf true 0 0 s at 0)
 loop-start d at k valid b v work q s ready = record {
   ready = ready;
   fewer = omega arith;

@@ -14,7 +14,7 @@ ghost use mathlib.Core.Bool.{true, cond, _&&_};
 ghost use Prim.Native.Nat.{ℕ, _+_, _≤_, _<_};
 ghost use lib.ListN.{length};
 ghost use lib.Dec.{eqb};
-ghost use Rattle.tree_walk.specs.Steps.{Joined, NodeAdded, Ready, Taken, BelowReady, Finished, DirectoryWalked};
+ghost use Rattle.tree_walk.specs.Steps.{NodeAdded, Ready, Taken, BelowReady, Finished, DirectoryWalked};
 
 // Whether the tests pass, how many nodes with a count of at least 1 were met, how many entries were passed, what is ahead of them, and a hint
 // to find_child.
@@ -89,22 +89,6 @@ fn told(ok: bool, count: usize, front: Front, place: u32, left: u32) -> Tally
     }
 }
 
-// One part of a directory after those before it.
-fn join(a: Tally, n: Tally) -> Tally
-    requires { ⌜ a .count + n .count ≤ 4294967296 ⌝ }
-    ensures { λ r. ⌜ Joined a n r ⌝ }
-{
-    let front = n.front;
-    Tally {
-        ok: both(a.ok, n.ok),
-        met: plus(a.met, n.met),
-        count: a.count + n.count,
-        front: front,
-        place: n.place,
-        left: n.left,
-    }
-}
-
 // A node's test and its number, with those of all below it.
 fn add_node(node: Node, t: Tally, place: u32, left: u32) -> Tally
     ensures { λ r. ⌜ NodeAdded node t place left r ⌝ }
@@ -167,25 +151,32 @@ pub(crate) fn walk_directory(d: &[u8], at: usize, k: u32, valid: bool, b: &[u8],
     requires { ⌜ Ready (now d) at (now b) (now work) q s ⌝ }
     ensures { λ r. ⌜ DirectoryWalked (now (d .entry)) at k valid (now (b .entry)) v (now (work .entry)) q s (now (work .exit)) r ⌝ }
 {
-    let place = at as u32;
-    let mut r = Tally {
-        ok: true,
-        met: 0,
-        place: place,
-        left: 0,
-        count: 0,
-        front: s,
-    };
+    let mut ok = true;
+    let mut met: u32 = 0;
+    let mut count: usize = 0;
+    let mut place = at as u32;
+    let mut left: u32 = 0;
     let mut front = s;
-    let mut part = take_part(d, at, k, valid, place, 0, b, v, &mut *work, q, s);
+    let mut part = take_part(d, at, k, valid, place, left, b, v, &mut *work, q, front);
     loop {
         let n = finish_part(d, b, v, &mut *work, part, front);
-        r = join(r, n);
-        front = r.front;
+        ok = both(ok, n.ok);
+        met = plus(met, n.met);
+        count += n.count;
+        place = n.place;
+        left = n.left;
+        front = n.front;
         if stays(front, q) {
-            part = take_part(d, at, k, valid, r.place, r.left, b, v, &mut *work, q, front);
+            part = take_part(d, at, k, valid, place, left, b, v, &mut *work, q, front);
         } else {
-            return r;
+            return Tally {
+                ok: ok,
+                met: met,
+                place: place,
+                left: left,
+                count: count,
+                front: front,
+            };
         }
     }
 }

@@ -1,11 +1,12 @@
 use mathlib.Core.Path.{_≡_, refl, sym, _∙_}
 use mathlib.Core.List.{List}
+use mathlib.Core.Bool.{true}
 use native.Mathlib.Omega.{arith}
 use denote.Ref.{now}
 use borrow.Author.Needs.{needs}
 use lib.ListN.{length}
 use Rattle.tree_walk.specs.Steps.{Ready, Taken, roomBelow}
-use Rattle.tree_walk.proofs.Parts.{Looping, taken-ready, taken-room, loop-start, part-done, loop-more, loop-end}
+use Rattle.tree_walk.proofs.Parts.{Looping, taken-ready, taken-room, tallyOf, joined, loop-start, part-done, loop-more, loop-end}
 use Prim.Native.Nat.{ℕ, _+_, _*_, _-_, _<_}
 use borrow.Fn.Kinds.{In}
 use borrow.Fn.PlainCycle.{Measures, is, falls, and}
@@ -17,7 +18,8 @@ use Rattle.tree_walk.proofs.walk.walk_directory.Kinds as walk-directory
 use Rattle.tree_walk.proofs.walk.+finish_part+walk_directory.Lts-walk_directory as walk-directory-lts
 use Rattle.tree_walk.proofs.front.stays.Reads as stays-reads
 use Rattle.tree_walk.proofs.walk.add_node.Reads as add-node-reads
-use Rattle.tree_walk.proofs.walk.join.Reads as join-reads
+use Rattle.tree_walk.proofs.walk.both.Reads as both-reads
+use Rattle.tree_walk.proofs.walk.plus.Reads as plus-reads
 use Rattle.tree_walk.proofs.walk.take_part.Reads as take-part-reads
 use Rattle.tree_walk.proofs.walk.+finish_part+walk_directory.{statement}
 use Rattle.tree_walk.proofs.walk.+finish_part+walk_directory.Tie.{close}
@@ -52,7 +54,7 @@ walk-directory-below t =
     (falls 3 walk-directory-kinds.ps _<_ μ-walk-directory t)
     walk-directory.Pre
 
--- src/walk.rt:157:20
+-- src/walk.rt:141:20
 finish-part-enum-known-part : (t : ℕ) → finish-part-lts.Need-enum-known-part (
   walk-directory-below t,
   walk-directory.Post,
@@ -61,7 +63,7 @@ finish-part-enum-known-part : (t : ℕ) → finish-part-lts.Need-enum-known-part
 ) (finish-part-at t) finish-part.Post
 finish-part-enum-known-part t c = search needs
 
--- src/walk.rt:158:21
+-- src/walk.rt:142:21
 finish-part-enum-known-part-2 : (t : ℕ) → finish-part-lts.Need-enum-known-part-2 (
   walk-directory-below t,
   walk-directory.Post,
@@ -70,7 +72,7 @@ finish-part-enum-known-part-2 : (t : ℕ) → finish-part-lts.Need-enum-known-pa
 ) (finish-part-at t) finish-part.Post
 finish-part-enum-known-part-2 t c = search needs
 
--- src/walk.rt:159:17
+-- src/walk.rt:143:17
 finish-part-walk-directory-requires : (t : ℕ) → finish-part-lts.Need-walk-directory-requires (
   walk-directory-below t,
   walk-directory.Post,
@@ -81,7 +83,7 @@ finish-part-walk-directory-requires t c κs =
     let pre = rw (c .before .before .part2 .given .1) at (c .before .before .before .before .before .before .before .pre) in
     (omega (arith, pre .0), pre .1)
 
--- src/walk.rt:160:13
+-- src/walk.rt:144:13
 finish-part-add-node-requires : (t : ℕ) → finish-part-lts.Need-add-node-requires (
   walk-directory-below t,
   walk-directory.Post,
@@ -90,7 +92,7 @@ finish-part-add-node-requires : (t : ℕ) → finish-part-lts.Need-add-node-requ
 ) (finish-part-at t) finish-part.Post
 finish-part-add-node-requires t c κs = search needs
 
--- src/walk.rt:152:1
+-- src/walk.rt:136:1
 finish-part-returns : (t : ℕ) → finish-part-lts.Need-returns (
   walk-directory-below t,
   walk-directory.Post,
@@ -99,7 +101,7 @@ finish-part-returns : (t : ℕ) → finish-part-lts.Need-returns (
 ) (finish-part-at t) finish-part.Post
 finish-part-returns t c = rw (c .before .part .given .1) (record { is = (refl, refl) })
 
--- src/walk.rt:152:1
+-- src/walk.rt:136:1
 finish-part-same-length : (t : ℕ) → finish-part-lts.Need-same-length (
   walk-directory-below t,
   walk-directory.Post,
@@ -108,7 +110,7 @@ finish-part-same-length : (t : ℕ) → finish-part-lts.Need-same-length (
 ) (finish-part-at t) finish-part.Post
 finish-part-same-length t c = c .before .before .before .walk-directory .ensures .kept .long
 
--- src/walk.rt:152:1
+-- src/walk.rt:136:1
 finish-part-returns-2 : (t : ℕ) → finish-part-lts.Need-returns-2 (
   walk-directory-below t,
   walk-directory.Post,
@@ -116,38 +118,43 @@ finish-part-returns-2 : (t : ℕ) → finish-part-lts.Need-returns-2 (
   add-node-reads.Learnt,
 ) (finish-part-at t) finish-part.Post
 finish-part-returns-2 t c =
-    rw (c .before .before .before .before .before .before .part2 .given .1) (record { is = record { below = c .before .before .before .walk-directory .result; walked = c .before .before .before .walk-directory .ensures; added = c .add-node .ensures } })
+    rw (c .before .before .before .before .before .before .part2 .given .1)
+    (record { is = record { below = c .before .before .before .walk-directory .result; walked = c .before .before .before .walk-directory .ensures; added = c .add-node .ensures } })
 
 abbrev walk-directory-Inv-loop : walk-directory-lts.InvT-loop
-walk-directory-Inv-loop d at k valid b v work₀ q place r₀ front₀ part₀ work r front part =
-    (front ≡ r .front)
-    × ((w₀ : List ℕ) → Ready d at b w₀ q (r₀ .front) → Taken d at k valid (r₀ .place) (r₀ .left) b v w₀ q (r₀ .front) work₀ part₀
-    → (w : List ℕ) × Looping d at k valid b v w₀ q r₀ w r × Taken d at k valid (r .place) (r .left) b v w q (r .front) work part)
+walk-directory-Inv-loop d at k valid b v work₀ q ok₀ met₀ count₀ front₀ part₀ work ok met count front part =
+    (w₀ : List ℕ) → Ready d at b w₀ q front₀ → Taken d at k valid at 0 b v w₀ q front₀ work₀ part₀
+    → (w : List ℕ) × (place : ℕ) × (left : ℕ) × Looping d at k valid b v w₀ q (tallyOf true 0 0 front₀ at 0) w (tallyOf ok met count front place left)
+    × Taken d at k valid place left b v w q front work part
 
 abbrev walk-directory-μ-loop : walk-directory-lts.MeasureT-loop
-walk-directory-μ-loop d at k valid b v work₀ q place r₀ front₀ part₀ work r front part = front .ahead
+walk-directory-μ-loop d at k valid b v work₀ q ok₀ met₀ count₀ front₀ part₀ work ok met count front part = front .ahead
 
--- src/walk.rt:170:17
+-- src/walk.rt:157:21
 walk-directory-cast-place : (t : ℕ) → walk-directory-lts.Need-cast-place (
   take-part-reads.Asked,
   take-part-reads.Learnt,
   finish-part-below t,
   finish-part.Post,
-  join-reads.Asked,
-  join-reads.Learnt,
+  both-reads.Asked,
+  both-reads.Learnt,
+  plus-reads.Asked,
+  plus-reads.Learnt,
   stays-reads.Asked,
   stays-reads.Learnt,
 ) (walk-directory-at t) walk-directory.Post walk-directory-Inv-loop walk-directory-μ-loop
 walk-directory-cast-place t c = let ready = c .before .before .before .pre .1 in omega (arith, ready .inside, ready .small)
 
--- src/walk.rt:180:9
+-- src/walk.rt:160:9
 walk-directory-take-part-requires : (t : ℕ) → walk-directory-lts.Need-take-part-requires (
   take-part-reads.Asked,
   take-part-reads.Learnt,
   finish-part-below t,
   finish-part.Post,
-  join-reads.Asked,
-  join-reads.Learnt,
+  both-reads.Asked,
+  both-reads.Learnt,
+  plus-reads.Asked,
+  plus-reads.Learnt,
   stays-reads.Asked,
   stays-reads.Learnt,
 ) (walk-directory-at t) walk-directory.Post walk-directory-Inv-loop walk-directory-μ-loop
@@ -155,164 +162,204 @@ walk-directory-take-part-requires t c κs =
     let ready = c .before .before .before .before .pre .1 in
     (ready, omega arith, ready .inside)
 
--- src/walk.rt:181:5
+-- src/walk.rt:161:5
 walk-directory-loop-holds : (t : ℕ) → walk-directory-lts.Need-loop-holds (
   take-part-reads.Asked,
   take-part-reads.Learnt,
   finish-part-below t,
   finish-part.Post,
-  join-reads.Asked,
-  join-reads.Learnt,
+  both-reads.Asked,
+  both-reads.Learnt,
+  plus-reads.Asked,
+  plus-reads.Learnt,
   stays-reads.Asked,
   stays-reads.Learnt,
 ) (walk-directory-at t) walk-directory.Post walk-directory-Inv-loop walk-directory-μ-loop
-walk-directory-loop-holds t c = (refl, λ w₀ ready taken. (w₀, loop-start _ _ _ _ _ _ _ _ _ ready, taken))
+walk-directory-loop-holds t c = λ w₀ ready taken. (w₀, _, _, loop-start _ _ _ _ _ _ _ _ _ ready, taken)
 
--- src/walk.rt:182:13
+-- src/walk.rt:162:13
 walk-directory-finish-part-requires : (t : ℕ) → walk-directory-lts.Need-finish-part-requires (
   take-part-reads.Asked,
   take-part-reads.Learnt,
   finish-part-below t,
   finish-part.Post,
-  join-reads.Asked,
-  join-reads.Learnt,
+  both-reads.Asked,
+  both-reads.Learnt,
+  plus-reads.Asked,
+  plus-reads.Learnt,
   stays-reads.Asked,
   stays-reads.Learnt,
 ) (walk-directory-at t) walk-directory.Post walk-directory-Inv-loop walk-directory-μ-loop
 walk-directory-finish-part-requires t c κs =
     let l = c .before in
     let st = l .before .before .before .before .before .before .before .before in
-    let same = l .loop .inv .0 in
-    let g = l .loop .inv .1 (st .args .work .now) (st .pre .1) (l .before .before .before .take-part .ensures) in
-    (omega (arith, st .pre .0, taken-room _ _ _ _ _ _ _ _ _ _ _ _ (g .1 .ready) _ (g .2)), rw same (taken-ready _ _ _ _ _ _ _ _ _ _ _ _ (g .1 .ready) _ (g .2)))
+    let g = l .loop .inv (st .args .work .now) (st .pre .1) (l .before .before .before .take-part .ensures) in
+    (omega (arith, st .pre .0, taken-room _ _ _ _ _ _ _ _ _ _ _ _ (g .3 .ready) (l .loop .part) (g .4)), taken-ready _ _ _ _ _ _ _ _ _ _ _ _ (g .3 .ready) _ (g .4))
 
--- src/walk.rt:183:9
-walk-directory-join-requires : (t : ℕ) → walk-directory-lts.Need-join-requires (
+-- src/walk.rt:163:9
+walk-directory-both-requires : (t : ℕ) → walk-directory-lts.Need-both-requires (
   take-part-reads.Asked,
   take-part-reads.Learnt,
   finish-part-below t,
   finish-part.Post,
-  join-reads.Asked,
-  join-reads.Learnt,
+  both-reads.Asked,
+  both-reads.Learnt,
+  plus-reads.Asked,
+  plus-reads.Learnt,
   stays-reads.Asked,
   stays-reads.Learnt,
 ) (walk-directory-at t) walk-directory.Post walk-directory-Inv-loop walk-directory-μ-loop
-walk-directory-join-requires t c κs =
-    let l = c .before .before .before .before in
-    let st = l .before .before .before .before .before .before .before .before in
-    let same = l .loop .inv .0 in
-    let g = l .loop .inv .1 (st .args .work .now) (st .pre .1) (l .before .before .before .take-part .ensures) in
-    let kept = part-done _ _ _ _ _ _ _ _ _ _ _ (g .1) _ _ (g .2) _ _ (rw same at (c .before .before .finish-part .ensures)) .kept in
-    omega (arith, kept .fewer, g .1 .fewer, st .pre .1 .fits .few)
+walk-directory-both-requires t c κs = search needs
 
--- src/walk.rt:185:12
+-- src/walk.rt:164:9
+walk-directory-plus-requires : (t : ℕ) → walk-directory-lts.Need-plus-requires (
+  take-part-reads.Asked,
+  take-part-reads.Learnt,
+  finish-part-below t,
+  finish-part.Post,
+  both-reads.Asked,
+  both-reads.Learnt,
+  plus-reads.Asked,
+  plus-reads.Learnt,
+  stays-reads.Asked,
+  stays-reads.Learnt,
+) (walk-directory-at t) walk-directory.Post walk-directory-Inv-loop walk-directory-μ-loop
+walk-directory-plus-requires t c κs = search needs
+
+-- src/walk.rt:165:9
+walk-directory-add-count : (t : ℕ) → walk-directory-lts.Need-add-count (
+  take-part-reads.Asked,
+  take-part-reads.Learnt,
+  finish-part-below t,
+  finish-part.Post,
+  both-reads.Asked,
+  both-reads.Learnt,
+  plus-reads.Asked,
+  plus-reads.Learnt,
+  stays-reads.Asked,
+  stays-reads.Learnt,
+) (walk-directory-at t) walk-directory.Post walk-directory-Inv-loop walk-directory-μ-loop
+walk-directory-add-count t c =
+    let l = c .before .before .before .before .before .before .before in
+    let st = l .before .before .before .before .before .before .before .before in
+    let g = l .loop .inv (st .args .work .now) (st .pre .1) (l .before .before .before .take-part .ensures) in
+    let kept = part-done _ _ _ _ _ _ _ _ _ _ _ (g .3) _ _ (g .4) _ _ (c .before .before .before .before .before .finish-part .ensures) .kept in
+    omega (arith, kept .fewer, g .3 .fewer, st .pre .1 .fits .few)
+
+-- src/walk.rt:169:12
 walk-directory-stays-requires : (t : ℕ) → walk-directory-lts.Need-stays-requires (
   take-part-reads.Asked,
   take-part-reads.Learnt,
   finish-part-below t,
   finish-part.Post,
-  join-reads.Asked,
-  join-reads.Learnt,
+  both-reads.Asked,
+  both-reads.Learnt,
+  plus-reads.Asked,
+  plus-reads.Learnt,
   stays-reads.Asked,
   stays-reads.Learnt,
 ) (walk-directory-at t) walk-directory.Post walk-directory-Inv-loop walk-directory-μ-loop
 walk-directory-stays-requires t c κs = search needs
 
--- src/walk.rt:186:13
+-- src/walk.rt:170:13
 walk-directory-take-part-requires-2 : (t : ℕ) → walk-directory-lts.Need-take-part-requires-2 (
   take-part-reads.Asked,
   take-part-reads.Learnt,
   finish-part-below t,
   finish-part.Post,
-  join-reads.Asked,
-  join-reads.Learnt,
+  both-reads.Asked,
+  both-reads.Learnt,
+  plus-reads.Asked,
+  plus-reads.Learnt,
   stays-reads.Asked,
   stays-reads.Learnt,
 ) (walk-directory-at t) walk-directory.Post walk-directory-Inv-loop walk-directory-μ-loop
 walk-directory-take-part-requires-2 t c κs =
-    let l = c .before .before .before .before .before .before .before .before .before in
+    let l = c .before .before .before .before .before .before .before .before .before .before .before in
     let st = l .before .before .before .before .before .before .before .before in
-    let same = l .loop .inv .0 in
-    let g = l .loop .inv .1 (st .args .work .now) (st .pre .1) (l .before .before .before .take-part .ensures) in
+    let g = l .loop .inv (st .args .work .now) (st .pre .1) (l .before .before .before .take-part .ensures) in
     let on = sym (c .before .before .stays .ensures) ∙ c .before .if1 .taken in
-    let h = loop-more _ _ _ _ _ _ _ _ _ _ _ (g .1) _ _ (g .2) _ _ (rw same at (c .before .before .before .before .before .before .before .finish-part .ensures)) _ (c .before .before .before .before .join .ensures) on in
+    let h = loop-more _ _ _ _ _ _ _ _ _ _ _ (g .3) _ _ (g .4) _ _ (c .before .before .before .before .before .before .before .before .before .finish-part .ensures) _ (joined (tallyOf (l .loop .ok) (l .loop .met) (l .loop .count) (l .loop .front) (g .1) (g .2)) (c .before .before .before .before .before .before .before .before .before .finish-part .result) _ _ (c .before .before .before .before .before .before .both .ensures) (c .before .before .before .before .before .plus .ensures)) on in
     (h .ready, h .least, h .most)
 
--- src/walk.rt:181:5
+-- src/walk.rt:161:5
 walk-directory-loop-less : (t : ℕ) → walk-directory-lts.Need-loop-less (
   take-part-reads.Asked,
   take-part-reads.Learnt,
   finish-part-below t,
   finish-part.Post,
-  join-reads.Asked,
-  join-reads.Learnt,
+  both-reads.Asked,
+  both-reads.Learnt,
+  plus-reads.Asked,
+  plus-reads.Learnt,
   stays-reads.Asked,
   stays-reads.Learnt,
 ) (walk-directory-at t) walk-directory.Post walk-directory-Inv-loop walk-directory-μ-loop
 walk-directory-loop-less t c =
-    let l = c .before .before .before .before .before .before .before .before .before .before .before .before in
+    let l = c .before .before .before .before .before .before .before .before .before .before .before .before .before .before in
     let st = l .before .before .before .before .before .before .before .before in
-    let same = l .loop .inv .0 in
-    let g = l .loop .inv .1 (st .args .work .now) (st .pre .1) (l .before .before .before .take-part .ensures) in
-    let kept = part-done _ _ _ _ _ _ _ _ _ _ _ (g .1) _ _ (g .2) _ _ (rw same at (c .before .before .before .before .before .before .before .before .before .before .finish-part .ensures)) .kept in
-    rw (c .before .before .before .before .before .before .before .join .ensures .front, same) (kept .less)
+    let g = l .loop .inv (st .args .work .now) (st .pre .1) (l .before .before .before .take-part .ensures) in
+    part-done _ _ _ _ _ _ _ _ _ _ _ (g .3) _ _ (g .4) _ _ (c .before .before .before .before .before .before .before .before .before .before .before .before .finish-part .ensures) .kept .less
 
--- src/walk.rt:181:5
+-- src/walk.rt:161:5
 walk-directory-loop-again : (t : ℕ) → walk-directory-lts.Need-loop-again (
   take-part-reads.Asked,
   take-part-reads.Learnt,
   finish-part-below t,
   finish-part.Post,
-  join-reads.Asked,
-  join-reads.Learnt,
+  both-reads.Asked,
+  both-reads.Learnt,
+  plus-reads.Asked,
+  plus-reads.Learnt,
   stays-reads.Asked,
   stays-reads.Learnt,
 ) (walk-directory-at t) walk-directory.Post walk-directory-Inv-loop walk-directory-μ-loop
 walk-directory-loop-again t c =
-    let l = c .before .before .before .before .before .before .before .before .before .before .before .before in
-    let same = l .loop .inv .0 in
+    let l = c .before .before .before .before .before .before .before .before .before .before .before .before .before .before in
     let on = sym (c .before .before .before .before .before .stays .ensures) ∙ c .before .before .before .before .if1 .taken in
-    (refl, λ w₀ ready taken.
-    let g = l .loop .inv .1 w₀ ready taken in
-    (_, loop-more _ _ _ _ _ _ _ _ _ _ _ (g .1) _ _ (g .2) _ _ (rw same at (c .before .before .before .before .before .before .before .before .before .before .finish-part .ensures)) _ (c .before .before .before .before .before .before .before .join .ensures) on, c .before .before .take-part2 .ensures))
+    λ w₀ ready taken.
+    let g = l .loop .inv w₀ ready taken in
+    (_, _, _, loop-more _ _ _ _ _ _ _ _ _ _ _ (g .3) _ _ (g .4) _ _ (c .before .before .before .before .before .before .before .before .before .before .before .before .finish-part .ensures) _ (joined (tallyOf (l .loop .ok) (l .loop .met) (l .loop .count) (l .loop .front) (g .1) (g .2)) (c .before .before .before .before .before .before .before .before .before .before .before .before .finish-part .result) _ _ (c .before .before .before .before .before .before .before .before .before .both .ensures) (c .before .before .before .before .before .before .before .before .plus .ensures)) on, c .before .before .take-part2 .ensures)
 
--- src/walk.rt:188:13
+-- src/walk.rt:172:13
 walk-directory-same-length : (t : ℕ) → walk-directory-lts.Need-same-length (
   take-part-reads.Asked,
   take-part-reads.Learnt,
   finish-part-below t,
   finish-part.Post,
-  join-reads.Asked,
-  join-reads.Learnt,
+  both-reads.Asked,
+  both-reads.Learnt,
+  plus-reads.Asked,
+  plus-reads.Learnt,
   stays-reads.Asked,
   stays-reads.Learnt,
 ) (walk-directory-at t) walk-directory.Post walk-directory-Inv-loop walk-directory-μ-loop
 walk-directory-same-length t c =
-    let l = c .before .before .before .before .before .before .before .before in
+    let l = c .before .before .before .before .before .before .before .before .before .before in
     let st = l .before .before .before .before .before .before .before .before in
-    let same = l .loop .inv .0 in
-    let g = l .loop .inv .1 (st .args .work .now) (st .pre .1) (l .before .before .before .take-part .ensures) in
+    let g = l .loop .inv (st .args .work .now) (st .pre .1) (l .before .before .before .take-part .ensures) in
     let off = sym (c .before .stays .ensures) ∙ c .if1 .left in
-    loop-end _ _ _ _ _ _ _ _ _ _ _ (g .1) _ _ (g .2) _ _ (rw same at (c .before .before .before .before .before .before .finish-part .ensures)) _ (c .before .before .before .join .ensures) off refl .kept .long
+    loop-end _ _ _ _ _ _ _ _ _ _ _ (g .3) _ _ (g .4) _ _ (c .before .before .before .before .before .before .before .before .finish-part .ensures) _ (joined (tallyOf (l .loop .ok) (l .loop .met) (l .loop .count) (l .loop .front) (g .1) (g .2)) (c .before .before .before .before .before .before .before .before .finish-part .result) _ _ (c .before .before .before .before .before .both .ensures) (c .before .before .before .before .plus .ensures)) off refl .kept .long
 
--- src/walk.rt:188:13
+-- src/walk.rt:172:13
 walk-directory-returns : (t : ℕ) → walk-directory-lts.Need-returns (
   take-part-reads.Asked,
   take-part-reads.Learnt,
   finish-part-below t,
   finish-part.Post,
-  join-reads.Asked,
-  join-reads.Learnt,
+  both-reads.Asked,
+  both-reads.Learnt,
+  plus-reads.Asked,
+  plus-reads.Learnt,
   stays-reads.Asked,
   stays-reads.Learnt,
 ) (walk-directory-at t) walk-directory.Post walk-directory-Inv-loop walk-directory-μ-loop
 walk-directory-returns t c =
-    let l = c .before .before .before .before .before .before .before .before in
+    let l = c .before .before .before .before .before .before .before .before .before .before in
     let st = l .before .before .before .before .before .before .before .before in
-    let same = l .loop .inv .0 in
-    let g = l .loop .inv .1 (st .args .work .now) (st .pre .1) (l .before .before .before .take-part .ensures) in
+    let g = l .loop .inv (st .args .work .now) (st .pre .1) (l .before .before .before .take-part .ensures) in
     let off = sym (c .before .stays .ensures) ∙ c .if1 .left in
-    loop-end _ _ _ _ _ _ _ _ _ _ _ (g .1) _ _ (g .2) _ _ (rw same at (c .before .before .before .before .before .before .finish-part .ensures)) _ (c .before .before .before .join .ensures) off refl
+    loop-end _ _ _ _ _ _ _ _ _ _ _ (g .3) _ _ (g .4) _ _ (c .before .before .before .before .before .before .before .before .finish-part .ensures) _ (joined (tallyOf (l .loop .ok) (l .loop .met) (l .loop .count) (l .loop .front) (g .1) (g .2)) (c .before .before .before .before .before .before .before .before .finish-part .result) _ _ (c .before .before .before .before .before .both .ensures) (c .before .before .before .before .plus .ensures)) off refl
 
 pub +finish-part+walk-directory-spec : {M : Type 1} → statement M
 +finish-part+walk-directory-spec = close μ-finish-part μ-walk-directory (λ t. finish-part-lts.spec (
@@ -335,8 +382,10 @@ pub +finish-part+walk-directory-spec : {M : Type 1} → statement M
       take-part-reads.Learnt,
       finish-part-below t,
       finish-part.Post,
-      join-reads.Asked,
-      join-reads.Learnt,
+      both-reads.Asked,
+      both-reads.Learnt,
+      plus-reads.Asked,
+      plus-reads.Learnt,
       stays-reads.Asked,
       stays-reads.Learnt,
     )
@@ -348,7 +397,9 @@ pub +finish-part+walk-directory-spec : {M : Type 1} → statement M
     (walk-directory-take-part-requires t)
     (walk-directory-loop-holds t)
     (walk-directory-finish-part-requires t)
-    (walk-directory-join-requires t)
+    (walk-directory-both-requires t)
+    (walk-directory-plus-requires t)
+    (walk-directory-add-count t)
     (walk-directory-stays-requires t)
     (walk-directory-take-part-requires-2 t)
     (walk-directory-loop-less t)
