@@ -17,13 +17,13 @@ use Rattle.tree_counts.proofs.Names.{under-slash}
 use Rattle.tree_counts.proofs.Siblings.{Sound, file-unreached}
 use Rattle.tree_counts.proofs.Counts.{matched-most}
 use Rattle.tree_counts.proofs.Walk.{judge-start, matched-start, inside-length, child-free, judge-pass, matched-pass, judge-file, matched-file}
-use Rattle.tree_counts.proofs.Runs.{enter-begins, runIn-every, runIn-inside, passed-name, passed-run, judge-run, matched-run, passed-end}
+use Rattle.tree_counts.proofs.Runs.{enter-begins, runIn-every, runIn-inside, passed-name, passed-run, judge-run, matched-run, passed-start, passed-end}
 use Rattle.cache_tree.specs.declared.node.Node.{Node}
 use Rattle.cache_tree.proofs.Readings.{node-took}
 use Rattle.cache_tree.proofs.Flat.{Reads, reads-none, reads-more}
 use Rattle.tree_walk.specs.declared.walk.Tally.{Tally}
-use Rattle.tree_walk.specs.Ahead.{After, Left}
-use Rattle.tree_walk.proofs.Ahead.{stays-is}
+use Rattle.tree_walk.specs.Ahead.{Ahead, After, Left}
+use Rattle.tree_walk.proofs.Ahead.{stays-is, stays-in}
 use Rattle.tree_walk.specs.Steps.{NodeAdded, Joined, Moved, Tallied}
 
 -- ---- names under a component that no sibling has
@@ -189,34 +189,62 @@ pub record Walking (valid : Bool) (f : Forest) (q : List ℕ) (whole : List (Lis
   pub in-it : begins q last ≡ true
   pub after : After v b work (r .front) last rest
 
+-- where the next name ahead is in the directory
+pub record Standing (valid : Bool) (f : Forest) (q : List ℕ) (whole : List (List ℕ)) (v : ℕ) (b work : List ℕ) (r : Tally) : Type 0 where
+  pub done : List (List ℕ)
+  pub next : List ℕ
+  pub rest : List (List ℕ)
+  pub passed : Passed f q whole done (next ∷ rest)
+  pub ok : r .ok ≡ judge valid done f
+  pub met : r .met ≡ matched done f
+  pub count : r .count ≡ length done
+  pub in-it : begins q next ≡ true
+  pub ahead : Ahead v b work (r .front) next rest
+
 module _ (valid : Bool) (f : Forest) (q : List ℕ) (whole : List (List ℕ)) (v : ℕ) (b : List ℕ) where
-  pub walk-first : (work : List ℕ) (r : Tally) → Moved valid f q whole [] v b work r → Walking valid f q whole v b work r
-  walk-first work r h = record {
-    done = h .now-done;
-    rest = h .rest;
-    last = h .last;
-    passed = h .passed;
-    ok = sym (h .ok ∙ ap (λ (x : Bool). x && r .ok) (judge-start valid f));
-    met = sym (h .met ∙ omega (arith, matched-start f));
-    count = sym (h .count ∙ omega arith);
-    in-it = h .in-it;
-    after = h .after;
+  pub walk-start : (work x : List ℕ) (xs : List (List ℕ)) (r : Tally) → whole ≡ x ∷ xs → r .ok ≡ true → r .met ≡ 0 → r .count ≡ 0 → Ahead v b work (r .front) x xs → begins q x ≡ true
+      → Standing valid f q whole v b work r
+  walk-start work x xs r all ok met count ahead i = record {
+    done = [];
+    next = x;
+    rest = xs;
+    passed = subst (Passed f q whole []) all (passed-start f q whole);
+    ok = ok ∙ sym (judge-start valid f);
+    met = met ∙ sym (matched-start f);
+    count = count;
+    in-it = i;
+    ahead = ahead;
   }
 
+  pub walk-join : (work : List ℕ) (r : Tally) (h : Standing valid f q whole v b work r) (work′ : List ℕ) (n r′ : Tally) → positive f < 4294967296
+      → Moved valid f q whole (h .done) v b work′ n → Joined r n r′ → Walking valid f q whole v b work′ r′
+  walk-join work r h work′ n r′ few m j =
+      let sum : matched (m .now-done) f ≡ r .met + n .met = m .met ∙ ap (λ (k : ℕ). k + n .met) (sym (h .met)) in
+      record {
+        done = m .now-done;
+        rest = m .rest;
+        last = m .last;
+        passed = m .passed;
+        ok = j .ok ∙ ap (λ (x : Bool). x && n .ok) (h .ok) ∙ sym (m .ok);
+        met = j .met (omega (arith, matched-most (m .now-done) f)) ∙ sym sum;
+        count = j .count ∙ omega (arith, h .count, m .count);
+        in-it = m .in-it;
+        after = rw (j .front) (m .after);
+      }
+
   module _ (work : List ℕ) (r : Tally) (h : Walking valid f q whole v b work r) where
-    pub walk-join : (work′ : List ℕ) (n r′ : Tally) → positive f < 4294967296 → Moved valid f q whole (h .done) v b work′ n → Joined r n r′ → Walking valid f q whole v b work′ r′
-    walk-join work′ n r′ few m j =
-        let sum : matched (m .now-done) f ≡ r .met + n .met = m .met ∙ ap (λ (k : ℕ). k + n .met) (sym (h .met)) in
-        record {
-          done = m .now-done;
-          rest = m .rest;
-          last = m .last;
-          passed = m .passed;
-          ok = j .ok ∙ ap (λ (x : Bool). x && n .ok) (h .ok) ∙ sym (m .ok);
-          met = j .met (omega (arith, matched-most (m .now-done) f)) ∙ sym sum;
-          count = j .count ∙ omega (arith, h .count, m .count);
-          in-it = m .in-it;
-          after = rw (j .front) (m .after);
+    pub walk-on : (ltb 0 (r .front .ahead) && leb (length q) (r .front .common)) ≡ true → Standing valid f q whole v b work r
+    walk-on e =
+        stays-in v b work (r .front) (h .last) q (h .rest) (h .after) (h .in-it) e λ y ys is ahead i. record {
+          done = h .done;
+          next = y;
+          rest = ys;
+          passed = subst (Passed f q whole (h .done)) is (h .passed);
+          ok = h .ok;
+          met = h .met;
+          count = h .count;
+          in-it = i;
+          ahead = ahead;
         }
 
     pub walk-end : (ltb 0 (r .front .ahead) && leb (length q) (r .front .common)) ≡ false → Tallied valid f q whole v b work r

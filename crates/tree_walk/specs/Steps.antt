@@ -3,20 +3,28 @@
 use mathlib.Core.Path.{_≡_}
 use mathlib.Core.List.{List, _∷_}
 use mathlib.Core.Bool.{Bool, true, cond, _&&_}
-use Prim.Native.Nat.{ℕ, _+_, _≤_, _<_}
+use Prim.Native.Nat.{ℕ, _+_, _-_, _*_, _≤_, _<_}
 use lib.ListN.{length, drop}
 use lib.Dec.{eqb, leb}
 use Rattle.format.specs.Records.{Forest}
 use Rattle.format.specs.Layout.{bit}
+use Rattle.format.specs.Reader.{readNode}
 use Rattle.cache_tree.specs.declared.node.Node.{Node}
+use Rattle.cache_tree.specs.declared.node.NodeRead.the-variants as R
+use Rattle.cache_tree.specs.Answers.{nodeAt}
 use Rattle.cache_tree.proofs.Flat.{Reads}
+use Rattle.entries_run.specs.Steps.{nameAt}
 use Rattle.tree_counts.specs.Judge.{judge, matched}
 use Rattle.tree_counts.specs.Runs.{sortedFrom, begins, within, Passed}
 use Rattle.tree_counts.proofs.Siblings.{Sound}
 use Rattle.tree_walk.specs.declared.front.Front.{Front}
+use Rattle.tree_walk.specs.declared.look.Look.the-variants as L
 use Rattle.tree_walk.specs.declared.walk.Tally.{Tally}
+use Rattle.tree_walk.specs.declared.walk.Part.{Part}
+use Rattle.tree_walk.specs.declared.walk.Part.the-variants as P
 use Rattle.tree_walk.specs.Siblings.{Last}
 use Rattle.tree_walk.specs.Ahead.{Fits, Ahead, After, Left}
+use Rattle.tree_walk.specs.Components.{LookedUp}
 
 -- ---- sums
 
@@ -92,3 +100,37 @@ pub record DirectoryWalked (d : List ℕ) (at k : ℕ) (valid : Bool) (b : List 
   pub tallied : (f : Forest) (m : ℕ) → Sound f → Reads (drop at d) f k m
       → (p x : List ℕ) (xs : List (List ℕ)) → Ahead v b work s x xs → begins p x ≡ true → length p ≡ q
       → Tallied valid f p (x ∷ xs) v b work′ r
+
+-- ---- a part in two steps: what can be told without a walk further down, and that walk
+
+-- the walk over the directory of a node, and the node's own test
+pub record BelowWalked (d b : List ℕ) (v : ℕ) (work : List ℕ) (e p l : ℕ) (node : Node) (s : Front) (work′ : List ℕ) (r : Tally) : Type 0 where
+  pub below : Tally
+  pub walked : DirectoryWalked d (node .next) (node .subtrees) (node .valid) b v work e s work′ below
+  pub added : NodeAdded node below p l r
+
+abbrev pub takenBy : List ℕ → ℕ → ℕ → Bool → ℕ → ℕ → List ℕ → ℕ → List ℕ → ℕ → Front → List ℕ → Part → Type 0
+takenBy d at k valid place left b v work q s work′ (P.Flat n) = PartWalked d at k valid place left b v work q s work′ n
+takenBy d at k valid place left b v work q s work′ (P.Below e p l node) =
+    (work′ ≡ work)
+    × LookedUp d at k place left (nameAt v b work (s .cursor .start) (s .cursor .len)) (s .cursor .len) q (L.Found e p l)
+    × (R.Good node ≡ nodeAt p (readNode 20 0 (drop p d)))
+
+pub record Taken (d : List ℕ) (at k : ℕ) (valid : Bool) (place left : ℕ) (b : List ℕ) (v : ℕ) (work : List ℕ) (q : ℕ) (s : Front) (work′ : List ℕ) (part : Part) : Type 0 where
+  pub is : takenBy d at k valid place left b v work q s work′ part
+
+abbrev pub BelowReady : List ℕ → List ℕ → List ℕ → Part → Front → Type 0
+BelowReady d b work (P.Flat n) s = Unit {0}
+BelowReady d b work (P.Below e p l node) s = Ready d (node .next) b work e s
+
+abbrev pub finishedBy : List ℕ → List ℕ → ℕ → List ℕ → Part → Front → List ℕ → Tally → Type 0
+finishedBy d b v work (P.Flat n) s work′ r = (r ≡ n) × (work′ ≡ work)
+finishedBy d b v work (P.Below e p l node) s work′ r = BelowWalked d b v work e p l node s work′ r
+
+pub record Finished (d b : List ℕ) (v : ℕ) (work : List ℕ) (part : Part) (s : Front) (work′ : List ℕ) (r : Tally) : Type 0 where
+  pub is : finishedBy d b v work part s work′ r
+
+-- what is left of the tree's data below a part
+abbrev pub roomBelow : List ℕ → Part → ℕ
+roomBelow d (P.Flat n) = 0
+roomBelow d (P.Below e p l node) = 2 * (length d - node .next) + 2

@@ -14,17 +14,24 @@ ghost use mathlib.Core.Bool.{true, cond, _&&_};
 ghost use Prim.Native.Nat.{ℕ, _+_, _≤_, _<_};
 ghost use lib.ListN.{length};
 ghost use lib.Dec.{eqb};
-ghost use Rattle.tree_walk.specs.Steps.{Joined, NodeAdded, Ready, PartWalked, DirectoryWalked};
+ghost use Rattle.tree_walk.specs.Steps.{NodeAdded, Ready, Taken, BelowReady, Finished, DirectoryWalked};
 
 // Whether the tests pass, how many nodes with a count of at least 1 were met, how many entries were passed, what is ahead of them, and a hint
 // to find_child.
 pub struct Tally {
     pub ok: bool,
     pub met: u32,
+    pub place: u32,
+    pub left: u32,
     pub count: usize,
     pub front: Front,
-    pub place: usize,
-    pub left: u32,
+}
+
+// A part of a directory's entries: its tally, or the place after the component in its names, the place of that component's node, how many siblings
+// there are from it on, and the node.
+pub enum Part {
+    Flat(Tally),
+    Below(usize, u32, u32, Node),
 }
 
 // The sum of two numbers, where it fits.
@@ -69,7 +76,7 @@ fn ended(s: Front) -> Front
 }
 
 // The tally of entries that met no node.
-fn told(ok: bool, count: usize, front: Front, place: usize, left: u32) -> Tally
+fn told(ok: bool, count: usize, front: Front, place: u32, left: u32) -> Tally
     ensures { λ r. ⌜ r ≡ record { ok = ok; met = 0; count = count; front = front; place = place; left = left } ⌝ }
 {
     Tally {
@@ -82,24 +89,8 @@ fn told(ok: bool, count: usize, front: Front, place: usize, left: u32) -> Tally
     }
 }
 
-// One part of a directory after those before it.
-fn join(a: Tally, n: Tally) -> Tally
-    requires { ⌜ a .count + n .count ≤ 4294967296 ⌝ }
-    ensures { λ r. ⌜ Joined a n r ⌝ }
-{
-    let front = n.front;
-    Tally {
-        ok: both(a.ok, n.ok),
-        met: plus(a.met, n.met),
-        count: a.count + n.count,
-        front: front,
-        place: n.place,
-        left: n.left,
-    }
-}
-
 // A node's test and its number, with those of all below it.
-fn add_node(node: Node, t: Tally, place: usize, left: u32) -> Tally
+fn add_node(node: Node, t: Tally, place: u32, left: u32) -> Tally
     ensures { λ r. ⌜ NodeAdded node t place left r ⌝ }
 {
     let front = t.front;
@@ -115,78 +106,77 @@ fn add_node(node: Node, t: Tally, place: usize, left: u32) -> Tally
 }
 
 // One part of a directory's entries: the first ahead where it has no further "/" after its first q bytes, or all in the directory of its next
-// component. k nodes stand at a place; the node above them is valid or not.
-fn walk_part(
-    d: &[u8],
-    at: usize,
-    k: u32,
-    valid: bool,
-    place: usize,
-    left: u32,
-    b: &[u8],
-    v: u32,
-    work: &mut [u8],
-    q: usize,
-    s: Front,
-) -> Tally
+// component, which are passed here where that has no node. k nodes stand at a place; the node above them is valid or not.
+fn take_part(d: &[u8], at: usize, k: u32, valid: bool, place: u32, left: u32, b: &[u8], v: u32, work: &mut [u8], q: usize, s: Front) -> Part
     requires { ⌜ Ready (now d) at (now b) (now work) q s × (at ≤ place) × (place ≤ length (now d)) ⌝ }
-    ensures { λ r. ⌜ PartWalked (now (d .entry)) at k valid place left (now (b .entry)) v (now (work .entry)) q s (now (work .exit)) r ⌝ }
+    ensures { λ r. ⌜ Taken (now (d .entry)) at k valid place left (now (b .entry)) v (now (work .entry)) q s (now (work .exit)) r ⌝ }
 {
-    let look = look_up(d, at, k, place, left, b, v, &work[..], q, s);
+    let look = look_up(d, at, k, place as usize, left, b, v, &work[..], q, s);
     match look {
         Look::File => {
             let next = advance(b, v, work, s);
-            told(true, 1, next, place, left)
+            Part::Flat(told(true, 1, next, place, left))
         }
         Look::Missing(e) => {
             let gone = pass(b, v, work, s, e);
             let next = gone.front;
-            told(!valid, gone.count, next, place, left)
+            Part::Flat(told(!valid, gone.count, next, place, left))
         }
         Look::Found(e, p, l) => {
             let read = read_node(d, p);
             match read {
-                NodeRead::Bad => told(false, 0, ended(s), place, left),
-                NodeRead::Good(node) => {
-                    let t = walk_directory(
-                        d,
-                        node.next,
-                        node.subtrees,
-                        node.valid,
-                        b,
-                        v,
-                        work,
-                        e,
-                        s,
-                    );
-                    add_node(node, t, p, l)
-                }
+                NodeRead::Bad => Part::Flat(told(false, 0, ended(s), place, left)),
+                NodeRead::Good(node) => Part::Below(e, p as u32, l, node),
             }
         }
     }
 }
 
+// The tally of a part, with the walk over the directory of its node.
+fn finish_part(d: &[u8], b: &[u8], v: u32, work: &mut [u8], part: Part, s: Front) -> Tally
+    requires { ⌜ BelowReady (now d) (now b) (now work) part s ⌝ }
+    ensures { λ r. ⌜ Finished (now (d .entry)) (now (b .entry)) v (now (work .entry)) part s (now (work .exit)) r ⌝ }
+{
+    match part {
+        Part::Flat(n) => n,
+        Part::Below(e, p, l, node) => {
+            let t = walk_directory(d, node.next, node.subtrees, node.valid, b, v, work, e, s);
+            add_node(node, t, p, l)
+        }
+    }
+}
+
 // All of a directory's entries that are ahead, of which the first is one. k nodes stand at a place; the node above them is valid or not.
-pub(crate) fn walk_directory(
-    d: &[u8],
-    at: usize,
-    k: u32,
-    valid: bool,
-    b: &[u8],
-    v: u32,
-    work: &mut [u8],
-    q: usize,
-    s: Front,
-) -> Tally
+pub(crate) fn walk_directory(d: &[u8], at: usize, k: u32, valid: bool, b: &[u8], v: u32, work: &mut [u8], q: usize, s: Front) -> Tally
     requires { ⌜ Ready (now d) at (now b) (now work) q s ⌝ }
     ensures { λ r. ⌜ DirectoryWalked (now (d .entry)) at k valid (now (b .entry)) v (now (work .entry)) q s (now (work .exit)) r ⌝ }
 {
-    let mut r = walk_part(d, at, k, valid, at, 0, b, v, &mut *work, q, s);
-    let mut front = r.front;
-    while stays(front, q) {
-        let n = walk_part(d, at, k, valid, r.place, r.left, b, v, &mut *work, q, front);
-        r = join(r, n);
-        front = r.front;
+    let mut ok = true;
+    let mut met: u32 = 0;
+    let mut count: usize = 0;
+    let mut place = at as u32;
+    let mut left: u32 = 0;
+    let mut front = s;
+    let mut part = take_part(d, at, k, valid, place, left, b, v, &mut *work, q, front);
+    loop {
+        let n = finish_part(d, b, v, &mut *work, part, front);
+        ok = both(ok, n.ok);
+        met = plus(met, n.met);
+        count += n.count;
+        place = n.place;
+        left = n.left;
+        front = n.front;
+        if stays(front, q) {
+            part = take_part(d, at, k, valid, place, left, b, v, &mut *work, q, front);
+        } else {
+            return Tally {
+                ok: ok,
+                met: met,
+                place: place,
+                left: left,
+                count: count,
+                front: front,
+            };
+        }
     }
-    r
 }
