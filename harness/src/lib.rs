@@ -4,4 +4,5 @@
 #![deny(warnings)]
 
 pub mod ffi;
+pub mod hostile;
 pub mod plain;
