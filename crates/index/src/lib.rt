@@ -25,7 +25,6 @@ use extensions::Extended;
 use extensions::Found;
 use extensions::TreePlace;
 use extensions::UndoPlace;
-use file_header::Header;
 use file::Checked;
 use file::Count;
 use file::EntryAnswer;
@@ -36,6 +35,7 @@ use file::UndoAnswer;
 use file::refused_entry;
 use file::refused_node;
 use file::refused_undo;
+use file_header::Header;
 
 // What an accepted file has; end is the byte where entries end.
 pub struct Parts {
@@ -156,7 +156,15 @@ fn count_of(there: bool, n: u32) -> Count
 // ---- the whole file
 
 // The body b of version v with so many entries.
-fn read_body(b: &[u8], v: u32, count: u32, work: &mut [u8], seed: u64, want_node: u32, want_record: u32) -> Whole
+fn read_body(
+    b: &[u8],
+    v: u32,
+    count: u32,
+    work: &mut [u8],
+    seed: u64,
+    want_node: u32,
+    want_record: u32,
+) -> Whole
     requires { ⌜ Room (now b) (now work) × (count ≡ be32 (now b) 8) ⌝ }
     ensures { λ r. ⌜ WholeOf «want_node» «want_record» (readBody 20 v (now (b .entry))) (now (b .entry)) r × (drop 8192 (now (work .exit)) ≡ drop 8192 (now (work .entry))) ⌝ }
 {
@@ -164,7 +172,16 @@ fn read_body(b: &[u8], v: u32, count: u32, work: &mut [u8], seed: u64, want_node
     match run {
         Run::Bad(n, p) => Whole::Bad(n, p),
         Run::Good(end) => {
-            let read = extensions::read_extensions(b, end, v, count, work, seed, want_node, want_record);
+            let read = extensions::read_extensions(
+                b,
+                end,
+                v,
+                count,
+                work,
+                seed,
+                want_node,
+                want_record,
+            );
             match read {
                 Extended::Bad(n, p) => Whole::Bad(n, p),
                 Extended::Good(found) => Whole::Good(Parts {
@@ -188,7 +205,15 @@ pub fn read_whole(file: &[u8], work: &mut [u8], want_node: u32, want_record: u32
         Header::Bad(n, p) => Whole::Bad(n, p),
         Header::Good(h) => {
             let n = file.len() - 20;
-            read_body(&file[..n], h.version, h.count, work, h.seed, want_node, want_record)
+            read_body(
+                &file[..n],
+                h.version,
+                h.count,
+                work,
+                h.seed,
+                want_node,
+                want_record,
+            )
         }
     }
 }
@@ -201,7 +226,7 @@ fn read_cleared(file: &[u8], work: &mut [u8], want_node: u32, want_record: u32) 
         return Whole::Bad(19, 0);
     }
     let whole = read_whole(file, &mut *work, want_node, want_record);
-    fields::clear(work);
+    fields::clear_from(work, 0);
     whole
 }
 

@@ -19,8 +19,7 @@ read-extensions-requires : tie.Need-read-extensions-requires
 read-extensions-requires c κs =
     let w = c .before .before in
     let q = w .before .before .before .before in
-    let st = q .before .before .before .before in
-    (
+    let st = q .before .before .before .before in (
       rw (w .run2 .given .1) at (q .run-entries .ensures .inside),
       record { least = st .pre .0 .least; most = st .pre .0 .most; room = omega (arith, st .pre .0 .room, q .run-entries .ensures .long) },
     )
@@ -52,7 +51,7 @@ returns-2 c =
     let st = q .before .before .before .before in
     let a = st .args in (
       body-refused (a .v) (a .b .now) (a .count) (st .pre .1) _ (sym (w .run2 .given .1) ∙ q .run-entries .ensures .same) (a .want-node) (a .want-record) _ _ _ _
-      (rw (c .before .read .given .1) at (x .read-extensions .ensures)),
+          (rw (c .before .read .given .1) at (x .read-extensions .ensures)),
       x .read-extensions .ensures .past ∙ q .run-entries .ensures .past,
     )
 
@@ -67,7 +66,7 @@ returns-3 c =
     let st = q .before .before .before .before in
     let a = st .args in (
       body-accepted (a .v) (a .b .now) (a .count) (st .pre .1) _ (sym (w .run2 .given .1) ∙ q .run-entries .ensures .same) (a .want-node) (a .want-record) _ _ _
-      (st .pre .0 .least) (st .pre .0 .most) (rw (c .before .read2 .given .1) at (x .read-extensions .ensures)),
+          (st .pre .0 .least) (st .pre .0 .most) (rw (c .before .read2 .given .1) at (x .read-extensions .ensures)),
       x .read-extensions .ensures .past ∙ q .run-entries .ensures .past,
     )
 

@@ -1,5 +1,5 @@
 -- The proof that `show_entry` meets its contract.
-use mathlib.Core.Path.{sym, _∙_}
+use mathlib.Core.Path.{sym}
 use native.Mathlib.Omega.{arith}
 use lib.Seq.{length-take-le}
 use lib.Dec.{eqb}
@@ -64,10 +64,10 @@ returns c =
     let st = q .before .before .before .before .before in
     let a = st .args in
     λ count es n e more.
-        let found = rw (s .sought .given .1) at (q .seek-entry .ensures .entry count es n e more) in
-        shown-work (a .v) (a .file .now) _ (s .sought .given .0 .0) (s .sought .given .0 .1 .0) _ found _ (t .before .fields-at .ensures) (a .work .now) _ (eq-eqb _ _ (t .if1 .taken)) (placed s .short)
-        (q .seek-entry .ensures .long) (st .pre .room)
-        (q .seek-entry .ensures .past) (m .clear-from .ensures)
+    let found = rw (s .sought .given .1) at (q .seek-entry .ensures .entry count es n e more) in
+    shown-work (a .v) (a .file .now) _ (s .sought .given .0 .0) (s .sought .given .0 .1 .0) _ found _ (t .before .fields-at .ensures) (a .work .now) _ (eq-eqb _ _ (t .if1 .taken)) (placed s .short)
+    (q .seek-entry .ensures .long) (st .pre .room)
+    (q .seek-entry .ensures .past) (m .clear-from .ensures)
 
 clear-requires-2 : tie.Need-clear-requires-2
 clear-requires-2 c κs = search needs
@@ -83,9 +83,9 @@ returns-2 c =
     let st = q .before .before .before .before .before in
     let a = st .args in
     λ count es n e more.
-        let none-found = rw (t .enum-told .given .1) at (q .seek-entry .ensures .entry count es n e more) in
-        entry-refused 18 0 (a .file .now) _ (a .work .now) _ _ (pick-none (eqb (a .v) 4) _ none-found) (c .refused-entry .ensures)
-        (cleared-by (a .work .now) _ _ (st .pre .room) (m .clear .ensures) (q .seek-entry .ensures .past))
+    let none-found = rw (t .enum-told .given .1) at (q .seek-entry .ensures .entry count es n e more) in
+    entry-refused 18 0 (a .file .now) _ (a .work .now) _ _ (pick-none (eqb (a .v) 4) _ none-found) (c .refused-entry .ensures)
+    (cleared-by (a .work .now) _ _ (st .pre .room) (m .clear .ensures) (q .seek-entry .ensures .past))
 
 same-length-3 : tie.Need-same-length-3
 same-length-3 c = search needs
@@ -99,9 +99,9 @@ returns-3 c =
     let st = q .before .before .before .before .before in
     let a = st .args in
     λ count es n e more.
-        let found = rw (s .sought .given .1) at (q .seek-entry .ensures .entry count es n e more) in
-        shown-file (a .v) (a .file .now) _ (s .sought .given .0 .0) (s .sought .given .0 .1 .0) _ found _ (t .before .fields-at .ensures) (a .work .now) _ (ne-eqb _ _ (t .if1 .left)) (placed s .name)
-        (cleared-by (a .work .now) _ _ (st .pre .room) (m .clear2 .ensures) (q .seek-entry .ensures .past))
+    let found = rw (s .sought .given .1) at (q .seek-entry .ensures .entry count es n e more) in
+    shown-file (a .v) (a .file .now) _ (s .sought .given .0 .0) (s .sought .given .0 .1 .0) _ found _ (t .before .fields-at .ensures) (a .work .now) _ (ne-eqb _ _ (t .if1 .left)) (placed s .name)
+    (cleared-by (a .work .now) _ _ (st .pre .room) (m .clear2 .ensures) (q .seek-entry .ensures .past))
 
 pub show-entry-spec : {M : Type 1} → statement M
 show-entry-spec =

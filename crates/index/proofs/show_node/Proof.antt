@@ -82,8 +82,8 @@ returns-2 c =
     let t = q .before .before in
     let a = t .before .before .before .args in
     λ o is.
-        stands (a .k) (a .file .now) (a .tree) o is (t .if1 .left) λ i v h.
-        absurd (node-there _ _ i (h .taken) (h .reads) (sym (c .before .enum-told .given .1) ∙ q .read-node .ensures))
+    stands (a .k) (a .file .now) (a .tree) o is (t .if1 .left) λ i v h.
+    absurd (node-there _ _ i (h .taken) (h .reads) (sym (c .before .enum-told .given .1) ∙ q .read-node .ensures))
 
 returns-3 : tie.Need-returns-3
 returns-3 c =
@@ -92,9 +92,9 @@ returns-3 c =
     let t = q .before .before in
     let a = t .before .before .before .args in
     λ o is.
-        stands (a .k) (a .file .now) (a .tree) o is (t .if1 .left) λ i v h.
-        node-shows (a .file .now) (a .tree) _ i v h _ (node-parts _ _ i (h .taken) (h .reads) _ (sym (s .read .given .1) ∙ q .read-node .ensures)) _
-        (c .node-object .ensures)
+    stands (a .k) (a .file .now) (a .tree) o is (t .if1 .left) λ i v h.
+    node-shows (a .file .now) (a .tree) _ i v h _ (node-parts _ _ i (h .taken) (h .reads) _ (sym (s .read .given .1) ∙ q .read-node .ensures)) _
+    (c .node-object .ensures)
 
 pub show-node-spec : {M : Type 1} → statement M
 show-node-spec =

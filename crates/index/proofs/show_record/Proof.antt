@@ -41,8 +41,8 @@ returns-2 c =
     let t = q .before .before in
     let a = t .before .before .before .args in
     λ o is.
-        stands (a .k) (a .file .now) (a .undo) o is (t .if1 .left) λ u v h.
-        undo-shows (a .file .now) (a .undo) _ u v h _ (q .show-undo .ensures .0 0) (q .show-undo .ensures .1)
+    stands (a .k) (a .file .now) (a .undo) o is (t .if1 .left) λ u v h.
+    undo-shows (a .file .now) (a .undo) _ u v h _ (q .show-undo .ensures .0 0) (q .show-undo .ensures .1)
 
 pub show-record-spec : {M : Type 1} → statement M
 show-record-spec =
