@@ -1,18 +1,18 @@
 -- Laws of the reading of a body and of what check says of it.
-use mathlib.Core.Path.{_≡_, refl, sym, ap, _∙_}
-use mathlib.Core.List.{List, []}
-use mathlib.Core.Bool.{Bool, true, false, cond}
+use mathlib.Core.Path.{_≡_, refl, ap, _∙_}
+use mathlib.Core.List.{List}
+use mathlib.Core.Bool.{cond}
 use mathlib.Core.Option.{Option, none, some}
-use Prim.Native.Nat.{ℕ, zero, suc, _+_, _-_, _≤_, _<_}
+use Prim.Native.Nat.{ℕ, zero, suc, _+_, _-_, _≤_}
 use native.Mathlib.Omega.{arith}
-use lib.ListN.{length, take, drop}
+use lib.ListN.{length, drop}
 use lib.Seq.{drop-drop}
 use Rattle.format.specs.Bytes.{be32}
 use Rattle.format.specs.Records as F
 use Rattle.format.specs.Layout.{Extension, trees, undos, names}
 use Rattle.format.specs.Reading.{Read, bad, good, shift, bind}
-use Rattle.format.specs.Reader.{Contents, noneSeen, readEntry, readEntries, readExtensions, readBody, first}
-use Rattle.spelling_entries.proofs.Reading.{bad-good, good-inv, bind-inv}
+use Rattle.format.specs.Reader.{Contents, noneSeen, readEntries, readExtensions, readBody, first}
+use Rattle.spelling_entries.proofs.Reading.{good-inv, bind-inv}
 use Rattle.entries_run.specs.declared.Run.the-variants as R
 use Rattle.entries_run.specs.Steps.{runOf}
 use Rattle.entries_run.proofs.Steps.{runOf-bad, runOf-good}
@@ -22,7 +22,7 @@ use Rattle.extensions.specs.Found.{TreeFound, UndoFound}
 use Rattle.extensions.specs.Steps as E
 use Rattle.file.specs.declared.Count.the-variants.{Absent, Present}
 use Rattle.file.specs.declared.Checked.the-variants as K
-use Rattle.file.specs.Answers.{treeCount, undoCount, summaryOf, checkedOf}
+use Rattle.file.specs.Answers.{treeCount, undoCount, checkedOf}
 use Rattle.index.specs.declared.Parts.{Parts}
 use Rattle.index.specs.Calls.{Contains}
 

@@ -3,7 +3,7 @@ use mathlib.Core.Path.{_≡_, refl, sym, ap, _∙_}
 use mathlib.Core.List.{List, _++_}
 use mathlib.Core.Bool.{true, false}
 use mathlib.Core.Option.{Option, some}
-use Prim.Native.Nat.{ℕ, _+_, _-_, _≤_, _<_}
+use Prim.Native.Nat.{ℕ, _+_, _-_, _≤_}
 use native.Mathlib.Omega.{arith}
 use lib.ListN.{length, take, drop, replicate, length-take}
 use lib.Seq.{length-take-le}
@@ -11,11 +11,11 @@ use lib.Dec.{eqb}
 use Rattle.format.specs.Records as F
 use Rattle.format.specs.Reader as R
 use Rattle.entries_run.specs.declared.Step.{Step}
-use Rattle.entries_run.specs.Steps.{nameAt, entryAt, Placed}
+use Rattle.entries_run.specs.Steps.{nameAt, entryAt}
 use Rattle.file.specs.declared.EntryAnswer.{EntryAnswer}
 use Rattle.file.specs.declared.Fields.{Fields}
 use Rattle.file.specs.declared.Shown.the-variants as S
-use Rattle.file.specs.Answers.{View, refused, inFile, inWorkspace, pick, cleared, holding, workAfter, nameIn, entryWith, entrySaid, refusedEntry}
+use Rattle.file.specs.Answers.{View, refused, inFile, inWorkspace, pick, cleared, holding, workAfter, nameIn, entryWith, entrySaid}
 use Rattle.file.proofs.Laws.{cleared-large, holding-after, holding-name, part-in}
 use Rattle.index.specs.Calls.{bodyOf, EntryShows}
 use Rattle.index.proofs.Views.{cleared-past, part-within, pick-file, pick-work}

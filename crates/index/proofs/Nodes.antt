@@ -3,19 +3,19 @@ use mathlib.Core.Path.{_≡_, refl, sym, ap, _∙_}
 use mathlib.Core.List.{List}
 use mathlib.Core.Bool.{Bool, true, false, cond}
 use mathlib.Core.Option.{Option, none, some}
-use Prim.Native.Nat.{ℕ, suc, _+_, _-_, _≤_, _<_}
+use Prim.Native.Nat.{ℕ, _+_, _-_, _≤_, _<_}
 use native.Mathlib.Omega.{arith}
 use lib.ListN.{length, take, drop, getD, replicate, length-take, length-drop}
 use lib.Seq.{drop-drop}
-use lib.Dec.{leb, ltb}
+use lib.Dec.{leb}
 use borrow.Author.Tests.{lt-ltb}
 use Rattle.format.specs.Records as F
-use Rattle.format.specs.Reading.{Read, bad, good}
+use Rattle.format.specs.Reading.{good}
 use Rattle.format.specs.Bytes.{before}
 use Rattle.format.specs.Reader.{Head, readText, readCount, readSubtrees, readObject, readNode, readNodes}
 use Rattle.cache_tree.specs.declared.node.Node as Code
 use Rattle.cache_tree.specs.declared.node.NodeRead.the-variants as N
-use Rattle.cache_tree.specs.Answers.{isValid, counted, objectLength, nodeOf, nodeAt, levelIn}
+use Rattle.cache_tree.specs.Answers.{isValid, counted, objectLength, nodeOf, nodeAt}
 use Rattle.cache_tree.specs.Flat.{placeOf}
 use Rattle.cache_tree.proofs.Readings.{need-inv, bind-inv, node-took}
 use Rattle.cache_tree.proofs.Nodes.{node-named, node-object}

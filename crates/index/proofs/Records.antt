@@ -17,7 +17,7 @@ use Rattle.file.specs.Answers.{View, refused, inFile, listed, partIn, nameIn, u
 use Rattle.file.proofs.Laws.{part-in}
 use Rattle.extensions.specs.declared.UndoPlace.{UndoPlace}
 use Rattle.extensions.specs.Heads.{part}
-use Rattle.extensions.specs.Found.{UndoIs, UndoFound}
+use Rattle.extensions.specs.Found.{UndoFound}
 use Rattle.index.specs.Calls.{bodyOf, UndoShows}
 use Rattle.index.proofs.Views.{part-within, part-of-body, item-none, item-some, pick-none, pick-file}
 

@@ -14,7 +14,6 @@ use Rattle.format.specs.Reading.{Read, bad, good}
 use Rattle.format.specs.Reader.{Contents}
 use Rattle.spelling_entries.proofs.Reading.{bad-good}
 use Rattle.entries_run.specs.Steps.{Room}
-use Rattle.file.specs.declared.Checked.{Checked}
 use Rattle.file.specs.declared.Checked.the-variants as K
 use Rattle.file.specs.declared.EntryAnswer.{EntryAnswer}
 use Rattle.file.specs.declared.NodeAnswer.{NodeAnswer}

@@ -226,7 +226,7 @@ fn read_cleared(file: &[u8], work: &mut [u8], want_node: u32, want_record: u32) 
         return Whole::Bad(19, 0);
     }
     let whole = read_whole(file, &mut *work, want_node, want_record);
-    fields::clear(work);
+    fields::clear_from(work, 0);
     whole
 }
 

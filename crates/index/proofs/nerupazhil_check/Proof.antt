@@ -43,7 +43,7 @@ returns-2 c =
     let w = n .before .before in
     let q = w .before .before .before .before in (
       rw (c .is-present2 .ensures, c .before .is-present .ensures, c .before .before .number-of2 .ensures, n .number-of .ensures)
-      (ap plainOf (sym (w .checked2 .given .1) ∙ q .check .ensures .0)),
+          (ap plainOf (sym (w .checked2 .given .1) ∙ q .check .ensures .0)),
       q .check .ensures .1,
     )
 

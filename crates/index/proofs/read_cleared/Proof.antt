@@ -14,8 +14,8 @@ returns c = (no-room _ _ (c .if1 .taken), sym (cleared-small _ (c .if1 .taken)))
 read-whole-requires : tie.Need-read-whole-requires
 read-whole-requires c κs = search needs
 
-clear-requires : tie.Need-clear-requires
-clear-requires c κs = search needs
+clear-from-requires : tie.Need-clear-from-requires
+clear-from-requires c κs = search needs
 
 same-length : tie.Need-same-length
 same-length c = search needs
@@ -27,9 +27,9 @@ returns-2 c =
     let e = q .before .before in
     let a = e .before .before .before .args in (
       rw (in-room (a .work .now) (readFile 20 sha1 (a .file .now)) (e .if1 .left)) (q .read-whole .ensures .0),
-      cleared-by (a .work .now) _ _ (e .if1 .left) (m .clear .ensures) (q .read-whole .ensures .1),
+      cleared-by (a .work .now) _ _ (e .if1 .left) (m .clear-from .ensures) (q .read-whole .ensures .1),
     )
 
 pub read-cleared-spec : {M : Type 1} → statement M
 read-cleared-spec =
-    tie.close (tie.spec returns read-whole-requires clear-requires same-length returns-2)
+    tie.close (tie.spec returns read-whole-requires clear-from-requires same-length returns-2)

@@ -1,5 +1,5 @@
 -- The proof that `show_entry` meets its contract.
-use mathlib.Core.Path.{sym, _∙_}
+use mathlib.Core.Path.{sym}
 use native.Mathlib.Omega.{arith}
 use lib.Seq.{length-take-le}
 use lib.Dec.{eqb}
