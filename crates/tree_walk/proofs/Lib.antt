@@ -5,4 +5,5 @@ pub mod Ahead
 pub mod Components
 pub mod Steps
 pub mod Parts
+pub mod Loops
 pub mod Wholes

@@ -24,7 +24,7 @@ use Rattle.cache_tree.proofs.Flat.{Reads, reads-none, reads-more}
 use Rattle.tree_walk.specs.declared.walk.Tally.{Tally}
 use Rattle.tree_walk.specs.Ahead.{Ahead, After, Left}
 use Rattle.tree_walk.proofs.Ahead.{stays-is, stays-in}
-use Rattle.tree_walk.specs.Steps.{NodeAdded, Joined, Moved, Tallied}
+use Rattle.tree_walk.specs.Steps.{NodeAdded, Moved, Tallied}
 
 -- ---- names under a component that no sibling has
 
@@ -177,6 +177,15 @@ reads-most s _ _ _ (reads-more {h = h} {kids = kids} {after = after} {a = a} {b 
     weight-most invalid = omega arith
 
 -- ---- a directory, part after part
+
+-- n after a; the numbers of nodes are added where they fit
+pub record Joined (a n r : Tally) : Type 0 where
+  pub ok : r .ok ≡ (a .ok && n .ok)
+  pub met : a .met + n .met < 4294967296 → r .met ≡ a .met + n .met
+  pub count : r .count ≡ a .count + n .count
+  pub front : r .front ≡ n .front
+  pub place : r .place ≡ n .place
+  pub left : r .left ≡ n .left
 
 pub record Walking (valid : Bool) (f : Forest) (q : List ℕ) (whole : List (List ℕ)) (v : ℕ) (b work : List ℕ) (r : Tally) : Type 0 where
   pub done : List (List ℕ)

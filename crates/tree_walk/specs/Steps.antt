@@ -26,18 +26,9 @@ use Rattle.tree_walk.specs.Siblings.{Last}
 use Rattle.tree_walk.specs.Ahead.{Fits, Ahead, After, Left}
 use Rattle.tree_walk.specs.Components.{LookedUp}
 
--- ---- sums
+-- ---- one node
 
--- n after a; the numbers of nodes are added where they fit
-pub record Joined (a n r : Tally) : Type 0 where
-  pub ok : r .ok ≡ (a .ok && n .ok)
-  pub met : a .met + n .met < 4294967296 → r .met ≡ a .met + n .met
-  pub count : r .count ≡ a .count + n .count
-  pub front : r .front ≡ n .front
-  pub place : r .place ≡ n .place
-  pub left : r .left ≡ n .left
-
--- the tally t of what is below a node, and the node
+-- the tally t of what is below a node, and the node; the numbers of nodes are added where they fit
 pub record NodeAdded (node : Node) (t : Tally) (p l : ℕ) (r : Tally) : Type 0 where
   pub ok : r .ok ≡ (cond (node .valid) (eqb (node .count) (t .count)) true && t .ok)
   pub met : cond (node .valid) (bit (leb 1 (node .count))) 0 + t .met < 4294967296 → r .met ≡ cond (node .valid) (bit (leb 1 (node .count))) 0 + t .met
@@ -60,7 +51,7 @@ pub record Moved (valid : Bool) (f : Forest) (q : List ℕ) (whole done : List (
   pub in-it : begins q last ≡ true
   pub after : After v b work (r .front) last rest
 
--- k siblings at a place of the data d, and the entries ahead, of which the first has k bytes or more
+-- a place of the data d, and the entries ahead, of which the first has q bytes or more
 pub record Ready (d : List ℕ) (at : ℕ) (b work : List ℕ) (q : ℕ) (s : Front) : Type 0 where
   pub inside : at ≤ length d
   pub small : length d ≤ 16777216
@@ -69,7 +60,7 @@ pub record Ready (d : List ℕ) (at : ℕ) (b work : List ℕ) (q : ℕ) (s : Fr
   pub some : 1 ≤ s .ahead
   pub long : q ≤ s .cursor .len
 
--- what any part of the walk leaves behind
+-- what any part of the walk leaves behind: fewer entries ahead, a place in the data, and the workspace past its 8,192nd byte
 pub record Kept (d : List ℕ) (at : ℕ) (b work : List ℕ) (s : Front) (work′ : List ℕ) (r : Tally) : Type 0 where
   pub fits : Fits b (r .front)
   pub fewer : r .count + r .front .ahead ≤ s .ahead
@@ -79,6 +70,7 @@ pub record Kept (d : List ℕ) (at : ℕ) (b work : List ℕ) (s : Front) (work�
   pub long : length work′ ≡ length work
   pub past : drop 8192 work′ ≡ drop 8192 work
 
+-- k siblings stand at the place at, and the last of them, left in number, at another place
 pub record PartWalked (d : List ℕ) (at k : ℕ) (valid : Bool) (place left : ℕ) (b : List ℕ) (v : ℕ) (work : List ℕ) (q : ℕ) (s : Front) (work′ : List ℕ) (r : Tally) : Type 0 where
   pub kept : Kept d at b work s work′ r
   pub hint : (f : Forest) (m : ℕ) → Sound f → Reads (drop at d) f k m → Last d f place left → Last d f (r .place) (r .left)

@@ -16,8 +16,8 @@ ghost use lib.ListN.{length};
 ghost use lib.Dec.{eqb};
 ghost use Rattle.tree_walk.specs.Steps.{NodeAdded, Ready, Taken, BelowReady, Finished, DirectoryWalked};
 
-// Whether the tests pass, how many nodes with a count of at least 1 were met, how many entries were passed, what is ahead of them, and a hint
-// to find_child.
+// Whether the tests pass, how many nodes with a count of at least 1 were met, a hint to find_child, how many entries were passed, and what is
+// ahead of them. There is one on the stack for each level, so places are held in 32 bits.
 pub struct Tally {
     pub ok: bool,
     pub met: u32,
@@ -27,8 +27,8 @@ pub struct Tally {
     pub front: Front,
 }
 
-// A part of a directory's entries: its tally, or the place after the component in its names, the place of that component's node, how many siblings
-// there are from it on, and the node.
+// A part of a directory's entries: its tally; or the place after the component in its names, the place of the node of that component, how many
+// siblings there are from it on, and the node.
 pub enum Part {
     Flat(Tally),
     Below(usize, u32, u32, Node),
@@ -107,7 +107,19 @@ fn add_node(node: Node, t: Tally, place: u32, left: u32) -> Tally
 
 // One part of a directory's entries: the first ahead where it has no further "/" after its first q bytes, or all in the directory of its next
 // component, which are passed here where that has no node. k nodes stand at a place; the node above them is valid or not.
-fn take_part(d: &[u8], at: usize, k: u32, valid: bool, place: u32, left: u32, b: &[u8], v: u32, work: &mut [u8], q: usize, s: Front) -> Part
+fn take_part(
+    d: &[u8],
+    at: usize,
+    k: u32,
+    valid: bool,
+    place: u32,
+    left: u32,
+    b: &[u8],
+    v: u32,
+    work: &mut [u8],
+    q: usize,
+    s: Front,
+) -> Part
     requires { ⌜ Ready (now d) at (now b) (now work) q s × (at ≤ place) × (place ≤ length (now d)) ⌝ }
     ensures { λ r. ⌜ Taken (now (d .entry)) at k valid place left (now (b .entry)) v (now (work .entry)) q s (now (work .exit)) r ⌝ }
 {
@@ -132,7 +144,7 @@ fn take_part(d: &[u8], at: usize, k: u32, valid: bool, place: u32, left: u32, b:
     }
 }
 
-// The tally of a part, with the walk over the directory of its node.
+// The tally of a part, by the walk over the directory of its node where it has one.
 fn finish_part(d: &[u8], b: &[u8], v: u32, work: &mut [u8], part: Part, s: Front) -> Tally
     requires { ⌜ BelowReady (now d) (now b) (now work) part s ⌝ }
     ensures { λ r. ⌜ Finished (now (d .entry)) (now (b .entry)) v (now (work .entry)) part s (now (work .exit)) r ⌝ }
@@ -146,8 +158,19 @@ fn finish_part(d: &[u8], b: &[u8], v: u32, work: &mut [u8], part: Part, s: Front
     }
 }
 
-// All of a directory's entries that are ahead, of which the first is one. k nodes stand at a place; the node above them is valid or not.
-pub(crate) fn walk_directory(d: &[u8], at: usize, k: u32, valid: bool, b: &[u8], v: u32, work: &mut [u8], q: usize, s: Front) -> Tally
+// All of a directory's entries that are ahead, of which the first is one. take_part has its own frame, which is gone when a walk goes further
+// down. k nodes stand at a place; the node above them is valid or not.
+pub(crate) fn walk_directory(
+    d: &[u8],
+    at: usize,
+    k: u32,
+    valid: bool,
+    b: &[u8],
+    v: u32,
+    work: &mut [u8],
+    q: usize,
+    s: Front,
+) -> Tally
     requires { ⌜ Ready (now d) at (now b) (now work) q s ⌝ }
     ensures { λ r. ⌜ DirectoryWalked (now (d .entry)) at k valid (now (b .entry)) v (now (work .entry)) q s (now (work .exit)) r ⌝ }
 {

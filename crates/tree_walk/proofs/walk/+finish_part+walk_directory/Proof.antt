@@ -1,4 +1,6 @@
-use mathlib.Core.Path.{_≡_, refl, sym, _∙_}
+-- The proof that the two functions of the walk meet their contracts. The measure is what is left of the tree's data: the nodes below a node
+-- stand after it. The loop keeps that what was taken of the next part follows the parts that are done.
+use mathlib.Core.Path.{refl, sym, _∙_}
 use mathlib.Core.List.{List}
 use mathlib.Core.Bool.{true}
 use native.Mathlib.Omega.{arith}
@@ -6,7 +8,7 @@ use denote.Ref.{now}
 use borrow.Author.Needs.{needs}
 use lib.ListN.{length}
 use Rattle.tree_walk.specs.Steps.{Ready, Taken, roomBelow}
-use Rattle.tree_walk.proofs.Parts.{Looping, taken-ready, taken-room, tallyOf, joined, loop-start, part-done, loop-more, loop-end}
+use Rattle.tree_walk.proofs.Loops.{Looping, taken-ready, taken-room, tallyOf, joined, loop-start, part-done, loop-more, loop-end}
 use Prim.Native.Nat.{ℕ, _+_, _*_, _-_, _<_}
 use borrow.Fn.Kinds.{In}
 use borrow.Fn.PlainCycle.{Measures, is, falls, and}
@@ -54,7 +56,6 @@ walk-directory-below t =
     (falls 3 walk-directory-kinds.ps _<_ μ-walk-directory t)
     walk-directory.Pre
 
--- src/walk.rt:141:20
 finish-part-enum-known-part : (t : ℕ) → finish-part-lts.Need-enum-known-part (
   walk-directory-below t,
   walk-directory.Post,
@@ -63,7 +64,6 @@ finish-part-enum-known-part : (t : ℕ) → finish-part-lts.Need-enum-known-part
 ) (finish-part-at t) finish-part.Post
 finish-part-enum-known-part t c = search needs
 
--- src/walk.rt:142:21
 finish-part-enum-known-part-2 : (t : ℕ) → finish-part-lts.Need-enum-known-part-2 (
   walk-directory-below t,
   walk-directory.Post,
@@ -72,7 +72,6 @@ finish-part-enum-known-part-2 : (t : ℕ) → finish-part-lts.Need-enum-known-pa
 ) (finish-part-at t) finish-part.Post
 finish-part-enum-known-part-2 t c = search needs
 
--- src/walk.rt:143:17
 finish-part-walk-directory-requires : (t : ℕ) → finish-part-lts.Need-walk-directory-requires (
   walk-directory-below t,
   walk-directory.Post,
@@ -83,7 +82,6 @@ finish-part-walk-directory-requires t c κs =
     let pre = rw (c .before .before .part2 .given .1) at (c .before .before .before .before .before .before .before .pre) in
     (omega (arith, pre .0), pre .1)
 
--- src/walk.rt:144:13
 finish-part-add-node-requires : (t : ℕ) → finish-part-lts.Need-add-node-requires (
   walk-directory-below t,
   walk-directory.Post,
@@ -92,7 +90,6 @@ finish-part-add-node-requires : (t : ℕ) → finish-part-lts.Need-add-node-requ
 ) (finish-part-at t) finish-part.Post
 finish-part-add-node-requires t c κs = search needs
 
--- src/walk.rt:136:1
 finish-part-returns : (t : ℕ) → finish-part-lts.Need-returns (
   walk-directory-below t,
   walk-directory.Post,
@@ -101,7 +98,6 @@ finish-part-returns : (t : ℕ) → finish-part-lts.Need-returns (
 ) (finish-part-at t) finish-part.Post
 finish-part-returns t c = rw (c .before .part .given .1) (record { is = (refl, refl) })
 
--- src/walk.rt:136:1
 finish-part-same-length : (t : ℕ) → finish-part-lts.Need-same-length (
   walk-directory-below t,
   walk-directory.Post,
@@ -110,7 +106,6 @@ finish-part-same-length : (t : ℕ) → finish-part-lts.Need-same-length (
 ) (finish-part-at t) finish-part.Post
 finish-part-same-length t c = c .before .before .before .walk-directory .ensures .kept .long
 
--- src/walk.rt:136:1
 finish-part-returns-2 : (t : ℕ) → finish-part-lts.Need-returns-2 (
   walk-directory-below t,
   walk-directory.Post,
@@ -130,7 +125,6 @@ walk-directory-Inv-loop d at k valid b v work₀ q ok₀ met₀ count₀ front�
 abbrev walk-directory-μ-loop : walk-directory-lts.MeasureT-loop
 walk-directory-μ-loop d at k valid b v work₀ q ok₀ met₀ count₀ front₀ part₀ work ok met count front part = front .ahead
 
--- src/walk.rt:157:21
 walk-directory-cast-place : (t : ℕ) → walk-directory-lts.Need-cast-place (
   take-part-reads.Asked,
   take-part-reads.Learnt,
@@ -145,7 +139,6 @@ walk-directory-cast-place : (t : ℕ) → walk-directory-lts.Need-cast-place (
 ) (walk-directory-at t) walk-directory.Post walk-directory-Inv-loop walk-directory-μ-loop
 walk-directory-cast-place t c = let ready = c .before .before .before .pre .1 in omega (arith, ready .inside, ready .small)
 
--- src/walk.rt:160:9
 walk-directory-take-part-requires : (t : ℕ) → walk-directory-lts.Need-take-part-requires (
   take-part-reads.Asked,
   take-part-reads.Learnt,
@@ -162,7 +155,6 @@ walk-directory-take-part-requires t c κs =
     let ready = c .before .before .before .before .pre .1 in
     (ready, omega arith, ready .inside)
 
--- src/walk.rt:161:5
 walk-directory-loop-holds : (t : ℕ) → walk-directory-lts.Need-loop-holds (
   take-part-reads.Asked,
   take-part-reads.Learnt,
@@ -177,7 +169,6 @@ walk-directory-loop-holds : (t : ℕ) → walk-directory-lts.Need-loop-holds (
 ) (walk-directory-at t) walk-directory.Post walk-directory-Inv-loop walk-directory-μ-loop
 walk-directory-loop-holds t c = λ w₀ ready taken. (w₀, _, _, loop-start _ _ _ _ _ _ _ _ _ ready, taken)
 
--- src/walk.rt:162:13
 walk-directory-finish-part-requires : (t : ℕ) → walk-directory-lts.Need-finish-part-requires (
   take-part-reads.Asked,
   take-part-reads.Learnt,
@@ -196,7 +187,6 @@ walk-directory-finish-part-requires t c κs =
     let g = l .loop .inv (st .args .work .now) (st .pre .1) (l .before .before .before .take-part .ensures) in
     (omega (arith, st .pre .0, taken-room _ _ _ _ _ _ _ _ _ _ _ _ (g .3 .ready) (l .loop .part) (g .4)), taken-ready _ _ _ _ _ _ _ _ _ _ _ _ (g .3 .ready) _ (g .4))
 
--- src/walk.rt:163:9
 walk-directory-both-requires : (t : ℕ) → walk-directory-lts.Need-both-requires (
   take-part-reads.Asked,
   take-part-reads.Learnt,
@@ -211,7 +201,6 @@ walk-directory-both-requires : (t : ℕ) → walk-directory-lts.Need-both-requir
 ) (walk-directory-at t) walk-directory.Post walk-directory-Inv-loop walk-directory-μ-loop
 walk-directory-both-requires t c κs = search needs
 
--- src/walk.rt:164:9
 walk-directory-plus-requires : (t : ℕ) → walk-directory-lts.Need-plus-requires (
   take-part-reads.Asked,
   take-part-reads.Learnt,
@@ -226,7 +215,6 @@ walk-directory-plus-requires : (t : ℕ) → walk-directory-lts.Need-plus-requir
 ) (walk-directory-at t) walk-directory.Post walk-directory-Inv-loop walk-directory-μ-loop
 walk-directory-plus-requires t c κs = search needs
 
--- src/walk.rt:165:9
 walk-directory-add-count : (t : ℕ) → walk-directory-lts.Need-add-count (
   take-part-reads.Asked,
   take-part-reads.Learnt,
@@ -246,7 +234,6 @@ walk-directory-add-count t c =
     let kept = part-done _ _ _ _ _ _ _ _ _ _ _ (g .3) _ _ (g .4) _ _ (c .before .before .before .before .before .finish-part .ensures) .kept in
     omega (arith, kept .fewer, g .3 .fewer, st .pre .1 .fits .few)
 
--- src/walk.rt:169:12
 walk-directory-stays-requires : (t : ℕ) → walk-directory-lts.Need-stays-requires (
   take-part-reads.Asked,
   take-part-reads.Learnt,
@@ -261,7 +248,6 @@ walk-directory-stays-requires : (t : ℕ) → walk-directory-lts.Need-stays-requ
 ) (walk-directory-at t) walk-directory.Post walk-directory-Inv-loop walk-directory-μ-loop
 walk-directory-stays-requires t c κs = search needs
 
--- src/walk.rt:170:13
 walk-directory-take-part-requires-2 : (t : ℕ) → walk-directory-lts.Need-take-part-requires-2 (
   take-part-reads.Asked,
   take-part-reads.Learnt,
@@ -282,7 +268,6 @@ walk-directory-take-part-requires-2 t c κs =
     let h = loop-more _ _ _ _ _ _ _ _ _ _ _ (g .3) _ _ (g .4) _ _ (c .before .before .before .before .before .before .before .before .before .finish-part .ensures) _ (joined (tallyOf (l .loop .ok) (l .loop .met) (l .loop .count) (l .loop .front) (g .1) (g .2)) (c .before .before .before .before .before .before .before .before .before .finish-part .result) _ _ (c .before .before .before .before .before .before .both .ensures) (c .before .before .before .before .before .plus .ensures)) on in
     (h .ready, h .least, h .most)
 
--- src/walk.rt:161:5
 walk-directory-loop-less : (t : ℕ) → walk-directory-lts.Need-loop-less (
   take-part-reads.Asked,
   take-part-reads.Learnt,
@@ -301,7 +286,6 @@ walk-directory-loop-less t c =
     let g = l .loop .inv (st .args .work .now) (st .pre .1) (l .before .before .before .take-part .ensures) in
     part-done _ _ _ _ _ _ _ _ _ _ _ (g .3) _ _ (g .4) _ _ (c .before .before .before .before .before .before .before .before .before .before .before .before .finish-part .ensures) .kept .less
 
--- src/walk.rt:161:5
 walk-directory-loop-again : (t : ℕ) → walk-directory-lts.Need-loop-again (
   take-part-reads.Asked,
   take-part-reads.Learnt,
@@ -321,7 +305,6 @@ walk-directory-loop-again t c =
     let g = l .loop .inv w₀ ready taken in
     (_, _, _, loop-more _ _ _ _ _ _ _ _ _ _ _ (g .3) _ _ (g .4) _ _ (c .before .before .before .before .before .before .before .before .before .before .before .before .finish-part .ensures) _ (joined (tallyOf (l .loop .ok) (l .loop .met) (l .loop .count) (l .loop .front) (g .1) (g .2)) (c .before .before .before .before .before .before .before .before .before .before .before .before .finish-part .result) _ _ (c .before .before .before .before .before .before .before .before .before .both .ensures) (c .before .before .before .before .before .before .before .before .plus .ensures)) on, c .before .before .take-part2 .ensures)
 
--- src/walk.rt:172:13
 walk-directory-same-length : (t : ℕ) → walk-directory-lts.Need-same-length (
   take-part-reads.Asked,
   take-part-reads.Learnt,
@@ -341,7 +324,6 @@ walk-directory-same-length t c =
     let off = sym (c .before .stays .ensures) ∙ c .if1 .left in
     loop-end _ _ _ _ _ _ _ _ _ _ _ (g .3) _ _ (g .4) _ _ (c .before .before .before .before .before .before .before .before .finish-part .ensures) _ (joined (tallyOf (l .loop .ok) (l .loop .met) (l .loop .count) (l .loop .front) (g .1) (g .2)) (c .before .before .before .before .before .before .before .before .finish-part .result) _ _ (c .before .before .before .before .before .both .ensures) (c .before .before .before .before .plus .ensures)) off refl .kept .long
 
--- src/walk.rt:172:13
 walk-directory-returns : (t : ℕ) → walk-directory-lts.Need-returns (
   take-part-reads.Asked,
   take-part-reads.Learnt,

@@ -1,73 +1,52 @@
+-- The proof that `take_part` meets its contract.
 use mathlib.Core.Path.{refl, sym, _∙_}
 use native.Mathlib.Omega.{arith}
 use Rattle.tree_walk.proofs.Parts.{part-file, part-missing, part-lost}
 use borrow.Author.Needs.{needs}
 use Rattle.tree_walk.proofs.walk.take_part.Statement.{statement}
 use Rattle.tree_walk.proofs.walk.take_part.Tie as tie
-use Rattle.tree_walk.proofs.walk.take_part.Reads as reads
-use Rattle.tree_walk.proofs.walk.take_part.Lts as lts
-use Rattle.cache_tree.proofs.node.read_node.Reads as read-node-reads
-use Rattle.tree_walk.proofs.front.advance.Reads as advance-reads
-use Rattle.tree_walk.proofs.front.pass.Reads as pass-reads
-use Rattle.tree_walk.proofs.look.look_up.Reads as look-up-reads
-use Rattle.tree_walk.proofs.walk.ended.Reads as ended-reads
-use Rattle.tree_walk.proofs.walk.told.Reads as told-reads
 
--- src/walk.rt:130:9
 look-up-requires : tie.Need-look-up-requires
 look-up-requires c κs = search needs
 
--- src/walk.rt:133:38
 enum-told : tie.Need-enum-told
 enum-told c = search needs
 
--- src/walk.rt:133:17
 advance-requires : tie.Need-advance-requires
 advance-requires c κs = search needs
 
--- src/walk.rt:134:24
 told-requires : tie.Need-told-requires
 told-requires c κs = search needs
 
--- src/walk.rt:136:23
 enum-known-look : tie.Need-enum-known-look
 enum-known-look c = search needs
 
--- src/walk.rt:137:17
 pass-requires : tie.Need-pass-requires
 pass-requires c κs = search needs
 
--- src/walk.rt:139:24
 told-requires-2 : tie.Need-told-requires-2
 told-requires-2 c κs = search needs
 
--- src/walk.rt:141:21
 enum-known-look-2 : tie.Need-enum-known-look-2
 enum-known-look-2 c = search needs
 
--- src/walk.rt:142:17
 read-node-requires : tie.Need-read-node-requires
 read-node-requires c κs =
     let look = rw (c .before .look2 .given .1) at (c .before .before .before .look-up .ensures) in
     look .most
 
--- src/walk.rt:144:60
 enum-told-2 : tie.Need-enum-told-2
 enum-told-2 c = search needs
 
--- src/walk.rt:144:60
 ended-requires : tie.Need-ended-requires
 ended-requires c κs = search needs
 
--- src/walk.rt:144:45
 told-requires-3 : tie.Need-told-requires-3
 told-requires-3 c κs = search needs
 
--- src/walk.rt:145:32
 enum-known-read : tie.Need-enum-known-read
 enum-known-read c = search needs
 
--- src/walk.rt:145:56
 cast-t36 : tie.Need-cast-t36
 cast-t36 c =
     let k = c .before .before .before .before in
@@ -75,11 +54,9 @@ cast-t36 c =
     let look = rw (k .before .look2 .given .1) at (u .look-up .ensures) in
     omega (arith, look .most, u .before .before .before .before .before .pre .0 .small)
 
--- src/walk.rt:126:1
 same-length : tie.Need-same-length
 same-length c = search needs
 
--- src/walk.rt:126:1
 returns : tie.Need-returns
 returns c =
     let u = c .before .before .before .before .before .before .before in
@@ -87,11 +64,9 @@ returns c =
     let look = rw (c .before .before .before .before .before .enum-told .given .1) at (u .look-up .ensures) in
     record { is = rw (c .told .ensures) (part-file _ _ _ _ _ _ _ _ _ _ _ _ (st .pre .0) (st .pre .1) (st .pre .2) look _ (c .before .before .before .advance .ensures)) }
 
--- src/walk.rt:126:1
 same-length-2 : tie.Need-same-length-2
 same-length-2 c = search needs
 
--- src/walk.rt:126:1
 returns-2 : tie.Need-returns-2
 returns-2 c =
     let u = c .before .before .before .before .before .before .before .before .before in
@@ -99,11 +74,9 @@ returns-2 c =
     let look = rw (c .before .before .before .before .before .before .before .look .given .1) at (u .look-up .ensures) in
     record { is = rw (c .told2 .ensures) (part-missing _ _ _ _ _ _ _ _ _ _ _ _ (st .pre .0) (st .pre .1) (st .pre .2) _ look _ (c .before .before .before .before .pass .ensures)) }
 
--- src/walk.rt:126:1
 same-length-3 : tie.Need-same-length-3
 same-length-3 c = search needs
 
--- src/walk.rt:126:1
 returns-3 : tie.Need-returns-3
 returns-3 c =
     let k = c .before .before .before .before .before in
@@ -112,11 +85,9 @@ returns-3 c =
     let look = rw (k .before .look2 .given .1) at (u .look-up .ensures) in
     record { is = rw (c .told3 .ensures, c .before .ended .ensures) (part-lost _ _ _ _ _ _ _ _ _ _ _ (st .args .work .now) (st .pre .0) (st .pre .1) (st .pre .2) _ _ _ look (sym (c .before .before .enum-told2 .given .1) ∙ c .before .before .before .before .read-node .ensures)) }
 
--- src/walk.rt:126:1
 same-length-4 : tie.Need-same-length-4
 same-length-4 c = search needs
 
--- src/walk.rt:126:1
 returns-4 : tie.Need-returns-4
 returns-4 c =
     let k = c .before .before .before .before in
