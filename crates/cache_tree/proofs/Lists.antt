@@ -1,11 +1,13 @@
 -- Laws of lists of siblings: the first node and the others, the number of nodes, the level of one of them.
 use mathlib.Core.Path.{_≡_, refl, sym, ap, ap₂, _∙_}
 use mathlib.Core.List.{List, [], _∷_, _++_, append-nil, append-assoc}
-use mathlib.Core.Bool.{Bool, true, false}
+use mathlib.Core.Bool.{Bool, true, false, cond}
 use Prim.Native.Nat.{ℕ, zero, suc, _+_, _-_, _≤_, _<_}
 use native.Mathlib.Nat.{add-zero, zero-add, add-assoc, suc-add}
 use native.Mathlib.Omega.{arith}
 use lib.ListN.{length, take, drop, length-append, length-drop}
+use lib.Dec.{eqb}
+use borrow.Author.Tests.{eqb-true, eqb-false}
 use Rattle.format.specs.Records.{Node, Forest, nil, tree, width, Item, items}
 use Rattle.format.specs.Layout.{okNodeName}
 use Rattle.format.specs.Reading.{Read, bad, good, need, shift, bind}
@@ -14,7 +16,7 @@ use Rattle.cache_tree.specs.declared.list.ListRead.{ListRead}
 use Rattle.cache_tree.specs.declared.list.ListRead.the-variants as L
 use Rattle.cache_tree.specs.declared.node.Node as Code
 use Rattle.cache_tree.specs.declared.node.NodeRead.the-variants as R
-use Rattle.cache_tree.specs.Answers.{nodeAt, readOne, size, either, levelIn, listAt}
+use Rattle.cache_tree.specs.Answers.{nodeAt, readOne, size, either, levelIn, listAt, rooted, nodesIn}
 use Rattle.cache_tree.proofs.Readings.{no-good, good-inv, need-inv, bind-inv, node-took, drop-to}
 use Rattle.cache_tree.proofs.Nodes.{NodeIs}
 
@@ -200,6 +202,15 @@ module _ (d : List ℕ) (at level want next n l : ℕ) (inside : at ≤ length d
       let j : m ≡ next - at = omega arith in
       record { of = f; reads = ap (λ (i : ℕ). good f i) j; nodes = i₂; leveled = cc; few = omega arith; within = omega arith }
 
+pub list-few : (d : List ℕ) (at level want : ℕ) (r : ListRead) (x : Read Forest) → Sized (length (drop at d)) x → r ≡ listAt at level want x → nodesIn r ≤ length d
+unfolding listAt
+list-few d at level want r (bad n p) t e = let i : nodesIn r ≡ 0 = ap nodesIn e in omega arith
+list-few d at level want r (good f m) t e =
+    let i : nodesIn r ≡ size f = ap nodesIn e in
+    let b : (size f ≤ m) × (m ≤ length (drop at d)) = t .of f m refl in
+    let k : length (drop at d) ≡ length d - at = length-drop at d in
+    omega arith
+
 -- ---- the siblings from a place on
 
 level-none : (k : ℕ) → levelIn k [] ≡ 0
@@ -266,16 +277,15 @@ unfolding readOne
 one-more zero s e = absurd (e refl)
 one-more (suc l) s e = let k : suc l - 1 ≡ l = omega arith in rw k
 
+level-first : (i : Item) (is : List Item) → levelIn 1 (i ∷ is) ≡ i .level
+unfolding levelIn
+level-first i is = refl
+
 level-other : (k : ℕ) (i : Item) (is : List Item) → (k ≡ 1 → ⊥) → levelIn k (i ∷ is) ≡ levelIn (k - 1) is
 unfolding levelIn
 level-other zero i is e = let z : 0 - 1 ≡ 0 = omega arith in rw z (sym (level-zero is))
 level-other (suc zero) i is e = absurd (e refl)
 level-other (suc (suc k)) i is e = let z : suc (suc k) - 1 ≡ suc k = omega arith in rw z
-
-shift-bad : (at level want m place v w : ℕ) (y : Read Forest) (a : Forest → ℕ → Read Forest) → L.Bad ≡ listAt place v w y → listAt at level want (shift m (bind y a)) ≡ L.Bad
-unfolding listAt bind shift
-shift-bad at level want m place v w (bad n p) a e = refl
-shift-bad at level want m place v w (good f k) a e = let z : _≡_ {A = ℕ} 0 1 = cc in absurd (omega arith)
 
 no-node-by : (at level want : ℕ) (x : Read Head) (a : Head → ℕ → Read Forest) → R.Bad ≡ nodeAt at x → listAt at level want (bind x a) ≡ L.Bad
 unfolding nodeAt
@@ -283,20 +293,20 @@ no-node-by at level want (bad n p) a e = bad-on at level want _ a n p refl
 no-node-by at level want (good h m) a e = let z : _≡_ {A = ℕ} 0 1 = cc in absurd (omega arith)
 
 -- a node with those subtrees
-module _ (at level want m k next : ℕ) (node : Node) (f : Forest) (is : next ≡ at + (m + k)) where
-  tree-size : size (tree node f nil) ≡ size f + 1
+module _ (at level want m next : ℕ) (node : Node) (is : next ≡ at + m) where
+  tree-size : (f : Forest) → size (tree node f nil) ≡ size f + 1
   unfolding size
-  tree-size = omega arith
+  tree-size f = omega arith
 
-  one-first : want ≡ 1 → listAt at level want (shift m (shift k (good (tree node f nil) 0))) ≡ L.Good next (size f + 1) level
-  unfolding listAt shift items levelIn
-  one-first e = let i : at + (m + (k + 0)) ≡ next = omega arith in rw (i, tree-size, e)
+  tree-level : (f : Forest) (b : Bool) → eqb want 1 ≡ b → levelIn want (items level (tree node f nil)) ≡ cond b level (levelIn (want - 1) (items (suc level) f))
+  unfolding items
+  tree-level f true e = rw (eqb-true want 1 e) (level-first _ (items (suc level) f ++ []))
+  tree-level f false e = level-other want _ (items (suc level) f ++ []) (eqb-false want 1 e) ∙ rw (append-nil (items (suc level) f))
 
-  one-below : (want ≡ 1 → ⊥) → listAt at level want (shift m (shift k (good (tree node f nil) 0))) ≡ L.Good next (size f + 1) (levelIn (want - 1) (items (suc level) f))
-  unfolding listAt shift items
-  one-below e =
-      let i : at + (m + (k + 0)) ≡ next = omega arith in
-      rw (i, tree-size, level-other want _ (items (suc level) f ++ []) e, append-nil (items (suc level) f))
+  one-rooted-by : (y : Read Forest) → listAt at level want (shift m (bind y λ kids n. good (tree node kids nil) 0)) ≡ rooted (eqb want 1) level (listAt next (suc level) (want - 1) y)
+  unfolding listAt bind shift
+  one-rooted-by (bad n p) = refl
+  one-rooted-by (good f k) = let i : at + (m + (k + 0)) ≡ next + k = omega arith in rw (i, tree-size f, tree-level f (eqb want 1) refl)
 
 module _ (d : List ℕ) (at l level want : ℕ) where
   pub one-none : l ≡ 0 → listAt at level want (readOne l (drop at d)) ≡ L.Bad
@@ -320,24 +330,11 @@ module _ (d : List ℕ) (at l level want : ℕ) where
             let e : node .next ≡ at + (node .next - at) = omega arith in
             one-more l (drop at d) l-some ∙ rw (is .reads, is .name, ← named, is .subtrees, drop-to d at (node .next - at) (node .next) e)
 
-        pub one-no-list : (v w : ℕ) → L.Bad ≡ listAt (node .next) v w (readForest 20 0 (l - 1) (node .subtrees) (drop (node .next) d)) → listAt at level want (readOne l (drop at d)) ≡ L.Bad
-        one-no-list v w e = ap (listAt at level want) one-list ∙ shift-bad at level want (node .next - at) (node .next) v w _ _ e
-
-        module _ (next n v below : ℕ) (lower : below ≡ suc level) (kids : ListIs d (node .next) below (want - 1) (readForest 20 0 (l - 1) (node .subtrees) (drop (node .next) d)) next n v) where
-          one-kids : readOne l (drop at d) ≡ shift (node .next - at) (shift (next - node .next) (good (tree (is .head .node) (kids .of) nil) 0))
-          unfolding bind
-          one-kids = one-list ∙ rw (kids .reads)
-
-          one-next : next ≡ at + (node .next - at + (next - node .next))
-          one-next = omega (arith, is .named, is .ended, kids .few)
-
-          pub one-wanted : want ≡ 1 → listAt at level want (readOne l (drop at d)) ≡ L.Good next (n + 1) level
-          one-wanted e = ap (listAt at level want) one-kids ∙ one-first at level want (node .next - at) (next - node .next) next (is .head .node) (kids .of) one-next e ∙ rw (kids .nodes)
-
-          pub one-other : (want ≡ 1 → ⊥) → listAt at level want (readOne l (drop at d)) ≡ L.Good next (n + 1) v
-          one-other e =
-              ap (listAt at level want) one-kids ∙ one-below at level want (node .next - at) (next - node .next) next (is .head .node) (kids .of) one-next e
-              ∙ rw (kids .nodes, kids .leveled, lower)
+        pub one-rooted : (below : ℕ) → below ≡ suc level
+            → listAt at level want (readOne l (drop at d)) ≡ rooted (eqb want 1) level (listAt (node .next) below (want - 1) (readForest 20 0 (l - 1) (node .subtrees) (drop (node .next) d)))
+        one-rooted below lower =
+            let b : at ≤ node .next = omega (arith, is .named, is .ended) in
+            rw lower (ap (listAt at level want) one-list ∙ one-rooted-by at level want (node .next - at) (node .next) (is .head .node) (omega arith) _)
 
 pub either-some : (a b : ℕ) → (a ≡ 0 → ⊥) → a ≡ either a b
 either-some zero b e = absurd (e refl)

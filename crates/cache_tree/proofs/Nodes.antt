@@ -304,23 +304,39 @@ module _ (d : List ℕ) (at z : ℕ) (named : z ≡ at + before 0 (drop at d)) (
       to-object : (count : Records.Count) → c .of ≡ count → nodeAt at (readNode 20 0 (drop at d)) ≡ nodeFrom at object (afterSubtrees (take (z - at) (drop at d)) count k (drop object d))
       to-object count e = rw (← e) (node-name d at z named inside ∙ from-count d _ at (z + 1) v n middle c ∙ from-subtrees d _ at middle (c .of) k object s)
 
-      pub node-short : v ≡ true → length d - object < 20 → nodeAt at (readNode 20 0 (drop at d)) ≡ R.Bad
-      node-short e h =
-          let l : object ≤ length d = s .within in
-          to-object (Records.valid (counted (c .of))) (valid-of (c .of) (c .is-valid ∙ e)) ∙ from-short d at z object k (counted (c .of)) (omega arith) (omega arith) l h
+      within : object ≤ length d
+      within = s .within
 
-      pub node-valid : v ≡ true → 20 ≤ length d - object → nodeAt at (readNode 20 0 (drop at d)) ≡ R.Good (record { nul = z; valid = true; count = n; subtrees = k; object = object; next = object + 20 })
+      node-valid : v ≡ true → 20 ≤ length d - object → nodeAt at (readNode 20 0 (drop at d)) ≡ R.Good (record { nul = z; valid = true; count = n; subtrees = k; object = object; next = object + 20 })
       node-valid e h =
-          let l : object ≤ length d = s .within in
           let o : c .of ≡ Records.valid n = valid-of (c .of) (c .is-valid ∙ e) ∙ ap Records.valid (c .is-count) in
-          to-object (Records.valid n) o ∙ from-valid d at z object k n (omega arith) (omega arith) l h
+          to-object (Records.valid n) o ∙ from-valid d at z object k n (omega arith) (omega arith) within h
 
-      pub node-invalid : v ≡ false → nodeAt at (readNode 20 0 (drop at d)) ≡ R.Good (record { nul = z; valid = false; count = n; subtrees = k; object = object; next = object })
+      node-invalid : v ≡ false → nodeAt at (readNode 20 0 (drop at d)) ≡ R.Good (record { nul = z; valid = false; count = n; subtrees = k; object = object; next = object + 0 })
       node-invalid e =
-          let l : object ≤ length d = s .within in
           let o : c .of ≡ Records.invalid = invalid-of (c .of) (c .is-valid ∙ e) in
           let zero-count : n ≡ 0 = sym (c .is-count) ∙ ap counted o in
-          rw zero-count (to-object Records.invalid o ∙ from-invalid d at z object k 0 (omega arith) (omega arith) l)
+          rw (zero-count, add-zero object) (to-object Records.invalid o ∙ from-invalid d at z object k 0 (omega arith) (omega arith) within)
+
+      node-cut : v ≡ true → length d - object < 20 → nodeAt at (readNode 20 0 (drop at d)) ≡ R.Bad
+      node-cut e h =
+          to-object (Records.valid (counted (c .of))) (valid-of (c .of) (c .is-valid ∙ e)) ∙ from-short d at z object k (counted (c .of)) (omega arith) (omega arith) within h
+
+    -- r is the length of its object name
+    module _ (k object : ℕ) (s : SubtreesIs d middle k object) (r : ℕ) (is : r ≡ cond v 20 0) where
+      pub node-short : length d - object < r → nodeAt at (readNode 20 0 (drop at d)) ≡ R.Bad
+      node-short h = by v refl
+        where
+          by : (b : Bool) → v ≡ b → nodeAt at (readNode 20 0 (drop at d)) ≡ R.Bad
+          by true e = let q : r ≡ 20 = is ∙ ap (λ (b : Bool). cond b 20 0) e in node-cut k object s e (omega arith)
+          by false e = let q : r ≡ 0 = is ∙ ap (λ (b : Bool). cond b 20 0) e in absurd (omega arith)
+
+      pub node-good : r ≤ length d - object → nodeAt at (readNode 20 0 (drop at d)) ≡ R.Good (record { nul = z; valid = v; count = n; subtrees = k; object = object; next = object + r })
+      node-good h = by v refl
+        where
+          by : (b : Bool) → v ≡ b → nodeAt at (readNode 20 0 (drop at d)) ≡ R.Good (record { nul = z; valid = v; count = n; subtrees = k; object = object; next = object + r })
+          by true e = let q : r ≡ 20 = is ∙ ap (λ (b : Bool). cond b 20 0) e in rw (q, e) (node-valid k object s e (omega arith))
+          by false e = let q : r ≡ 0 = is ∙ ap (λ (b : Bool). cond b 20 0) e in rw (q, e) (node-invalid k object s e)
 
 -- ---- what a node's answer says of the format's reading
 

@@ -8,7 +8,7 @@ use native.Mathlib.Omega.{arith}
 use lib.ListN.{length, getD, drop}
 use lib.Seq.{length-take-le}
 use lib.Dec.{eqb}
-use borrow.Author.Tests.{eq-eqb, ne-eqb, lt-ltb, le-ltb}
+use borrow.Author.Tests.{eqb-true, eqb-false, eq-eqb, ne-eqb, lt-ltb, le-ltb}
 use Rattle.format.specs.Records.{Node, Forest, nil, tree, Tree, Item, items, treeItems}
 use Rattle.format.specs.Layout.{distinct, okTreeCounts}
 use Rattle.format.specs.Reading.{Read, bad, good, need, shift, bind}
@@ -17,12 +17,12 @@ use Rattle.cache_tree.specs.declared.node.Node as Code
 use Rattle.cache_tree.specs.declared.node.NodeRead.the-variants as R
 use Rattle.cache_tree.specs.declared.list.ListRead.the-variants as L
 use Rattle.cache_tree.specs.declared.TreeRead.the-variants as T
-use Rattle.cache_tree.specs.Answers.{nodeAt, size, levelIn, listAt}
+use Rattle.cache_tree.specs.Answers.{nodeAt, size, levelIn, listAt, rooted}
 use Rattle.cache_tree.specs.Flat.{placeOf, namesDiffer, allDiffer}
 use Rattle.cache_tree.specs.Shape.{readShape, nodesAt, treeOf}
 use Rattle.cache_tree.proofs.Readings.{need-inv, bind-inv}
 use Rattle.cache_tree.proofs.Nodes.{NodeIs}
-use Rattle.cache_tree.proofs.Lists.{items-size, ListIs}
+use Rattle.cache_tree.proofs.Lists.{items-size}
 use Rattle.cache_tree.proofs.Flat.{Reads, reads-none, reads-more, forest-reads, reads-names, reads-item, reads-differ, distinct-is, differ-step, Shown, siblingNames, kidsDiffer}
 
 -- ---- the format's reading of TREE is this one, and then the test of the counts
@@ -80,10 +80,21 @@ module _ (want : ℕ) where
   no-root-by (bad n p) a e = refl
   no-root-by (good h m) a e = let z : _≡_ {A = ℕ} 0 1 = cc in absurd (omega arith)
 
-  no-list-by : (m place v w : ℕ) (y : Read Forest) (a : Forest → ℕ → Read Tree) → L.Bad ≡ listAt place v w y → nodesAt want (shift m (bind y a)) ≡ L.Bad
-  unfolding listAt bind shift nodesAt
-  no-list-by m place v w (bad n p) a e = refl
-  no-list-by m place v w (good f k) a e = let z : _≡_ {A = ℕ} 0 1 = cc in absurd (omega arith)
+  root-level : (t : Tree) (b : Bool) → eqb want 0 ≡ b → levelIn (suc want) (treeItems t) ≡ cond b 1 (levelIn want (items 2 (t .subtrees)))
+  root-level t true e = tree-first t want (eqb-true want 0 e)
+  root-level t false e = tree-later t want (eqb-false want 0 e)
+
+  root-nodes : (t : Tree) → length (treeItems t) ≡ size (t .subtrees) + 1
+  unfolding treeItems
+  root-nodes t = let e : length (items 2 (t .subtrees)) ≡ size (t .subtrees) = items-size 2 (t .subtrees) in omega arith
+
+  nodes-rooted-by : (m : ℕ) (n : Node) (y : Read Forest) → nodesAt want (shift m (bind y λ kids k. good (record { root = n; subtrees = kids }) 0)) ≡ rooted (eqb want 0) 1 (listAt m 2 want y)
+  unfolding nodesAt bind shift listAt
+  nodes-rooted-by m n (bad a p) = refl
+  nodes-rooted-by m n (good f k) =
+      let t : Tree = record { root = n; subtrees = f } in
+      let i : m + (k + 0) ≡ m + k = omega arith in
+      rw (i, root-nodes t, root-level t (eqb want 0) refl)
 
 module _ (d : List ℕ) (want : ℕ) where
   pub nodes-no-root : R.Bad ≡ nodeAt 0 (readNode 20 0 d) → nodesAt want (readNodes 20 0 d) ≡ L.Bad
@@ -110,31 +121,8 @@ module _ (d : List ℕ) (want : ℕ) where
       unfolding readNodes bind need
       root-list = rw (root-reads, name-length, eq-eqb _ _ empty, is .subtrees)
 
-      pub nodes-no-list : (v w : ℕ) → L.Bad ≡ listAt (root .next) v w (readForest 20 0 127 (root .subtrees) (drop (root .next) d)) → nodesAt want (readNodes 20 0 d) ≡ L.Bad
-      nodes-no-list v w e = ap (nodesAt want) root-list ∙ no-list-by want (root .next) (root .next) v w _ _ e
-
-      module _ (next n v : ℕ) (kids : ListIs d (root .next) 2 want (readForest 20 0 127 (root .subtrees) (drop (root .next) d)) next n v) where
-        whole : Tree
-        whole = record { root = is .head .node; subtrees = kids .of }
-
-        whole-reads : readNodes 20 0 d ≡ good whole next
-        unfolding bind shift whole
-        whole-reads = let few = kids .few in let e : root .next + (next - root .next + 0) ≡ next = omega arith in root-list ∙ rw (kids .reads, e)
-
-        whole-nodes : length (treeItems whole) ≡ n + 1
-        unfolding whole treeItems
-        whole-nodes = let e : length (items 2 (kids .of)) ≡ size (kids .of) = items-size 2 (kids .of) in let f = kids .nodes in omega arith
-
-        answer : nodesAt want (readNodes 20 0 d) ≡ L.Good next (n + 1) (levelIn (suc want) (treeItems whole))
-        unfolding nodesAt
-        answer = rw (whole-reads, whole-nodes)
-
-        pub nodes-first : want ≡ 0 → nodesAt want (readNodes 20 0 d) ≡ L.Good next (n + 1) 1
-        nodes-first e = answer ∙ ap (λ (l : ℕ). L.Good next (n + 1) l) (tree-first whole want e)
-
-        pub nodes-later : (want ≡ 0 → ⊥) → nodesAt want (readNodes 20 0 d) ≡ L.Good next (n + 1) v
-        unfolding whole
-        nodes-later e = answer ∙ ap (λ (l : ℕ). L.Good next (n + 1) l) (tree-later whole want e ∙ sym (kids .leveled))
+      pub nodes-rooted : nodesAt want (readNodes 20 0 d) ≡ rooted (eqb want 0) 1 (listAt (root .next) 2 want (readForest 20 0 127 (root .subtrees) (drop (root .next) d)))
+      nodes-rooted = ap (nodesAt want) root-list ∙ nodes-rooted-by want (root .next) (is .head .node) _
 
 -- ---- the tests after the nodes
 

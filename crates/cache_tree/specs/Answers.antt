@@ -107,3 +107,12 @@ levelIn (suc (suc k)) (i ∷ is) = levelIn (suc k) is
 unfoldable pub listAt : ℕ → ℕ → ℕ → Read Forest → ListRead
 listAt at level want (bad n p) = L.Bad
 listAt at level want (good f m) = L.Good (at + m) (size f) (levelIn want (items level f))
+
+-- a node on a level and its list of subtrees; whether the node itself is wanted
+abbrev pub rooted : Bool → ℕ → ListRead → ListRead
+rooted wanted level L.Bad = L.Bad
+rooted wanted level (L.Good next n l) = L.Good next (n + 1) (cond wanted level l)
+
+abbrev pub nodesIn : ListRead → ℕ
+nodesIn L.Bad = 0
+nodesIn (L.Good next n l) = n

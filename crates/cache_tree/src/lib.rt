@@ -9,6 +9,7 @@ pub mod walk;
 
 use crate::list::ListRead;
 use crate::list::read_list;
+use crate::list::with_root;
 use crate::node::NodeRead;
 use crate::node::read_node;
 use crate::siblings::all_differ;
@@ -40,26 +41,9 @@ fn read_nodes(d: &[u8], want: u32) -> ListRead
         NodeRead::Good(root) => {
             if root.nul == 0 {
                 let listed = read_list(d, root.next, 127, root.subtrees, want);
-                match listed {
-                    ListRead::Bad => ListRead::Bad,
-                    ListRead::Good { next, nodes, level } => {
-                        if want == 0 {
-                            return ListRead::Good {
-                                next: next,
-                                nodes: nodes + 1,
-                                level: 1,
-                            };
-                        }
-                        ListRead::Good {
-                            next: next,
-                            nodes: nodes + 1,
-                            level: level,
-                        }
-                    }
-                }
-            } else {
-                ListRead::Bad
+                return with_root(listed, want == 0, 1);
             }
+            ListRead::Bad
         }
     }
 }

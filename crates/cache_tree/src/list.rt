@@ -4,11 +4,12 @@ use crate::node::NodeRead;
 use crate::node::read_node;
 use fields::find;
 ghost use mathlib.Core.Path.{_≡_};
+ghost use mathlib.Core.Bool.{cond};
 ghost use Prim.Native.Nat.{_+_, _-_, _≤_, _<_};
 ghost use lib.ListN.{length, drop};
 ghost use Rattle.format.specs.Layout.{okNodeName};
 ghost use Rattle.format.specs.Reader.{readForest};
-ghost use Rattle.cache_tree.specs.Answers.{readOne, either, listAt};
+ghost use Rattle.cache_tree.specs.Answers.{readOne, either, listAt, rooted, nodesIn};
 
 // The place after a list, its number of nodes in all, and the level of the node that was wanted, 0 where it is not among these.
 pub enum ListRead {
@@ -46,6 +47,38 @@ fn first(a: u32, b: u32) -> u32
     a
 }
 
+// The level of a node that is wanted, else that of one below it.
+fn either_level(wanted: bool, a: u32, b: u32) -> u32
+    ensures { λ r. ⌜ r ≡ cond wanted a b ⌝ }
+{
+    if wanted {
+        return a;
+    }
+    b
+}
+
+// A node on a level and its list of subtrees.
+pub(crate) fn with_root(listed: ListRead, wanted: bool, level: u32) -> ListRead
+    requires { ⌜ nodesIn listed < 4294967295 ⌝ }
+    ensures { λ r. ⌜ r ≡ rooted wanted level listed ⌝ }
+{
+    match listed {
+        ListRead::Bad => ListRead::Bad,
+        ListRead::Good {
+            next,
+            nodes,
+            level: below,
+        } => {
+            let mine = either_level(wanted, level, below);
+            ListRead::Good {
+                next: next,
+                nodes: nodes + 1,
+                level: mine,
+            }
+        }
+    }
+}
+
 // The node at a place and all below it, with at most so many levels. want counts from 1; 0 means none.
 pub fn read_subtree(d: &[u8], at: usize, levels: u32, want: u32) -> ListRead
     requires { ⌜ (at ≤ length (now d)) × (length (now d) ≤ 16777216) × (levels ≤ 127) ⌝ }
@@ -62,26 +95,9 @@ pub fn read_subtree(d: &[u8], at: usize, levels: u32, want: u32) -> ListRead
             if name_ok(&d[at..nul]) {
                 let below = less(want, 1);
                 let listed = read_list(d, node.next, levels - 1, node.subtrees, below);
-                match listed {
-                    ListRead::Bad => ListRead::Bad,
-                    ListRead::Good { next, nodes, level } => {
-                        if want == 1 {
-                            return ListRead::Good {
-                                next: next,
-                                nodes: nodes + 1,
-                                level: 129 - levels,
-                            };
-                        }
-                        ListRead::Good {
-                            next: next,
-                            nodes: nodes + 1,
-                            level: level,
-                        }
-                    }
-                }
-            } else {
-                ListRead::Bad
+                return with_root(listed, want == 1, 129 - levels);
             }
+            ListRead::Bad
         }
     }
 }

@@ -3,6 +3,7 @@ use crate::number::Number;
 use crate::number::read_number;
 use fields::find;
 ghost use mathlib.Core.Path.{_≡_};
+ghost use mathlib.Core.Bool.{cond};
 ghost use Prim.Native.Nat.{_+_, _-_, _≤_, _<_};
 ghost use lib.ListN.{length, drop};
 ghost use Rattle.format.specs.Reader.{countIn, readCount, readSubtrees, readNode};
@@ -108,6 +109,16 @@ pub fn read_subtrees(d: &[u8], at: usize) -> Subtrees
     }
 }
 
+// The length of the object name, which is there where the count is valid.
+fn object_length(valid: bool) -> usize
+    ensures { λ r. ⌜ r ≡ cond valid 20 0 ⌝ }
+{
+    if valid {
+        return 20;
+    }
+    0
+}
+
 // The node at a place.
 pub fn read_node(d: &[u8], at: usize) -> NodeRead
     requires { ⌜ at ≤ length (now d) ⌝ }
@@ -132,26 +143,17 @@ pub fn read_node(d: &[u8], at: usize) -> NodeRead
                     subtrees,
                     next: object,
                 } => {
-                    if valid {
-                        if d.len() - object < 20 {
-                            return NodeRead::Bad;
-                        }
-                        return NodeRead::Good(Node {
-                            nul: nul,
-                            valid: true,
-                            count: count,
-                            subtrees: subtrees,
-                            object: object,
-                            next: object + 20,
-                        });
+                    let n = object_length(valid);
+                    if d.len() - object < n {
+                        return NodeRead::Bad;
                     }
                     NodeRead::Good(Node {
                         nul: nul,
-                        valid: false,
+                        valid: valid,
                         count: count,
                         subtrees: subtrees,
                         object: object,
-                        next: object,
+                        next: object + n,
                     })
                 }
             }

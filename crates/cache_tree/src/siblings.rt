@@ -73,6 +73,9 @@ fn rises(d: &[u8], a: usize, b: usize, k: u32, by_length: bool) -> bool
     let mut left = k;
     while 0 < left {
         if below_at(d, x, y, by_length) {
+            if left == 1 {
+                return true;
+            }
             let z = after_tree(d, y);
             x = y;
             y = z;
@@ -89,7 +92,7 @@ pub fn differ(d: &[u8], a: usize, k: u32, work: &mut [u8], seed: u64) -> bool
     requires { ⌜ (a ≤ length (now d)) × (length (now d) ≤ 16777216) × (8192 ≤ length (now work)) ⌝ }
     ensures { λ r. ⌜ (r ≡ namesDiffer (namesOf k (drop a (now (d .entry))))) × (drop 8192 (now (work .exit)) ≡ drop 8192 (now (work .entry))) ⌝ }
 {
-    if k == 0 {
+    if k < 2 {
         return true;
     }
     let b = after_tree(d, a);

@@ -88,6 +88,7 @@ fn read_head(b: &[u8], at: usize) -> Head
     Head::Other(end)
 }
 
+// Before the first extension.
 fn none_found() -> Found
     ensures { λ r. ⌜ r ≡ nothing ⌝ }
 {
@@ -140,7 +141,17 @@ fn add_undo(b: &[u8], at: usize, end: usize, found: Found, want: u32) -> One
 }
 
 // The cache-tree extension at a place, whose data end at end. v and count are the version and the number of entries of the body.
-fn add_tree(b: &[u8], at: usize, end: usize, found: Found, v: u32, count: u32, work: &mut [u8], seed: u64, want: u32) -> One
+fn add_tree(
+    b: &[u8],
+    at: usize,
+    end: usize,
+    found: Found,
+    v: u32,
+    count: u32,
+    work: &mut [u8],
+    seed: u64,
+    want: u32,
+) -> One
     requires { ⌜ Inside (now b) at end × Room (now b) (now work) ⌝ }
     ensures { λ r. ⌜ ((wr : ℕ) → Passed (λ ns. known (found .tree .there) at (readTree 20 ns at (part (now (b .entry)) (at + 8) end)) cacheTree) want wr v count (now (b .entry)) (now (work .entry)) at found (now (work .exit)) r) ⌝ }
 {
@@ -152,7 +163,11 @@ fn add_tree(b: &[u8], at: usize, end: usize, found: Found, v: u32, count: u32, w
     let read = cache_tree::read_tree(&b[from..end], &mut *work, seed, want);
     match read {
         TreeRead::Bad => One::Bad(15),
-        TreeRead::Good { nodes, place, level } => {
+        TreeRead::Good {
+            nodes,
+            place,
+            level,
+        } => {
             if counts_ok(&b[from..end], b, v, count, work) {
                 return One::Good(
                     end,
@@ -175,7 +190,17 @@ fn add_tree(b: &[u8], at: usize, end: usize, found: Found, v: u32, count: u32, w
 }
 
 // The extension at a place.
-fn read_extension(b: &[u8], at: usize, found: Found, v: u32, count: u32, work: &mut [u8], seed: u64, want_node: u32, want_record: u32) -> One
+fn read_extension(
+    b: &[u8],
+    at: usize,
+    found: Found,
+    v: u32,
+    count: u32,
+    work: &mut [u8],
+    seed: u64,
+    want_node: u32,
+    want_record: u32,
+) -> One
     requires { ⌜ (at ≤ length (now b)) × Room (now b) (now work) ⌝ }
     ensures { λ r. ⌜ Passed (λ ns. readExtension 20 ns (seenOf found) at (drop at (now (b .entry)))) «want_node» «want_record» v count (now (b .entry)) (now (work .entry)) at found (now (work .exit)) r ⌝ }
 {
@@ -188,15 +213,35 @@ fn read_extension(b: &[u8], at: usize, found: Found, v: u32, count: u32, work: &
     }
 }
 
-// All extensions of a body, from a place on, with a node of the cache tree and a resolve-undo record that are wanted, by their numbers.
-pub fn read_extensions(b: &[u8], at: usize, v: u32, count: u32, work: &mut [u8], seed: u64, want_node: u32, want_record: u32) -> Extended
+// All extensions of a body, from a place on. v and count are the version and the number of entries, seed is any number; a node of the
+// cache tree and a resolve-undo record are wanted, by their numbers from 0 on.
+pub fn read_extensions(
+    b: &[u8],
+    at: usize,
+    v: u32,
+    count: u32,
+    work: &mut [u8],
+    seed: u64,
+    want_node: u32,
+    want_record: u32,
+) -> Extended
     requires { ⌜ (at ≤ length (now b)) × Room (now b) (now work) ⌝ }
     ensures { λ r. ⌜ Ran «want_node» «want_record» v count (now (b .entry)) (now (work .entry)) at (now (work .exit)) r ⌝ }
 {
     let mut place = at;
     let mut found = none_found();
     while place < b.len() {
-        let one = read_extension(b, place, found, v, count, &mut *work, seed, want_node, want_record);
+        let one = read_extension(
+            b,
+            place,
+            found,
+            v,
+            count,
+            &mut *work,
+            seed,
+            want_node,
+            want_record,
+        );
         match one {
             One::Bad(n) => {
                 return Extended::Bad(n, place);

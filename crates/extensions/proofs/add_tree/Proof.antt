@@ -57,17 +57,17 @@ returns-2 c =
     let st = e .before .before .before in
     let a = st .args in
     λ wr.
-        record {
-          answered =
-              λ es n q.
-              tree-added (a .want) wr (a .b .now) (a .at) (a .end) (st .pre .0) (a .found) (e .if1 .left) _ _ _ _ _
-              (λ p. sym (g .1) ∙ m .read-tree .ensures .0 p)
-              (λ t i nodes differ. k .counts-ok .ensures .is es n t i q nodes differ)
-              (c .if2 .taken);
-          inside = st .pre .0;
-          long = omega arith;
-          past = k .counts-ok .ensures .past ∙ m .read-tree .ensures .1;
-        }
+    record {
+      answered =
+          λ es n q.
+          tree-added (a .want) wr (a .b .now) (a .at) (a .end) (st .pre .0) (a .found) (e .if1 .left) _ _ _ _ _
+          (λ p. sym (g .1) ∙ m .read-tree .ensures .0 p)
+          (λ t i nodes differ. k .counts-ok .ensures .is es n t i q nodes differ)
+          (c .if2 .taken);
+      inside = st .pre .0;
+      long = omega arith;
+      past = k .counts-ok .ensures .past ∙ m .read-tree .ensures .1;
+    }
 
 same-length-2 : tie.Need-same-length-2
 same-length-2 c = search needs
@@ -79,15 +79,15 @@ returns-3 c =
     let st = e .before .before .before in
     let a = st .args in
     λ wr.
-        record {
-          answered =
-              λ es n q.
-              tree-refused (a .want) wr (a .b .now) (a .at) (a .end) (st .pre .0) (a .found) (e .if1 .left) _
-              (λ p. sym (c .enum-told .given .1) ∙ m .read-tree .ensures .0 p);
-          inside = tt;
-          long = omega arith;
-          past = m .read-tree .ensures .1;
-        }
+    record {
+      answered =
+          λ es n q.
+          tree-refused (a .want) wr (a .b .now) (a .at) (a .end) (st .pre .0) (a .found) (e .if1 .left) _
+          (λ p. sym (c .enum-told .given .1) ∙ m .read-tree .ensures .0 p);
+      inside = tt;
+      long = omega arith;
+      past = m .read-tree .ensures .1;
+    }
 
 same-length-3 : tie.Need-same-length-3
 same-length-3 c = search needs
@@ -102,17 +102,17 @@ returns-4 c =
     let st = e .before .before .before in
     let a = st .args in
     λ wr.
-        record {
-          answered =
-              λ es n q.
-              tree-miscounted (a .want) wr (a .b .now) (a .at) (a .end) (st .pre .0) (a .found) (e .if1 .left) _ _ _ _ _
-              (λ p. sym (g .1) ∙ m .read-tree .ensures .0 p)
-              (λ t i nodes differ. k .counts-ok .ensures .is es n t i q nodes differ)
-              (c .if2 .left);
-          inside = tt;
-          long = omega arith;
-          past = k .counts-ok .ensures .past ∙ m .read-tree .ensures .1;
-        }
+    record {
+      answered =
+          λ es n q.
+          tree-miscounted (a .want) wr (a .b .now) (a .at) (a .end) (st .pre .0) (a .found) (e .if1 .left) _ _ _ _ _
+          (λ p. sym (g .1) ∙ m .read-tree .ensures .0 p)
+          (λ t i nodes differ. k .counts-ok .ensures .is es n t i q nodes differ)
+          (c .if2 .left);
+      inside = tt;
+      long = omega arith;
+      past = k .counts-ok .ensures .past ∙ m .read-tree .ensures .1;
+    }
 
 pub add-tree-spec : {M : Type 1} → statement M
 add-tree-spec =

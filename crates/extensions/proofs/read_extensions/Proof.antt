@@ -78,8 +78,7 @@ loop-again c =
     let i = e .before .before in
     let l = i .before in
     let a = l .before .before .before .before .args in
-    let t = rw (c .before .one2 .given .1) at (e .read-extension .ensures) in
-    (
+    let t = rw (c .before .one2 .given .1) at (e .read-extension .ensures) in (
       t .inside .1,
       t .long ∙ l .loop .inv .1,
       t .past ∙ l .loop .inv .2,

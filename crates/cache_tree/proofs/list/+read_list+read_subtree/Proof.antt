@@ -1,13 +1,13 @@
 -- The proof that the two readers meet their contracts. The measure is the number of levels: a node asks for a list one level further
 -- down. The list's loop keeps the answer for the whole list.
-use mathlib.Core.Path.{_≡_, sym, _∙_}
+use mathlib.Core.Path.{_≡_, sym, ap, _∙_}
 use native.Mathlib.Omega.{arith}
 use borrow.Author.Needs.{needs}
 use lib.ListN.{length, drop}
 use Rattle.format.specs.Reader.{readForest}
-use Rattle.cache_tree.specs.Answers.{readOne, listAt}
+use Rattle.cache_tree.specs.Answers.{readOne, listAt, rooted}
 use Rattle.cache_tree.proofs.Nodes.{NodeIs, node-is}
-use Rattle.cache_tree.proofs.Lists.{plus, plus-none, forest-sized, subtree-sized, ListIs, list-is, loop-end, loop-bad, loop-more, one-none, one-no-node, one-no-name, one-no-list, one-wanted, one-other}
+use Rattle.cache_tree.proofs.Lists.{plus, plus-none, forest-sized, subtree-sized, ListIs, list-is, list-few, loop-end, loop-bad, loop-more, one-none, one-no-node, one-no-name, one-rooted}
 use Prim.Native.Nat.{ℕ, _+_, _*_, _-_, _≤_, _<_}
 use borrow.Fn.Kinds.{In}
 use borrow.Fn.PlainCycle.{Measures, is, falls, and}
@@ -20,6 +20,7 @@ use Rattle.cache_tree.proofs.list.+read_list+read_subtree.Lts-read_subt
 use Rattle.cache_tree.proofs.list.first.Reads as first-reads
 use Rattle.cache_tree.proofs.list.less.Reads as less-reads
 use Rattle.cache_tree.proofs.list.name_ok.Reads as name-ok-reads
+use Rattle.cache_tree.proofs.list.with_root.Reads as with-root-reads
 use Rattle.cache_tree.proofs.node.read_node.Reads as read-node-reads
 use Rattle.cache_tree.proofs.list.+read_list+read_subtree.{statement}
 use Rattle.cache_tree.proofs.list.+read_list+read_subtree.Tie.{close}
@@ -203,8 +204,7 @@ read-list-returns-2 : (t : ℕ) → read-list-lts.Need-returns-2 (
   first-reads.Asked,
   first-reads.Learnt,
 ) (read-list-at t) read-list.Post read-list-Inv-loop read-list-μ-loop
-read-list-returns-2 t c =
-    loop-end _ _ _ _ _ _ _ _ _ (c .before .loop .inv .2) (c .loop-test .left)
+read-list-returns-2 t c = loop-end _ _ _ _ _ _ _ _ _ (c .before .loop .inv .2) (c .loop-test .left)
 
 -- the node that was read
 read-subtree-node : (t : ℕ) (c : read-subtree-lts.After-known-told (
@@ -216,30 +216,10 @@ read-subtree-node : (t : ℕ) (c : read-subtree-lts.After-known-told (
   less-reads.Learnt,
   read-list-below t,
   read-list.Post,
+  with-root-reads.Asked,
+  with-root-reads.Learnt,
 ) (read-subtree-at t) read-subtree.Post) → NodeIs (c .before .before .before .before .before .before .args .d .now) (c .before .before .before .before .before .before .args .at) (c .before .read .given .0 .0)
 read-subtree-node t c = node-is _ _ (c .before .before .before .before .before .before .pre .1 .0) _ (sym (c .before .read .given .1) ∙ c .before .before .before .read-node .ensures)
-
--- its list of subtrees
-read-subtree-kids : (t : ℕ) (c : read-subtree-lts.After-known-told2 (
-  read-node-reads.Asked,
-  read-node-reads.Learnt,
-  name-ok-reads.Asked,
-  name-ok-reads.Learnt,
-  less-reads.Asked,
-  less-reads.Learnt,
-  read-list-below t,
-  read-list.Post,
-) (read-subtree-at t) read-subtree.Post) → ListIs
-    (c .before .before .before .before .before .before .before .before .before .before .before .before .before .before .args .d .now)
-    (c .before .before .before .before .before .before .before .before .before .read .given .0 .0 .next)
-    (129 - (c .before .before .before .before .before .before .before .before .before .before .before .before .before .before .args .levels - 1))
-    (c .before .before .before .before .before .before .before .before .before .before .before .before .before .before .args .want - 1)
-    (readForest 20 0 (c .before .before .before .before .before .before .before .before .before .before .before .before .before .before .args .levels - 1) (c .before .before .before .before .before .before .before .before .before .read .given .0 .0 .subtrees) (drop (c .before .before .before .before .before .before .before .before .before .read .given .0 .0 .next) (c .before .before .before .before .before .before .before .before .before .before .before .before .before .before .args .d .now)))
-    (c .before .listed .given .0 .0)
-    (c .before .listed .given .0 .1 .0)
-    (c .before .listed .given .0 .1 .1 .0)
-read-subtree-kids t c =
-    list-is _ _ _ _ _ _ _ (read-subtree-node t (c .before .before .before .before .before .before .before .before) .within) _ (forest-sized _ _ _) (sym (c .before .listed .given .1) ∙ rw (c .before .before .before .before .less .ensures) at (c .before .before .before .read-list .ensures))
 
 read-subtree-returns : (t : ℕ) → read-subtree-lts.Need-returns (
   read-node-reads.Asked,
@@ -250,6 +230,8 @@ read-subtree-returns : (t : ℕ) → read-subtree-lts.Need-returns (
   less-reads.Learnt,
   read-list-below t,
   read-list.Post,
+  with-root-reads.Asked,
+  with-root-reads.Learnt,
 ) (read-subtree-at t) read-subtree.Post
 read-subtree-returns t c = sym (one-none _ _ _ _ _ (c .if1 .taken))
 
@@ -262,6 +244,8 @@ read-subtree-read-node-requires : (t : ℕ) → read-subtree-lts.Need-read-node-
   less-reads.Learnt,
   read-list-below t,
   read-list.Post,
+  with-root-reads.Asked,
+  with-root-reads.Learnt,
 ) (read-subtree-at t) read-subtree.Post
 read-subtree-read-node-requires t c κs = search needs
 
@@ -274,6 +258,8 @@ read-subtree-enum-told : (t : ℕ) → read-subtree-lts.Need-enum-told (
   less-reads.Learnt,
   read-list-below t,
   read-list.Post,
+  with-root-reads.Asked,
+  with-root-reads.Learnt,
 ) (read-subtree-at t) read-subtree.Post
 read-subtree-enum-told t c = search needs
 
@@ -286,6 +272,8 @@ read-subtree-enum-known-read : (t : ℕ) → read-subtree-lts.Need-enum-known-re
   less-reads.Learnt,
   read-list-below t,
   read-list.Post,
+  with-root-reads.Asked,
+  with-root-reads.Learnt,
 ) (read-subtree-at t) read-subtree.Post
 read-subtree-enum-known-read t c = search needs
 
@@ -298,6 +286,8 @@ read-subtree-sub-name-ok : (t : ℕ) → read-subtree-lts.Need-sub-name-ok (
   less-reads.Learnt,
   read-list-below t,
   read-list.Post,
+  with-root-reads.Asked,
+  with-root-reads.Learnt,
 ) (read-subtree-at t) read-subtree.Post
 read-subtree-sub-name-ok t c = read-subtree-node t c .named
 
@@ -310,6 +300,8 @@ read-subtree-part-name-ok-start : (t : ℕ) → read-subtree-lts.Need-part-name-
   less-reads.Learnt,
   read-list-below t,
   read-list.Post,
+  with-root-reads.Asked,
+  with-root-reads.Learnt,
 ) (read-subtree-at t) read-subtree.Post
 read-subtree-part-name-ok-start t c = read-subtree-node t c .named
 
@@ -322,6 +314,8 @@ read-subtree-part-name-ok-end : (t : ℕ) → read-subtree-lts.Need-part-name-ok
   less-reads.Learnt,
   read-list-below t,
   read-list.Post,
+  with-root-reads.Asked,
+  with-root-reads.Learnt,
 ) (read-subtree-at t) read-subtree.Post
 read-subtree-part-name-ok-end t c = let n = read-subtree-node t c in let ended = n .ended in let within = n .within in omega arith
 
@@ -334,6 +328,8 @@ read-subtree-name-ok-requires : (t : ℕ) → read-subtree-lts.Need-name-ok-requ
   less-reads.Learnt,
   read-list-below t,
   read-list.Post,
+  with-root-reads.Asked,
+  with-root-reads.Learnt,
 ) (read-subtree-at t) read-subtree.Post
 read-subtree-name-ok-requires t c κs = search needs
 
@@ -346,6 +342,8 @@ read-subtree-less-requires : (t : ℕ) → read-subtree-lts.Need-less-requires (
   less-reads.Learnt,
   read-list-below t,
   read-list.Post,
+  with-root-reads.Asked,
+  with-root-reads.Learnt,
 ) (read-subtree-at t) read-subtree.Post
 read-subtree-less-requires t c κs = search needs
 
@@ -358,6 +356,8 @@ read-subtree-sub-read-list : (t : ℕ) → read-subtree-lts.Need-sub-read-list (
   less-reads.Learnt,
   read-list-below t,
   read-list.Post,
+  with-root-reads.Asked,
+  with-root-reads.Learnt,
 ) (read-subtree-at t) read-subtree.Post
 read-subtree-sub-read-list t c = search needs
 
@@ -370,12 +370,14 @@ read-subtree-read-list-requires : (t : ℕ) → read-subtree-lts.Need-read-list-
   less-reads.Learnt,
   read-list-below t,
   read-list.Post,
+  with-root-reads.Asked,
+  with-root-reads.Learnt,
 ) (read-subtree-at t) read-subtree.Post
 read-subtree-read-list-requires t c κs =
     let n = read-subtree-node t (c .before .before .before .before) in
     (omega arith, (n .within, omega arith, omega arith))
 
-read-subtree-enum-told-2 : (t : ℕ) → read-subtree-lts.Need-enum-told-2 (
+read-subtree-sub-with-root : (t : ℕ) → read-subtree-lts.Need-sub-with-root (
   read-node-reads.Asked,
   read-node-reads.Learnt,
   name-ok-reads.Asked,
@@ -384,10 +386,12 @@ read-subtree-enum-told-2 : (t : ℕ) → read-subtree-lts.Need-enum-told-2 (
   less-reads.Learnt,
   read-list-below t,
   read-list.Post,
+  with-root-reads.Asked,
+  with-root-reads.Learnt,
 ) (read-subtree-at t) read-subtree.Post
-read-subtree-enum-told-2 t c = search needs
+read-subtree-sub-with-root t c = search needs
 
-read-subtree-enum-known-listed : (t : ℕ) → read-subtree-lts.Need-enum-known-listed (
+read-subtree-with-root-requires : (t : ℕ) → read-subtree-lts.Need-with-root-requires (
   read-node-reads.Asked,
   read-node-reads.Learnt,
   name-ok-reads.Asked,
@@ -396,36 +400,14 @@ read-subtree-enum-known-listed : (t : ℕ) → read-subtree-lts.Need-enum-known-
   less-reads.Learnt,
   read-list-below t,
   read-list.Post,
+  with-root-reads.Asked,
+  with-root-reads.Learnt,
 ) (read-subtree-at t) read-subtree.Post
-read-subtree-enum-known-listed t c = search needs
-
-read-subtree-add-t24 : (t : ℕ) → read-subtree-lts.Need-add-t24 (
-  read-node-reads.Asked,
-  read-node-reads.Learnt,
-  name-ok-reads.Asked,
-  name-ok-reads.Learnt,
-  less-reads.Asked,
-  less-reads.Learnt,
-  read-list-below t,
-  read-list.Post,
-) (read-subtree-at t) read-subtree.Post
-read-subtree-add-t24 t c =
-    let kids = read-subtree-kids t (c .before) in
-    let few = kids .few in
-    let within = kids .within in
+read-subtree-with-root-requires t c κs =
+    let a = c .before .before .before .before .before .before .before .before .before .before .before .args in
+    let p = c .before .before .before .before .before .before .before .before .before .before .before .pre in
+    let few = list-few (a .d .now) (c .before .before .before .before .before .before .read .given .0 .0 .next) _ _ _ _ (forest-sized _ _ _) (c .read-list .ensures) in
     omega arith
-
-read-subtree-sub-t25 : (t : ℕ) → read-subtree-lts.Need-sub-t25 (
-  read-node-reads.Asked,
-  read-node-reads.Learnt,
-  name-ok-reads.Asked,
-  name-ok-reads.Learnt,
-  less-reads.Asked,
-  less-reads.Learnt,
-  read-list-below t,
-  read-list.Post,
-) (read-subtree-at t) read-subtree.Post
-read-subtree-sub-t25 t c = search needs
 
 read-subtree-returns-2 : (t : ℕ) → read-subtree-lts.Need-returns-2 (
   read-node-reads.Asked,
@@ -436,27 +418,13 @@ read-subtree-returns-2 : (t : ℕ) → read-subtree-lts.Need-returns-2 (
   less-reads.Learnt,
   read-list-below t,
   read-list.Post,
+  with-root-reads.Asked,
+  with-root-reads.Learnt,
 ) (read-subtree-at t) read-subtree.Post
 read-subtree-returns-2 t c =
-    let n = read-subtree-node t (c .before .before .before .before .before .before .before .before .before) in
-    let kids = read-subtree-kids t (c .before) in
-    sym (one-wanted _ _ _ _ _ (c .before .before .before .before .before .before .before .before .before .before .before .before .before .if1 .left) _ n (sym (c .before .before .before .before .before .before .if2 .taken) ∙ c .before .before .before .before .before .before .before .name-ok .ensures) _ _ _ _ (omega arith) kids (c .if3 .taken))
-
-read-subtree-add-t26 : (t : ℕ) → read-subtree-lts.Need-add-t26 (
-  read-node-reads.Asked,
-  read-node-reads.Learnt,
-  name-ok-reads.Asked,
-  name-ok-reads.Learnt,
-  less-reads.Asked,
-  less-reads.Learnt,
-  read-list-below t,
-  read-list.Post,
-) (read-subtree-at t) read-subtree.Post
-read-subtree-add-t26 t c =
-    let kids = read-subtree-kids t (c .before) in
-    let few = kids .few in
-    let within = kids .within in
-    omega arith
+    let n = read-subtree-node t (c .before .before .before .before .before .before) in
+    let e = rw (c .before .before .less .ensures) at (c .before .read-list .ensures) in
+    c .with-root .ensures ∙ ap (rooted _ _) e ∙ sym (one-rooted _ _ _ _ _ (c .before .before .before .before .before .before .before .before .before .before .if1 .left) _ n (sym (c .before .before .before .if2 .taken) ∙ c .before .before .before .before .name-ok .ensures) _ (omega arith))
 
 read-subtree-returns-3 : (t : ℕ) → read-subtree-lts.Need-returns-3 (
   read-node-reads.Asked,
@@ -467,6 +435,8 @@ read-subtree-returns-3 : (t : ℕ) → read-subtree-lts.Need-returns-3 (
   less-reads.Learnt,
   read-list-below t,
   read-list.Post,
+  with-root-reads.Asked,
+  with-root-reads.Learnt,
 ) (read-subtree-at t) read-subtree.Post
 read-subtree-returns-3 t c =
     sym (one-no-node _ _ _ _ _ (c .before .before .before .if1 .left) (sym (c .enum-told .given .1) ∙ c .before .before .read-node .ensures))
@@ -480,37 +450,10 @@ read-subtree-returns-4 : (t : ℕ) → read-subtree-lts.Need-returns-4 (
   less-reads.Learnt,
   read-list-below t,
   read-list.Post,
+  with-root-reads.Asked,
+  with-root-reads.Learnt,
 ) (read-subtree-at t) read-subtree.Post
 read-subtree-returns-4 t c =
-    let n = read-subtree-node t (c .before .before .before .before .before .before .before) in
-    sym (one-no-list _ _ _ _ _ (c .before .before .before .before .before .before .before .before .before .before .before .if1 .left) _ n (sym (c .before .before .before .before .if2 .taken) ∙ c .before .before .before .before .before .name-ok .ensures) _ _ (sym (c .enum-told2 .given .1) ∙ c .before .before .read-list .ensures))
-
-read-subtree-returns-5 : (t : ℕ) → read-subtree-lts.Need-returns-5 (
-  read-node-reads.Asked,
-  read-node-reads.Learnt,
-  name-ok-reads.Asked,
-  name-ok-reads.Learnt,
-  less-reads.Asked,
-  less-reads.Learnt,
-  read-list-below t,
-  read-list.Post,
-) (read-subtree-at t) read-subtree.Post
-read-subtree-returns-5 t c =
-    let n = read-subtree-node t (c .before .before .before .before .before .before .before .before .before) in
-    let kids = read-subtree-kids t (c .before) in
-    sym (one-other _ _ _ _ _ (c .before .before .before .before .before .before .before .before .before .before .before .before .before .if1 .left) _ n (sym (c .before .before .before .before .before .before .if2 .taken) ∙ c .before .before .before .before .before .before .before .name-ok .ensures) _ _ _ _ (omega arith) kids (c .if3 .left))
-
-read-subtree-returns-6 : (t : ℕ) → read-subtree-lts.Need-returns-6 (
-  read-node-reads.Asked,
-  read-node-reads.Learnt,
-  name-ok-reads.Asked,
-  name-ok-reads.Learnt,
-  less-reads.Asked,
-  less-reads.Learnt,
-  read-list-below t,
-  read-list.Post,
-) (read-subtree-at t) read-subtree.Post
-read-subtree-returns-6 t c =
     let n = read-subtree-node t (c .before .before .before) in
     sym (one-no-name _ _ _ _ _ (c .before .before .before .before .before .before .before .if1 .left) _ n (sym (c .if2 .left) ∙ c .before .name-ok .ensures))
 
@@ -548,6 +491,8 @@ pub +read-list+read-subtree-spec : {M : Type 1} → statement M
       less-reads.Learnt,
       read-list-below t,
       read-list.Post,
+      with-root-reads.Asked,
+      with-root-reads.Learnt,
     )
     (read-subtree-at t)
     read-subtree.Post
@@ -562,13 +507,8 @@ pub +read-list+read-subtree-spec : {M : Type 1} → statement M
     (read-subtree-less-requires t)
     (read-subtree-sub-read-list t)
     (read-subtree-read-list-requires t)
-    (read-subtree-enum-told-2 t)
-    (read-subtree-enum-known-listed t)
-    (read-subtree-add-t24 t)
-    (read-subtree-sub-t25 t)
+    (read-subtree-sub-with-root t)
+    (read-subtree-with-root-requires t)
     (read-subtree-returns-2 t)
-    (read-subtree-add-t26 t)
     (read-subtree-returns-3 t)
     (read-subtree-returns-4 t)
-    (read-subtree-returns-5 t)
-    (read-subtree-returns-6 t)

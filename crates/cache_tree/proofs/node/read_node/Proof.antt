@@ -3,7 +3,7 @@ use mathlib.Core.Path.{sym, _∙_}
 use Prim.Native.Nat.{_+_}
 use native.Mathlib.Omega.{arith}
 use borrow.Author.Needs.{needs}
-use Rattle.cache_tree.proofs.Nodes.{CountIs, SubtreesIs, count-is, subtrees-is, node-none, node-no-count, node-no-subtrees, node-short, node-valid, node-invalid}
+use Rattle.cache_tree.proofs.Nodes.{CountIs, SubtreesIs, count-is, subtrees-is, node-none, node-no-count, node-no-subtrees, node-short, node-good}
 use Rattle.cache_tree.proofs.node.read_node.Statement.{statement}
 use Rattle.cache_tree.proofs.node.read_node.Tie as tie
 
@@ -42,30 +42,28 @@ enum-told-2 c = search needs
 enum-known-listed : tie.Need-enum-known-listed
 enum-known-listed c = search needs
 
-sub-if3 : tie.Need-sub-if3
-sub-if3 c = subtrees-of (c .before) .within
+object-length-requires : tie.Need-object-length-requires
+object-length-requires c κs = search needs
+
+sub-if2 : tie.Need-sub-if2
+sub-if2 c = subtrees-of (c .before) .within
 
 returns-2 : tie.Need-returns-2
-returns-2 c =
-    let k = c .before .before in
-    sym (node-short _ _ _ (c .before .before .before .before .before .before .before .before .before .before .before .find .ensures .0) (omega arith) _ _ _ (count-of (c .before .before .before .before .before .before)) _ _ (subtrees-of k) (c .before .if2 .taken) (c .if3 .taken))
+returns-2 c = sym (node-short _ _ _ (c .before .before .before .before .before .before .before .before .before .before .before .find .ensures .0) (omega arith) _ _ _ (count-of (c .before .before .before .before .before .before)) _ _ (subtrees-of (c .before .before)) _ (c .before .object-length .ensures) (c .if2 .taken))
 
 add-t16 : tie.Need-add-t16
-add-t16 c = search needs
+add-t16 c =
+    let within = subtrees-of (c .before .before) .within in
+    omega arith
 
 returns-3 : tie.Need-returns-3
-returns-3 c =
-    let k = c .before .before in
-    sym (node-valid _ _ _ (c .before .before .before .before .before .before .before .before .before .before .before .find .ensures .0) (omega arith) _ _ _ (count-of (c .before .before .before .before .before .before)) _ _ (subtrees-of k) (c .before .if2 .taken) (omega arith))
+returns-3 c = sym (node-no-count _ _ _ (c .before .before .before .before .find .ensures .0) (omega arith) (sym (c .enum-told .given .1) ∙ c .before .before .read-count .ensures))
 
 returns-4 : tie.Need-returns-4
-returns-4 c = sym (node-no-count _ _ _ (c .before .before .before .before .find .ensures .0) (omega arith) (sym (c .enum-told .given .1) ∙ c .before .before .read-count .ensures))
+returns-4 c = sym (node-no-subtrees _ _ _ (c .before .before .before .before .before .before .before .before .find .ensures .0) (omega arith) _ _ _ (count-of (c .before .before .before)) (sym (c .enum-told2 .given .1) ∙ c .before .before .read-subtrees .ensures))
 
 returns-5 : tie.Need-returns-5
-returns-5 c = sym (node-no-subtrees _ _ _ (c .before .before .before .before .before .before .before .before .find .ensures .0) (omega arith) _ _ _ (count-of (c .before .before .before)) (sym (c .enum-told2 .given .1) ∙ c .before .before .read-subtrees .ensures))
-
-returns-6 : tie.Need-returns-6
-returns-6 c = sym (node-invalid _ _ _ (c .before .before .before .before .before .before .before .before .before .before .find .ensures .0) (omega arith) _ _ _ (count-of (c .before .before .before .before .before)) _ _ (subtrees-of (c .before)) (c .if2 .left))
+returns-5 c = sym (node-good _ _ _ (c .before .before .before .before .before .before .before .before .before .before .before .find .ensures .0) (omega arith) _ _ _ (count-of (c .before .before .before .before .before .before)) _ _ (subtrees-of (c .before .before)) _ (c .before .object-length .ensures) (c .if2 .left))
 
 pub read-node-spec : {M : Type 1} → statement M
 read-node-spec =
@@ -80,10 +78,10 @@ read-node-spec =
     read-subtrees-requires
     enum-told-2
     enum-known-listed
-    sub-if3
+    object-length-requires
+    sub-if2
     returns-2
     add-t16
     returns-3
     returns-4
-    returns-5
-    returns-6)
+    returns-5)

@@ -3,12 +3,12 @@ use mathlib.Core.Path.{refl, sym, _∙_}
 use mathlib.Core.Bool.{true, false}
 use native.Mathlib.Omega.{arith}
 use borrow.Author.Needs.{needs}
-use Rattle.cache_tree.proofs.Differ.{differ-none, differ-rising}
+use Rattle.cache_tree.proofs.Differ.{differ-one, differ-rising}
 use Rattle.cache_tree.proofs.siblings.differ.Statement.{statement}
 use Rattle.cache_tree.proofs.siblings.differ.Tie as tie
 
 returns : tie.Need-returns
-returns c = let a = c .before .before .before .args in (sym (differ-none (a .d .now) (a .a) _ (omega arith)), refl)
+returns c = let a = c .before .before .before .args in (sym (differ-one (a .d .now) (a .a) _ (c .if1 .taken)), refl)
 
 after-tree-requires : tie.Need-after-tree-requires
 after-tree-requires c κs = search needs
