@@ -37,11 +37,8 @@ module _ (work : List ℕ) where
   unfolding cleared
   cleared-large h = rw (large h)
 
--- a workspace that was written up to its 8,192nd byte: what fields::clear and fields::clear_from leave of it
+-- a workspace that was written up to its 8,192nd byte: what fields::clear_from leaves of it
 module _ (work written : List ℕ) (rest : drop 8192 written ≡ drop 8192 work) where
-  pub cleared-after : 8192 ≤ length work → replicate 8192 0 ++ drop 8192 written ≡ cleared work
-  cleared-after h = rw (rest, cleared-large work h)
-
   pub holding-after : (n : ℕ) → n ≤ length written → take n written ++ (replicate (8192 - n) 0 ++ drop 8192 written) ≡ holding (take n written) work
   unfolding holding
   holding-after n h = rw (rest, length-take-le n written h)

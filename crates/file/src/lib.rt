@@ -1,11 +1,10 @@
-// The whole file: the calls that check an index and show its entries, tree nodes and resolve-undo records.
+// What the calls on an index answer: the types, the fields of an entry, the names that answers point at, refusals. The calls are in crate index.
 ghost use mathlib.Core.Path.{_≡_};
 ghost use mathlib.Core.List.{List, []};
-ghost use mathlib.Core.Bool.{not};
 ghost use Prim.Native.Nat.{ℕ, _+_, _≤_};
 ghost use lib.ListN.{length, take, drop};
 ghost use Rattle.format.specs.Reader.{entryOf};
-ghost use Rattle.file.specs.Answers.{tooSmall, cleared, refused, partIn, nameIn, entryWith, entrySaid, nodeSaid, undoSaid, noFields, refusedEntry, refusedNode, refusedUndo};
+ghost use Rattle.file.specs.Answers.{refused, partIn, nameIn, entryWith, entrySaid, nodeSaid, undoSaid, noFields, refusedEntry, refusedNode, refusedUndo};
 
 // The number of nodes or records, where the file has the extension.
 pub enum Count {
@@ -78,19 +77,6 @@ pub struct UndoAnswer {
     pub first: [u8; 20],
     pub second: [u8; 20],
     pub third: [u8; 20],
-}
-
-// ---- the workspace
-
-// Clears the workspace. Where it is too small the answer is false, and nothing is written.
-pub fn clear_work(work: &mut [u8]) -> bool
-    ensures { λ r. ⌜ (r ≡ not (tooSmall (now (work .entry)))) × (now (work .exit) ≡ cleared (now (work .entry))) ⌝ }
-{
-    if work.len() < fields::LONGEST {
-        return false;
-    }
-    fields::clear(work);
-    true
 }
 
 // ---- the fields of an entry
