@@ -38,7 +38,7 @@ use file::refused_undo;
 use file_header::Header;
 
 // What an accepted file has; end is the byte where entries end.
-pub struct Parts {
+struct Parts {
     pub version: u32,
     pub count: u32,
     pub end: usize,
@@ -46,14 +46,14 @@ pub struct Parts {
 }
 
 // A refusal's number and place, or what the file has.
-pub enum Whole {
+enum Whole {
     Bad(u32, usize),
     Good(Parts),
 }
 
 // ---- the parts of an accepted file, shown
 
-// Entry number k of a file of version v.
+// Entry number k of a file of version v. Where all entries were read and k is below their number, it is found.
 fn show_entry(file: &[u8], v: u32, work: &mut [u8], k: u32) -> EntryAnswer
     requires { ⌜ Room (bodyOf (now file)) (now work) ⌝ }
     ensures { λ r. ⌜ ((count : ℕ) (es : List F.Entry) (m : ℕ) → readEntries 20 v count F.start 12 (drop 12 (bodyOf (now (file .entry)))) ≡ good es m → k < count → EntryShows (pick (eqb v 4) (getElem? es k)) (now (file .entry)) (now (work .entry)) (now (work .exit)) r) ⌝ }
@@ -95,7 +95,7 @@ fn node_object(d: &[u8], node: Node) -> [u8; 20]
     [0u8; 20]
 }
 
-// Node number k of the cache tree, which was wanted when the file was read.
+// Node number k of the cache tree, which was wanted when the file was read. Where there is one, it reads well again.
 fn show_node(file: &[u8], tree: TreePlace, k: u32) -> NodeAnswer
     requires { ⌜ ((o : Option F.Tree) × TreeFound k (bodyOf (now file)) o tree) ⌝ }
     ensures { λ r. ⌜ ((o : Option F.Tree) → TreeFound k (bodyOf (now (file .entry))) o tree → NodeShows (listed (itemsOf o) k) (now (file .entry)) r) ⌝ }
@@ -196,7 +196,7 @@ fn read_body(
 }
 
 // The whole file. want_node and want_record are numbers of a node and of a record, from 0 on.
-pub fn read_whole(file: &[u8], work: &mut [u8], want_node: u32, want_record: u32) -> Whole
+fn read_whole(file: &[u8], work: &mut [u8], want_node: u32, want_record: u32) -> Whole
     requires { ⌜ 8192 ≤ length (now work) ⌝ }
     ensures { λ r. ⌜ WholeOf «want_node» «want_record» (readFile 20 sha1 (now (file .entry))) (bodyOf (now (file .entry))) r × (drop 8192 (now (work .exit)) ≡ drop 8192 (now (work .entry))) ⌝ }
 {
