@@ -6,3 +6,4 @@
 pub mod ffi;
 pub mod hostile;
 pub mod plain;
+pub mod random;

@@ -2,31 +2,12 @@
 
 #![deny(warnings)]
 
+use harness::random::Random;
 use harness::{ffi, plain};
 use std::ptr;
 
 /// What fills the bytes around an input and an output.
 const GUARD: u8 = 0xa5;
-
-/// A fixed sequence of numbers (xorshift64), so that each run tests the same messages.
-struct Random(u64);
-
-impl Random {
-    fn next(&mut self) -> u64 {
-        self.0 ^= self.0 << 13;
-        self.0 ^= self.0 >> 7;
-        self.0 ^= self.0 << 17;
-        self.0
-    }
-
-    fn bytes(&mut self, length: usize) -> Vec<u8> {
-        (0..length).map(|_| (self.next() >> 32) as u8).collect()
-    }
-
-    fn below(&mut self, end: usize) -> usize {
-        (self.next() % end as u64) as usize
-    }
-}
 
 fn hex(digest: [u8; 20]) -> String {
     digest.iter().map(|byte| format!("{byte:02x}")).collect()
