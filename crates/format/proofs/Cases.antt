@@ -1,4 +1,4 @@
--- The cases that the requirements mark P, those that concern reading: one table over the definitions.
+-- The cases that the requirements mark P: one table over the definitions.
 use mathlib.Core.Path.{_≡_, refl}
 use mathlib.Core.List.{List, [], _∷_, _++_}
 use mathlib.Core.Bool.{Bool, true, false}
@@ -6,10 +6,12 @@ use Prim.Native.Nat.{ℕ, zero, suc, _+_}
 use lib.ListN.{length, replicate}
 use Rattle.format.specs.declared.Order.the-variants.{Below, Same, Above}
 use Rattle.format.specs.Bytes.{two, putN, eqList, before, lacks, digits, decimal, valueFrom, value}
-use Rattle.format.specs.Names.{lengthField, compare}
+use Rattle.format.specs.Names.{lengthField, compare, common}
 use Rattle.format.specs.Records.{Count, valid, invalid, Node, Forest, nil, tree, Tree, width}
 use Rattle.format.specs.Layout.{entryLength, okNodeName, has, distinct, under, inside, files, allValid, sum, okCount, okCounts, okTreeCounts}
 use Rattle.format.specs.Reading.{Read, bad, good, need, shift, bind}
+use Rattle.format.specs.Writer.{writePacked, digitsOf, decimalOf, writeCount, writeObject, writeNode, writeForest, writeTree}
+use Rattle.format.specs.Requests.{invalidNode, invalidWay, invalidTree}
 use Rattle.format.specs.Reader.{readN, joined, readText, countIn, needSome, readCount, readSubtrees, readObject, Head, readNode, readSiblings, readForest, readNodes, readTree}
 
 -- "a-b", "a/b" and "a/c", the entries' names
@@ -36,6 +38,16 @@ cleared = record {
 clearedBytes : List ℕ
 clearedBytes = 0 ∷ 45 ∷ 49 ∷ 32 ∷ 49 ∷ 10 ∷ 97 ∷ 0 ∷ 45 ∷ 49 ∷ 32 ∷ 48 ∷ 10 ∷ []
 
+-- "saw/cut.txt", "saw/cutter.txt", and what the second has after the common beginning
+cut : List ℕ
+cut = 115 ∷ 97 ∷ 119 ∷ 47 ∷ 99 ∷ 117 ∷ 116 ∷ 46 ∷ 116 ∷ 120 ∷ 116 ∷ []
+
+cutter : List ℕ
+cutter = 115 ∷ 97 ∷ 119 ∷ 47 ∷ 99 ∷ 117 ∷ 116 ∷ 116 ∷ 101 ∷ 114 ∷ 46 ∷ 116 ∷ 120 ∷ 116 ∷ []
+
+rest : List ℕ
+rest = 116 ∷ 101 ∷ 114 ∷ 46 ∷ 116 ∷ 120 ∷ 116 ∷ []
+
 abbrev Table : Type 0
 Table =
     (entryLength 62 1 ≡ 64)
@@ -53,15 +65,19 @@ Table =
     × (putN 127 ≡ 0x7f ∷ [])
     × (putN 128 ≡ 0x80 ∷ 0x00 ∷ [])
     × (putN 8192 ≡ 0xbf ∷ 0x00 ∷ [])
-    × (joined (115 ∷ 97 ∷ 119 ∷ 47 ∷ 99 ∷ 117 ∷ 116 ∷ 46 ∷ 116 ∷ 120 ∷ 116 ∷ []) 4 (116 ∷ 101 ∷ 114 ∷ 46 ∷ 116 ∷ 120 ∷ 116 ∷ 0 ∷ []) ≡ 115 ∷ 97 ∷ 119 ∷ 47 ∷ 99 ∷ 117 ∷ 116 ∷ 116 ∷ 101 ∷ 114 ∷ 46 ∷ 116 ∷ 120 ∷ 116 ∷ [])
+    × (joined cut 4 (rest ++ (0 ∷ [])) ≡ cutter)
+    × (writePacked cut cutter ≡ 4 ∷ (rest ++ (0 ∷ [])))
     × (compare (97 ∷ 45 ∷ 98 ∷ []) (97 ∷ 47 ∷ 98 ∷ []) ≡ Below)
     × (compare (97 ∷ 47 ∷ 98 ∷ []) (97 ∷ 48 ∷ []) ≡ Below)
     × (compare (97 ∷ 47 ∷ 98 ∷ []) (97 ∷ 45 ∷ 98 ∷ []) ≡ Above)
     × (length wholeBytes ≡ 51)
     × (readTree 20 entryNames 0 wholeBytes ≡ good whole 51)
+    × (writeTree whole ≡ wholeBytes)
     × (length clearedBytes ≡ 13)
     × (readTree 20 entryNames 0 clearedBytes ≡ good cleared 13)
+    × (invalidTree 20 (97 ∷ 47 ∷ 99 ∷ []) whole ≡ cleared)
+    × (writeTree cleared ≡ clearedBytes)
 
 table : Table
-unfolding entryLength lengthField readN two putN joined before compare entryNames whole wholeBytes cleared clearedBytes need shift bind eqList lacks digits decimal valueFrom value width okNodeName has distinct under inside files allValid sum okCount okCounts okTreeCounts readText countIn needSome readCount readSubtrees readObject readNode readSiblings readForest readNodes readTree
-table = (refl, refl, refl, refl, refl, refl, refl, refl, refl, refl, refl, refl, refl, refl, refl, refl, refl, refl, refl, refl, refl, refl, refl)
+unfolding entryLength lengthField readN two putN joined before compare common cut cutter rest writePacked digitsOf decimalOf writeCount writeObject writeNode writeForest writeTree invalidNode invalidWay invalidTree entryNames whole wholeBytes cleared clearedBytes need shift bind eqList lacks digits decimal valueFrom value width okNodeName has distinct under inside files allValid sum okCount okCounts okTreeCounts readText countIn needSome readCount readSubtrees readObject readNode readSiblings readForest readNodes readTree
+table = (refl, refl, refl, refl, refl, refl, refl, refl, refl, refl, refl, refl, refl, refl, refl, refl, refl, refl, refl, refl, refl, refl, refl, refl, refl, refl, refl)

@@ -1,3 +1,4 @@
 -- The cases of the requirements that are proved, and further closed cases.
 pub mod Cases
 pub mod Examples
+pub mod Requested

@@ -1,0 +1,96 @@
+-- What is asked of a file that was read: rewrite it in a version, put one record, remove one name and stage. w is the width of an object name.
+use mathlib.Core.List.{List, [], _∷_}
+use mathlib.Core.Bool.{Bool, true, false, cond, not, _&&_, _||_}
+use mathlib.Core.Option.{Option, none, some}
+use Prim.Native.Nat.{ℕ, _+_}
+use lib.ListN.{length, drop, replicate}
+use lib.Dec.{eqb, leb, ltb}
+use Rattle.format.specs.Bytes.{eqList}
+use Rattle.format.specs.Names.{okName, compare, rises}
+use Rattle.format.specs.Records.{Entry, modeOf, Key, keyOf, Count, invalid, Node, Forest, nil, tree, Tree, Records}
+use Rattle.format.specs.Layout.{okMode, under}
+use Rattle.format.specs.Reading.{Read, bad, good, need}
+use Rattle.format.specs.Reader.{Contents}
+use Rattle.format.specs.Writer.{needsWord, writeFile}
+
+-- ---- entries
+
+-- by name, then by stage: whether an entry of the key a stands before one of the key b
+unfoldable pub goesBefore : Key → Key → Bool
+goesBefore a b = rises (compare (a .name) (b .name)) (a .stage) (b .stage)
+
+unfoldable pub sameKey : Key → Key → Bool
+sameKey a b = eqList (a .name) (b .name) && eqb (a .stage) (b .stage)
+
+-- the entry of the same name and stage is replaced, or e is inserted in its place
+unfoldable pub putEntry : Entry → List Entry → List Entry
+putEntry e [] = e ∷ []
+putEntry e (x ∷ xs) = cond (goesBefore (keyOf x) (keyOf e)) (x ∷ putEntry e xs) (cond (sameKey (keyOf x) (keyOf e)) (e ∷ xs) (e ∷ x ∷ xs))
+
+unfoldable pub removeEntry : Key → List Entry → List Entry
+removeEntry k [] = []
+removeEntry k (x ∷ xs) = cond (sameKey (keyOf x) k) xs (x ∷ removeEntry k xs)
+
+unfoldable pub holds : Key → List Entry → Bool
+holds k [] = false
+holds k (x ∷ xs) = cond (sameKey (keyOf x) k) true (holds k xs)
+
+-- ---- the cache tree: the root and each node on the way to the name's directory are made invalid
+
+unfoldable pub invalidNode : ℕ → Node → Node
+invalidNode w n = record { name = n .name; count = invalid; object = replicate w 0 }
+
+-- siblings; the name is what is left of it in their directory
+unfoldable pub invalidWay : ℕ → List ℕ → Forest → Forest
+invalidWay w name nil = nil
+invalidWay w name (tree n kids after) =
+    cond (under (n .name) name)
+    (tree (invalidNode w n) (invalidWay w (drop (length (n .name) + 1) name) kids) (invalidWay w name after))
+    (tree n kids (invalidWay w name after))
+
+unfoldable pub invalidTree : ℕ → List ℕ → Tree → Tree
+invalidTree w name t = record { root = invalidNode w (t .root); subtrees = invalidWay w name (t .subtrees) }
+
+unfoldable pub invalidCacheTree : ℕ → List ℕ → Option Tree → Option Tree
+invalidCacheTree w name none = none
+invalidCacheTree w name (some t) = some (invalidTree w name t)
+
+-- ---- all records; resolve undo stays
+
+unfoldable pub putRecord : ℕ → Entry → Records → Records
+putRecord w e r = record { entries = putEntry e (r .entries); cacheTree = invalidCacheTree w (e .name) (r .cacheTree); resolveUndo = r .resolveUndo }
+
+unfoldable pub removeRecord : ℕ → Key → Records → Records
+removeRecord w k r = record { entries = removeEntry k (r .entries); cacheTree = invalidCacheTree w (k .name) (r .cacheTree); resolveUndo = r .resolveUndo }
+
+-- ---- the answers: the bytes of the file, or a refusal at place 0
+
+unfoldable pub anyWord : List Entry → Bool
+anyWord [] = false
+anyWord (e ∷ es) = needsWord e || anyWord es
+
+-- 0 asks for version 2 where no entry needs the extended word, else for version 3
+unfoldable pub okAsked : ℕ → Bool
+okAsked asked = eqb asked 0 || (leb 2 asked && leb asked 4)
+
+unfoldable pub versionFor : ℕ → List Entry → ℕ
+versionFor asked es = cond (eqb asked 0) (cond (anyWord es) 3 2) asked
+
+-- one file, of at most 16,777,216 bytes, for an output of room bytes
+unfoldable pub fitting : ℕ → List ℕ → Read (List ℕ)
+fitting room file = need (leb (length file) 16777216) 2 0 (need (leb (length file) room) 20 0 (good file (length file)))
+
+unfoldable pub writing : ℕ → (List ℕ → List ℕ) → ℕ → ℕ → Records → Read (List ℕ)
+writing w hash asked room r = need (not (eqb asked 2 && anyWord (r .entries))) 21 0 (fitting room (writeFile w hash (versionFor asked (r .entries)) r))
+
+unfoldable pub rewriteRequest : ℕ → (List ℕ → List ℕ) → ℕ → ℕ → Records → Read (List ℕ)
+rewriteRequest w hash asked room r = need (okAsked asked) 4 0 (writing w hash asked room r)
+
+unfoldable pub putRequest : ℕ → (List ℕ → List ℕ) → ℕ → Entry → ℕ → Records → Read (List ℕ)
+putRequest w hash asked e room r =
+    need (okAsked asked) 4 0
+    (need (okMode (modeOf e)) 7 0 (need (ltb (e .stage) 4) 8 0 (need (okName (e .name)) 9 0 (writing w hash asked room (putRecord w e r)))))
+
+unfoldable pub removeRequest : ℕ → (List ℕ → List ℕ) → ℕ → Key → ℕ → Records → Read (List ℕ)
+removeRequest w hash asked k room r =
+    need (okAsked asked) 4 0 (need (holds k (r .entries)) 18 0 (writing w hash asked room (removeRecord w k r)))
