@@ -1,4 +1,4 @@
--- Demand 3 holds: of every width and hash of that width, and so of SHA-1. Each line names the theorem that proves it.
+-- The demands hold: of every width and hash of that width, and so of SHA-1. Each line names the theorem that proves it.
 use mathlib.Core.List.{List}
 use mathlib.Core.Bool.{false}
 use mathlib.Core.Path.{_≡_, refl}
@@ -8,8 +8,15 @@ use Rattle.file.specs.Answers.{tooSmall}
 use Rattle.hash.specs.Sha1.{sha1}
 use Rattle.hash.proofs.Bytes.{length-sha1}
 use Rattle.spelling.proofs.File.{one}
-use Rattle.demands.proofs.Statements.{Demand3}
-use Rattle.demands.proofs.Proved.{checked, entry-shown, node-shown, undo-shown, accepted-spelled, cut-rule}
+use Rattle.demands.proofs.Statements.{Demand1, Demand2, Demand3}
+use Rattle.demands.proofs.Proved.{small-refused, zeroed, name-left, file-refused, file-read, checked, entry-shown, node-shown, undo-shown, accepted-spelled, cut-rule}
+
+module _ (w : ℕ) (hash : List ℕ → List ℕ) (work : List ℕ) (width : (b : List ℕ) → length (hash b) ≡ w) where
+  pub demand1 : Demand1 w hash work
+  demand1 = record { small = small-refused w hash work; zeroed = zeroed work; shown = name-left w hash work width }
+
+  pub demand2 : tooSmall work ≡ false → Demand2 w hash work
+  demand2 room = record { refusals = file-refused w hash work width room; records = file-read w hash work width room }
 
 pub demand3 : (w : ℕ) (hash : List ℕ → List ℕ) (work : List ℕ) → ((b : List ℕ) → length (hash b) ≡ w) → tooSmall work ≡ false → Demand3 w hash work
 demand3 w hash work width room = record {
@@ -24,3 +31,9 @@ demand3 w hash work width room = record {
 
 pub sha1-demand3 : (work : List ℕ) → tooSmall work ≡ false → Demand3 20 sha1 work
 sha1-demand3 work room = demand3 20 sha1 work length-sha1 room
+
+pub sha1-demand1 : (work : List ℕ) → Demand1 20 sha1 work
+sha1-demand1 work = demand1 20 sha1 work length-sha1
+
+pub sha1-demand2 : (work : List ℕ) → tooSmall work ≡ false → Demand2 20 sha1 work
+sha1-demand2 work room = demand2 20 sha1 work length-sha1 room

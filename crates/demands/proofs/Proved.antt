@@ -1,21 +1,26 @@
--- The proofs of demand 3, from the reading of a file that records spell.
+-- The proofs of the demands, from the answers and from the reading of a file that records spell.
 use mathlib.Core.Path.{_≡_, refl, sym, ap, _∙_}
 use mathlib.Core.Logic.{_⊎_, inl, inr}
 use mathlib.Core.Bool.{Bool, true, false, cond}
-use mathlib.Core.List.{List}
-use Prim.Native.Nat.{ℕ, _<_}
+use mathlib.Core.List.{List, [], _∷_, _++_, append-assoc}
+use mathlib.Core.Option.{Option, none, some}
+use Prim.Native.Nat.{ℕ, zero, suc, _-_, _≤_, _<_}
 use native.Mathlib.Omega.{arith}
-use lib.ListN.{length, take, getElem?}
-use lib.Dec.{eqb}
+use lib.ListN.{length, take, drop, getElem?, replicate, length-replicate, length-append}
+use lib.Seq.{take-at, drop-at}
+use lib.Dec.{eqb, leb}
+use borrow.Author.Tests.{leb-true}
 use Rattle.format.specs.Bytes.{Bytes}
-use Rattle.format.specs.Records.{Records, Entry, Item, Undo}
-use Rattle.format.specs.Layout.{Spells}
+use Rattle.format.specs.Names.{okName}
+use Rattle.format.specs.Records.{Key, Records, Entry, Item, Undo}
+use Rattle.format.specs.Layout.{Entries, entries-end, entries-more, Spells}
 use Rattle.format.specs.Reading.{Read, bad, good}
 use Rattle.format.specs.Reader.{Contents, readFile}
 use Rattle.file.specs.declared.Summary.{Summary}
 use Rattle.file.specs.declared.Checked.{Checked}
 use Rattle.file.specs.declared.Checked.the-variants.{Refused, Accepted}
-use Rattle.file.specs.Answers.{tooSmall, treeCount, undoCount, summaryOf, checkedOf, checkAnswer, given, entryAnswer, nodeAnswer, undoAnswer, View, pick, listed, itemsOf, entryOf, nodeOf, undoOf}
+use Rattle.file.specs.Answers.{tooSmall, cleared, holding, workAfter, refused, inWorkspace, treeCount, undoCount, summaryOf, checkedOf, checkAnswer, given, entryAnswer, nodeAnswer, undoAnswer, View, pick, listed, itemsOf, entryOf, nodeOf, undoOf}
+use Rattle.spelling_entries.proofs.Reading.{and-inv}
 use Rattle.spelling_entries.proofs.Bytes.{bytes-take}
 use Rattle.spelling.proofs.File.{contentsOf, spelled-read, read-spelled, one, cut}
 use Rattle.demands.proofs.Statements.{check, entry, node, undo}
@@ -35,7 +40,100 @@ accepted-inv {ℓ} : {X : Type ℓ} (r : Read Contents) (s : Summary) → checke
 accepted-inv (bad n p) s e f = let z : _≡_ {A = ℕ} 0 1 = cc in absurd (omega arith)
 accepted-inv (good c m) s e f = f c m refl (cc)
 
+-- ---- demand 1
+
+-- a refusal clears the workspace, and 19 leaves it
+pub small-refused : (w : ℕ) (hash : List ℕ → List ℕ) (work : List ℕ) → tooSmall work ≡ true → (f : List ℕ) →
+    (check w hash work f ≡ Refused 19 0)
+    × (cleared work ≡ work)
+    × ((k : ℕ) →
+    (entry w hash work k f ≡ refused 19 0)
+    × (workAfter (entry w hash work k f) work ≡ work)
+    × (node w hash work k f ≡ refused 19 0)
+    × (undo w hash work k f ≡ refused 19 0))
+unfolding checkAnswer entryAnswer nodeAnswer undoAnswer given cleared
+small-refused w hash work small f = (rw small refl, rw small refl, λ k. (rw small refl, rw (small, small) refl, rw small refl, rw small refl))
+
+pub zeroed : (work : List ℕ) → tooSmall work ≡ false → (take 8192 (cleared work) ≡ replicate 8192 0) × (drop 8192 (cleared work) ≡ drop 8192 work)
+unfolding cleared
+zeroed work room =
+    let zeros : List ℕ = replicate 8192 0 in
+    let n : length zeros ≡ 8192 = length-replicate {A = ℕ} 8192 0 in
+    rw room (take-at zeros (drop 8192 work) 8192 n, drop-at zeros (drop 8192 work) 8192 n)
+
+-- the parts of a workspace that holds a name
+held : (name work : List ℕ) → length name ≤ 8192 →
+    (take (length name) (holding name work) ≡ name)
+    × (take (8192 - length name) (drop (length name) (holding name work)) ≡ replicate (8192 - length name) 0)
+    × (drop 8192 (holding name work) ≡ drop 8192 work)
+unfolding holding
+held name work short =
+    let zeros : List ℕ = replicate (8192 - length name) 0 in
+    let n : length zeros ≡ 8192 - length name = length-replicate (8192 - length name) 0 in
+    let l : length (name ++ zeros) ≡ 8192 = length-append name zeros ∙ omega arith in (
+      take-at name _ _ refl,
+      rw (drop-at name (zeros ++ drop 8192 work) (length name) refl) (take-at zeros (drop 8192 work) (8192 - length name) n),
+      rw (← append-assoc name zeros (drop 8192 work)) (drop-at (name ++ zeros) (drop 8192 work) 8192 l),
+    )
+
+-- each entry of a file has a name
+entry-named : (w v : ℕ) {key : Key} {es : List Entry} {a : List ℕ} → Entries w v key es a → (k : ℕ) (e : Entry) → getElem? es k ≡ some e → okName (e .name) ≡ true
+entry-named w v entries-end k e q = let z : _≡_ {A = ℕ} 0 1 = cc in absurd (omega arith)
+entry-named w v (entries-more {e = x} is more) zero e q = let same : x ≡ e = cc in rw same at (is .name)
+entry-named w v (entries-more is more) (suc k) e q = entry-named w v more k e q
+
+short-name : (name : List ℕ) → okName name ≡ true → length name ≤ 8192
+unfolding okName
+short-name name ok =
+    let (_, more) = and-inv (leb 1 (length name)) _ ok in
+    let (short, _) = and-inv (leb (length name) 8192) _ more in
+    leb-true (length name) 8192 short
+
+-- a view in the workspace is of an item of the list
+in-workspace : (t : Bool) (o : Option Entry) (e : Entry) → pick t o ≡ inWorkspace e → o ≡ some e
+in-workspace t none e q = let z : _≡_ {A = ℕ} 0 1 = cc in absurd (omega arith)
+in-workspace true (some a) e q = cc
+in-workspace false (some a) e q = let z : _≡_ {A = ℕ} 0 1 = cc in absurd (omega arith)
+
+module _ (w : ℕ) (hash : List ℕ → List ℕ) (work : List ℕ) (width : (b : List ℕ) → length (hash b) ≡ w) where
+  shown-named : (f : List ℕ) (k : ℕ) (e : Entry) → Bytes f → entry w hash work k f ≡ inWorkspace e → length (e .name) ≤ 8192
+  unfolding entryAnswer given
+  shown-named f k e bytes = by (tooSmall work) (readFile w hash f) refl
+    where
+      by : (t : Bool) (r : Read Contents) → readFile w hash f ≡ r → cond t (refused 19 0) (entryOf k r) ≡ inWorkspace e → length (e .name) ≤ 8192
+      by true r is q = let z : _≡_ {A = ℕ} 0 1 = cc in absurd (omega arith)
+      by false (bad n p) is q = let z : _≡_ {A = ℕ} 0 1 = cc in absurd (omega arith)
+      by false (good c m) is q =
+          let h = read-spelled w hash width f c m bytes is in
+          short-name (e .name) (entry-named w (h .body-is .version) (h .body-is .entries-are) k e (in-workspace (eqb (c .version) 4) _ e q))
+
+  pub name-left : (f : List ℕ) (k : ℕ) (e : Entry) → Bytes f → entry w hash work k f ≡ inWorkspace e →
+      (take (length (e .name)) (workAfter (entry w hash work k f) work) ≡ e .name)
+      × (take (8192 - length (e .name)) (drop (length (e .name)) (workAfter (entry w hash work k f) work)) ≡ replicate (8192 - length (e .name)) 0)
+      × (drop 8192 (workAfter (entry w hash work k f) work) ≡ drop 8192 work)
+  name-left f k e bytes q = rw q (held (e .name) work (shown-named f k e bytes q))
+
 module _ (w : ℕ) (hash : List ℕ → List ℕ) (work : List ℕ) (width : (b : List ℕ) → length (hash b) ≡ w) (room : tooSmall work ≡ false) where
+  -- ---- demand 2
+
+  pub file-refused : (f : List ℕ) (n p : ℕ) → readFile w hash f ≡ bad n p →
+      (check w hash work f ≡ Refused n p)
+      × ((k : ℕ) → (entry w hash work k f ≡ refused n p) × (node w hash work k f ≡ refused n p) × (undo w hash work k f ≡ refused n p))
+  unfolding checkAnswer entryAnswer nodeAnswer undoAnswer given
+  file-refused f n p e = (rw (room, e) refl, λ k. (rw (room, e) refl, rw (room, e) refl, rw (room, e) refl))
+
+  pub file-read : (f : List ℕ) (c : Contents) (m : ℕ) → Bytes f → readFile w hash f ≡ good c m →
+      Spells w hash (c .records) f
+      × (check w hash work f ≡ Accepted (summaryOf c))
+      × ((k : ℕ) →
+      (entry w hash work k f ≡ pick (eqb (c .version) 4) (getElem? (c .records .entries) k))
+      × (node w hash work k f ≡ listed (itemsOf (c .records .cacheTree)) k)
+      × (undo w hash work k f ≡ listed (c .records .resolveUndo) k))
+  unfolding checkAnswer entryAnswer nodeAnswer undoAnswer given
+  file-read f c m bytes e = (read-spelled w hash width f c m bytes e, rw (room, e) refl, λ k. (rw (room, e) refl, rw (room, e) refl, rw (room, e) refl))
+
+  -- ---- demand 3
+
   module _ (f : List ℕ) (r : Records) (h : Spells w hash r f) where
     contents : Contents
     contents = contentsOf (h .body-is)

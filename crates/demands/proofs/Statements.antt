@@ -1,21 +1,22 @@
--- Demand 3, in the paper's order and words. w is the width of an object name and of the checksum, hash the checksum's function, work any
--- workspace of the length that document 01 asks for. Check, entry k, tree node k and resolve-undo record k answer what checkAnswer, entryAnswer,
--- nodeAnswer and undoAnswer say of the file's reading: so their promises say.
+-- The demands, in the paper's order and words. w is the width of an object name and of the checksum, hash the checksum's function, work the
+-- workspace. Check, entry k, tree node k and resolve-undo record k answer what checkAnswer, entryAnswer, nodeAnswer and undoAnswer say of the
+-- file's reading, and leave the workspace that cleared and workAfter say: so their promises in crates/index/src/lib.rt say.
 use mathlib.Core.Path.{_≡_}
 use mathlib.Core.Logic.{_↔_, _⊎_}
-use mathlib.Core.Bool.{false}
+use mathlib.Core.Bool.{true, false}
 use mathlib.Core.List.{List}
-use Prim.Native.Nat.{ℕ, _<_}
-use lib.ListN.{length, take, getElem?}
+use Prim.Native.Nat.{ℕ, _-_, _<_}
+use lib.ListN.{length, take, drop, getElem?, replicate}
 use lib.Dec.{eqb}
 use Rattle.format.specs.Bytes.{Bytes}
 use Rattle.format.specs.Records.{Records, Entry, Item, Undo}
 use Rattle.format.specs.Layout.{Spells}
-use Rattle.format.specs.Reader.{readFile}
+use Rattle.format.specs.Reading.{bad, good}
+use Rattle.format.specs.Reader.{Contents, readFile}
 use Rattle.file.specs.declared.Summary.{Summary}
 use Rattle.file.specs.declared.Checked.{Checked}
 use Rattle.file.specs.declared.Checked.the-variants.{Refused, Accepted}
-use Rattle.file.specs.Answers.{tooSmall, treeCount, undoCount, checkAnswer, entryAnswer, nodeAnswer, undoAnswer, View, pick, listed, itemsOf}
+use Rattle.file.specs.Answers.{tooSmall, cleared, workAfter, treeCount, undoCount, summaryOf, checkAnswer, entryAnswer, nodeAnswer, undoAnswer, View, refused, inWorkspace, pick, listed, itemsOf}
 
 module _ (w : ℕ) (hash : List ℕ → List ℕ) (work : List ℕ) where
   abbrev pub check : List ℕ → Checked
@@ -30,6 +31,40 @@ module _ (w : ℕ) (hash : List ℕ → List ℕ) (work : List ℕ) where
   abbrev pub undo : ℕ → List ℕ → View Undo
   undo k f = undoAnswer work k (readFile w hash f)
 
+  -- Every call ends with an answer for every input and never touches a byte outside what it was lent: that is what a promise says, whatever else
+  -- it says. Each refusal has a number and a place, and leaves the workspace as document 01 states.
+  pub record Demand1 : Type 0 where
+    -- on 19 nothing is written
+    pub small :
+        tooSmall work ≡ true → (f : List ℕ) →
+        (check f ≡ Refused 19 0)
+        × (cleared work ≡ work)
+        × ((k : ℕ) → (entry k f ≡ refused 19 0) × (workAfter (entry k f) work ≡ work) × (node k f ≡ refused 19 0) × (undo k f ≡ refused 19 0))
+    -- on every other answer the first 8,192 bytes are zero, and what is past them is never touched
+    pub zeroed : tooSmall work ≡ false → (take 8192 (cleared work) ≡ replicate 8192 0) × (drop 8192 (cleared work) ≡ drop 8192 work)
+    -- except that an entry shown from version 4 stands there first and zeros follow
+    pub shown :
+        (f : List ℕ) (k : ℕ) (e : Entry) → Bytes f → entry k f ≡ inWorkspace e →
+        (take (length (e .name)) (workAfter (entry k f) work) ≡ e .name)
+        × (take (8192 - length (e .name)) (drop (length (e .name)) (workAfter (entry k f) work)) ≡ replicate (8192 - length (e .name)) 0)
+        × (drop 8192 (workAfter (entry k f) work) ≡ drop 8192 work)
+
+  -- For versions 2, 3 and 4, the records read are those that the format gives these bytes, and the refusal is the first that applies: readFile
+  -- has the tests in their order.
+  pub record Demand2 : Type 0 where
+    pub refusals :
+        (f : List ℕ) (n p : ℕ) → readFile w hash f ≡ bad n p →
+        (check f ≡ Refused n p) × ((k : ℕ) → (entry k f ≡ refused n p) × (node k f ≡ refused n p) × (undo k f ≡ refused n p))
+    pub records :
+        (f : List ℕ) (c : Contents) (m : ℕ) → Bytes f → readFile w hash f ≡ good c m →
+        Spells w hash (c .records) f
+        × (check f ≡ Accepted (summaryOf c))
+        × ((k : ℕ) →
+        (entry k f ≡ pick (eqb (c .version) 4) (getElem? (c .records .entries) k))
+        × (node k f ≡ listed (itemsOf (c .records .cacheTree)) k)
+        × (undo k f ≡ listed (c .records .resolveUndo) k))
+
+  -- With the workspace that document 01 asks for:
   pub record Demand3 : Type 0 where
     -- a file is accepted exactly when some set of records spells it
     pub exact : (f : List ℕ) → Bytes f → ((s : Summary) × (check f ≡ Accepted s)) ↔ ((r : Records) × Spells w hash r f)

@@ -1,5 +1,6 @@
--- The statements of demand 3 are not empty: a file of 198 bytes that is accepted, so spelled, and whose cut to 96 bytes is accepted too. The
--- cut's checksum reads, in the whole file, as the head of an extension that is passed over.
+-- The statements of the demands are not empty: a file of 198 bytes that is accepted, so spelled, and whose cut to 96 bytes is accepted too, and
+-- to 95 bytes refused. The cut's checksum reads, in the whole file, as the head of an extension that is passed over. And a file of version 4,
+-- whose entry is shown in the workspace.
 use mathlib.Core.Path.{_≡_, refl}
 use mathlib.Core.List.{List, [], _∷_, _++_}
 use mathlib.Core.Bool.{Bool, true, false, _&&_}
@@ -17,14 +18,14 @@ use Rattle.format.specs.Names.{componentsFrom, components, okComponent, okCompo
 use Rattle.format.specs.Layout.{okMode, fixedLength, entryLength, okNodeName, has, distinct, under, inside, files, allValid, sum, okCount, okCounts, okTreeCounts, modeText, someStage, optional, trees, undos, names}
 use Rattle.format.specs.Reading.{need, shift, bind}
 use Rattle.format.specs.Reader.{Contents, isSet, okWord, plainLength, readPlain, readN, joined, readSuffix, readPacked, readName, entryOf, readTail, readFixed, readEntry, readEntries, readText, countIn, needSome, readCount, readSubtrees, readObject, readNode, readSiblings, readForest, readNodes, readTree, modeIn, readMode, readStage, readStages, readUndo, readUndos, readData, readExtension, readExtensions, readBody, readFile}
-use Rattle.format.specs.Records.{Records}
+use Rattle.format.specs.Records.{Records, Entry}
 use Rattle.format.specs.Layout.{Spells}
 use Rattle.file.specs.declared.Summary.{Summary}
 use Rattle.file.specs.declared.Count.the-variants.{Absent}
 use Rattle.file.specs.declared.Checked.the-variants.{Refused, Accepted}
-use Rattle.file.specs.Answers.{tooSmall, checkAnswer}
+use Rattle.file.specs.Answers.{tooSmall, checkAnswer, given, entryAnswer, inWorkspace}
 use Rattle.spelling_entries.proofs.Reading.{and-inv}
-use Rattle.demands.proofs.Statements.{check}
+use Rattle.demands.proofs.Statements.{check, entry}
 use Rattle.demands.proofs.Demands.{sha1-demand3}
 
 file : List ℕ
@@ -67,3 +68,15 @@ cut-accepted = refl
 -- records spell the file
 spelled : (r : Records) × Spells 20 sha1 r file
 spelled = sha1-demand3 work room .exact file file-bytes .0 (summary, whole-accepted)
+
+cut-refused : check 20 sha1 work (take 95 file) ≡ Refused 5 75
+unfolding summary file work tooSmall checkAnswer be16 be32 be32s two eqList before lacks zeros digits decimal valueFrom value componentsFrom components okComponent okComponents okName lengthField compare okMode fixedLength entryLength okNodeName has distinct under inside files allValid sum okCount okCounts okTreeCounts modeText someStage optional trees undos names need shift bind isSet okWord plainLength readPlain readN joined readSuffix readPacked readName entryOf readTail readFixed readEntry readEntries readText countIn needSome readCount readSubtrees readObject readNode readSiblings readForest readNodes readTree modeIn readMode readStage readStages readUndo readUndos readData readExtension readExtensions readBody readFile word bytes4 words be64 padded pad quarter f K H0 nextWord extended schedule round rounds chain block absorb digest sha1
+cut-refused = refl
+
+-- the entry "a" of version 4
+packed : List ℕ
+packed = 68 ∷ 73 ∷ 82 ∷ 67 ∷ 0 ∷ 0 ∷ 0 ∷ 4 ∷ 0 ∷ 0 ∷ 0 ∷ 1 ∷ 0 ∷ 0 ∷ 0 ∷ 0 ∷ 0 ∷ 0 ∷ 0 ∷ 0 ∷ 0 ∷ 0 ∷ 0 ∷ 0 ∷ 0 ∷ 0 ∷ 0 ∷ 0 ∷ 0 ∷ 0 ∷ 0 ∷ 0 ∷ 0 ∷ 0 ∷ 0 ∷ 0 ∷ 0 ∷ 0 ∷ 129 ∷ 164 ∷ 0 ∷ 0 ∷ 0 ∷ 0 ∷ 0 ∷ 0 ∷ 0 ∷ 0 ∷ 0 ∷ 0 ∷ 0 ∷ 0 ∷ 17 ∷ 17 ∷ 17 ∷ 17 ∷ 17 ∷ 17 ∷ 17 ∷ 17 ∷ 17 ∷ 17 ∷ 17 ∷ 17 ∷ 17 ∷ 17 ∷ 17 ∷ 17 ∷ 17 ∷ 17 ∷ 17 ∷ 17 ∷ 0 ∷ 1 ∷ 0 ∷ 97 ∷ 0 ∷ 134 ∷ 118 ∷ 13 ∷ 212 ∷ 225 ∷ 158 ∷ 70 ∷ 37 ∷ 221 ∷ 91 ∷ 228 ∷ 75 ∷ 23 ∷ 216 ∷ 255 ∷ 193 ∷ 181 ∷ 220 ∷ 200 ∷ 101 ∷ []
+
+entry-shown : (e : Entry) × (entry 20 sha1 work 0 packed ≡ inWorkspace e) × (e .name ≡ 97 ∷ [])
+unfolding packed work tooSmall given entryAnswer be16 be32 be32s two eqList before lacks zeros digits decimal valueFrom value componentsFrom components okComponent okComponents okName lengthField compare okMode fixedLength entryLength okNodeName has distinct under inside files allValid sum okCount okCounts okTreeCounts modeText someStage optional trees undos names need shift bind isSet okWord plainLength readPlain readN joined readSuffix readPacked readName entryOf readTail readFixed readEntry readEntries readText countIn needSome readCount readSubtrees readObject readNode readSiblings readForest readNodes readTree modeIn readMode readStage readStages readUndo readUndos readData readExtension readExtensions readBody readFile word bytes4 words be64 padded pad quarter f K H0 nextWord extended schedule round rounds chain block absorb digest sha1
+entry-shown = (_, refl, refl)
