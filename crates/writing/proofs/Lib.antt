@@ -1,0 +1,2 @@
+-- What is written: its decimals.
+pub mod Decimals
