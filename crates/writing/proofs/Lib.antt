@@ -1,3 +1,5 @@
--- What is written: its decimals.
+-- What is written: its decimals; what of it is copied from a file that was read; names and entries.
 pub mod Decimals
 pub mod Copies
+pub mod Names
+pub mod Entries
