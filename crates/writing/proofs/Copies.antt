@@ -27,41 +27,41 @@ numbers-copied s bytes long = put32s-be32s s 0 10 bytes long
 
 -- ---- resolve undo: the whole data
 
-pub stage-written : (w : ℕ) (x : Stage) (a : List ℕ) → IsStage w x a → a ≡ writeStage x
+pub stage-bytes : (w : ℕ) (x : Stage) (a : List ℕ) → IsStage w x a → a ≡ writeStage x
 unfolding writeStage
-stage-written w x a h =
+stage-bytes w x a h =
     by-test (eqb (x .mode) 0)
     (λ missing. let k = rw missing at h in rw missing (k .1))
     (λ there. let k = rw there at h in rw there (k .2))
 
-pub undo-written : {w : ℕ} {previous : List ℕ} {u : Undo} {a : List ℕ} → IsUndo w previous u a → a ≡ writeUndo u
+pub undo-bytes : {w : ℕ} {previous : List ℕ} {u : Undo} {a : List ℕ} → IsUndo w previous u a → a ≡ writeUndo u
 unfolding writeUndo
-undo-written {w = w} {u = u} h =
+undo-bytes {w = w} {u = u} h =
     h .bytes
     ∙ rw (
-      stage-written w (u .first) (h .firstBytes) (h .first),
-      stage-written w (u .second) (h .secondBytes) (h .second),
-      stage-written w (u .third) (h .thirdBytes) (h .third),
+      stage-bytes w (u .first) (h .firstBytes) (h .first),
+      stage-bytes w (u .second) (h .secondBytes) (h .second),
+      stage-bytes w (u .third) (h .thirdBytes) (h .third),
     )
     refl
 
-pub undos-written : {w : ℕ} {previous : List ℕ} {us : List Undo} {d : List ℕ} → Undos w previous us d → d ≡ writeUndos us
+pub undos-bytes : {w : ℕ} {previous : List ℕ} {us : List Undo} {d : List ℕ} → Undos w previous us d → d ≡ writeUndos us
 unfolding writeUndos
-undos-written undos-end = refl
-undos-written (undos-more x y) = rw (undo-written x, undos-written y) refl
+undos-bytes undos-end = refl
+undos-bytes (undos-more x y) = rw (undo-bytes x, undos-bytes y) refl
 
 pub undos-copied : (w p fuel : ℕ) (d : List ℕ) (us : List Undo) (m : ℕ) → readUndos w p fuel [] d ≡ good us m → (m ≡ length d) × (writeUndos us ≡ d)
-undos-copied w p fuel d us m q = let h = undos-read w p fuel [] d us m q in (h .0, sym (undos-written (h .1)))
+undos-copied w p fuel d us m q = let h = undos-read w p fuel [] d us m q in (h .0, sym (undos-bytes (h .1)))
 
 -- ---- a node of the cache tree
 
-decimal-written : (t : List ℕ) (n : ℕ) → decimal t ≡ true → value t ≡ n → t ≡ decimalOf n
-decimal-written t n d e = rw (← e) (sym (decimalOf-value t d))
+decimal-bytes : (t : List ℕ) (n : ℕ) → decimal t ≡ true → value t ≡ n → t ≡ decimalOf n
+decimal-bytes t n d e = rw (← e) (sym (decimalOf-value t d))
 
-object-written : (w : ℕ) (c : Count) (object a : List ℕ) → ObjectBytes w c object a → a ≡ writeObject c object
+object-bytes : (w : ℕ) (c : Count) (object a : List ℕ) → ObjectBytes w c object a → a ≡ writeObject c object
 unfolding writeObject
-object-written w (valid n) object a h = h .1
-object-written w invalid object a h = h .1
+object-bytes w (valid n) object a h = h .1
+object-bytes w invalid object a h = h .1
 
 -- its bytes from the space on
 abbrev fromSpace : Node → ℕ → List ℕ
@@ -70,13 +70,13 @@ fromSpace n subtrees = 32 ∷ (decimalOf subtrees ++ (10 ∷ writeObject (n .cou
 node-is : {w : ℕ} {n : Node} {k : ℕ} {a : List ℕ} (h : IsNode w n k a) → a ≡ n .name ++ (0 ∷ (h .countText ++ fromSpace n k))
 node-is {w} {n} {k} h =
     h .bytes
-    ∙ rw (decimal-written (h .subtreesText) k (h .subtrees-decimal) (h .subtrees-value), object-written w (n .count) (n .object) (h .tail) (h .object)) refl
+    ∙ rw (decimal-bytes (h .subtreesText) k (h .subtrees-decimal) (h .subtrees-value), object-bytes w (n .count) (n .object) (h .tail) (h .object)) refl
 
 valid-text : (c : Count) (n : ℕ) (t : List ℕ) → c ≡ valid n → CountText c t → t ≡ writeCount c
 unfolding writeCount
 valid-text c n t is h =
     let k : CountText (valid n) t = rw is at h in
-    rw is (decimal-written t n (k .0) (k .1))
+    rw is (decimal-bytes t n (k .0) (k .1))
 
 -- a valid node is copied whole
 pub valid-copied : (w p : ℕ) (s : List ℕ) (h : Head) (m c : ℕ) → readNode w p s ≡ good h m → h .node .count ≡ valid c

@@ -54,11 +54,8 @@ entry-written w v k e h order two = record {
   bytes = refl;
 }
 
--- no entry needs the extended word in version 2
-abbrev pub Two : ℕ → List Entry → Type 0
-Two v es = v ≡ 2 → anyWord es ≡ false
-
-pub entries-written : (w v : ℕ) {k : Key} {es : List Entry} → SoundEntries w k es → Two v es → Entries w v k es (writeEntries w v (k .name) es)
+pub entries-written : (w v : ℕ) {k : Key} {es : List Entry} → SoundEntries w k es → (v ≡ 2 → anyWord es ≡ false)
+    → Entries w v k es (writeEntries w v (k .name) es)
 unfolding writeEntries anyWord
 entries-written w v entries-none two = entries-end
 entries-written w v {k} (entries-next {e = e} {es = es} h order t) two =

@@ -3,3 +3,6 @@ pub mod Decimals
 pub mod Copies
 pub mod Names
 pub mod Entries
+pub mod Tree
+pub mod Undo
+pub mod File

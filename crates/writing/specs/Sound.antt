@@ -1,7 +1,7 @@
 -- Records that a file can have, said without bytes of a file. w is the width of an object name.
 use mathlib.Core.Path.{_≡_}
 use mathlib.Core.List.{List, [], _∷_}
-use mathlib.Core.Bool.{true}
+use mathlib.Core.Bool.{true, false}
 use mathlib.Core.Option.{Option, some}
 use Prim.Native.Nat.{ℕ, suc, _≤_, _<_}
 use lib.ListN.{length, replicate}
@@ -10,6 +10,7 @@ use Rattle.format.specs.Bytes.{fit32, lacks}
 use Rattle.format.specs.Names.{okName, compare, isBelow, rises}
 use Rattle.format.specs.Records.{Entry, modeOf, Key, keyOf, start, Count, valid, invalid, Node, Forest, nil, tree, Tree, width, Stage, Undo, Records}
 use Rattle.format.specs.Layout.{when, okMode, okNodeName, distinct, okTreeCounts, someStage, names}
+use Rattle.format.specs.Requests.{anyWord}
 
 -- ---- entries
 
@@ -87,3 +88,9 @@ pub record Sound (w : ℕ) (r : Records) : Type 0 where
   pub entries : SoundEntries w start (r .entries)
   pub cacheTree : (t : Tree) → r .cacheTree ≡ some t → SoundTree w (names (r .entries)) t
   pub resolveUndo : (us : List Undo) → r .resolveUndo ≡ some us → SoundUndos w [] us
+
+-- records that can be written in the version v: version 2 has no extended word
+pub record Writable (w v : ℕ) (r : Records) : Type 0 where
+  pub sound : Sound w r
+  pub two-to-four : (2 ≤ v) × (v ≤ 4)
+  pub no-word : v ≡ 2 → anyWord (r .entries) ≡ false
