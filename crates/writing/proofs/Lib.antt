@@ -6,3 +6,4 @@ pub mod Entries
 pub mod Tree
 pub mod Undo
 pub mod File
+pub mod Order
