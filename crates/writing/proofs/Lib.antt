@@ -7,3 +7,4 @@ pub mod Tree
 pub mod Undo
 pub mod File
 pub mod Order
+pub mod Counts
