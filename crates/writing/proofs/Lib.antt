@@ -8,3 +8,4 @@ pub mod Undo
 pub mod File
 pub mod Order
 pub mod Counts
+pub mod Edits
