@@ -9,3 +9,4 @@ pub mod File
 pub mod Order
 pub mod Counts
 pub mod Edits
+pub mod Answers
