@@ -1,12 +1,12 @@
 -- The bytes that a request answers are spelled by the result's records, and are read back as these.
-use mathlib.Core.Path.{_≡_, refl, sym, _∙_}
+use mathlib.Core.Path.{_≡_, refl}
 use mathlib.Core.List.{List, []}
-use mathlib.Core.Bool.{Bool, true, false, cond, not, _&&_, _||_}
+use mathlib.Core.Bool.{true, false, cond, not, _&&_}
 use Prim.Native.Nat.{ℕ, _+_, _≤_}
 use native.Mathlib.Omega.{arith}
 use lib.ListN.{length}
-use lib.Dec.{eqb, leb, ltb}
-use borrow.Author.Tests.{eqb-true, eq-eqb, leb-true, ltb-true, not-true}
+use lib.Dec.{eqb, leb}
+use borrow.Author.Tests.{eq-eqb, leb-true, ltb-true, not-true}
 use Rattle.format.specs.Bytes.{fit32}
 use Rattle.format.specs.Records.{Entry, Key, Records}
 use Rattle.format.specs.Layout.{Spells}
@@ -14,9 +14,9 @@ use Rattle.format.specs.Reading.{good}
 use Rattle.format.specs.Reader.{readFile}
 use Rattle.format.specs.Writer.{writeEntries, writeBody, writeFile}
 use Rattle.format.specs.Requests.{putRecord, removeRecord, anyWord, okAsked, versionFor, fitting, writing, rewriteRequest, putRequest, removeRequest}
-use Rattle.spelling_entries.proofs.Reading.{false-true, and-inv, by-test, by-cond, good-inv, need-inv}
+use Rattle.spelling_entries.proofs.Reading.{and-inv, by-test, by-cond, good-inv, need-inv}
 use Rattle.writing.specs.Sound.{SoundEntry, Sound, Writable}
-use Rattle.writing.proofs.File.{written-spelled, read-written, spelled-sound}
+use Rattle.writing.proofs.File.{written-spelled, read-written}
 use Rattle.writing.proofs.Edits.{put-sound, remove-sound}
 
 -- ---- the version

@@ -1,29 +1,41 @@
 -- What is written of records that were read is, as far as it can be, the very bytes that they were read from.
 use mathlib.Core.Path.{_≡_, refl, sym, ap, _∙_}
 use mathlib.Core.List.{List, [], _∷_, _++_, append-assoc}
-use mathlib.Core.Bool.{Bool, true, false, cond}
+use mathlib.Core.Bool.{true, cond}
 use Prim.Native.Nat.{ℕ, suc, _+_, _-_, _≤_}
 use native.Mathlib.Omega.{arith}
 use lib.ListN.{length, take, drop, length-append, take-append-drop}
-use lib.Seq.{drop-drop, drop-append-seam, take-at, length-take-le}
+use lib.Seq.{drop-drop, drop-append-seam, take-at, take-take, length-take-le}
 use lib.Dec.{eqb}
-use Rattle.format.specs.Bytes.{Bytes, be32s, put32s, before, decimal, value}
-use Rattle.format.specs.Records.{Count, valid, invalid, Node, Stage, Undo}
-use Rattle.format.specs.Layout.{CountText, ObjectBytes, IsNode, IsStage, IsUndo, Undos, undos-end, undos-more}
+use Rattle.format.specs.Bytes.{Bytes, be32s, put16, put32s, before, decimal, value}
+use Rattle.format.specs.Records.{Entry, Key, Count, valid, invalid, Node, Stage, Undo}
+use Rattle.format.specs.Layout.{flagsOf, wordOf, CountText, ObjectBytes, IsNode, IsStage, IsUndo, Undos, undos-end, undos-more}
 use Rattle.format.specs.Reading.{good}
-use Rattle.format.specs.Reader.{Head, readNode, readUndos}
+use Rattle.format.specs.Reader.{readEntry, Head, readNode, readUndos}
 use Rattle.format.specs.Writer.{decimalOf, writeCount, writeObject, writeNode, writeStage, writeUndo, writeUndos}
 use Rattle.spelling_entries.proofs.Reading.{by-test}
-use Rattle.spelling_entries.proofs.Bytes.{put32s-be32s, before-at, after-text}
+use Rattle.spelling_entries.proofs.Bytes.{length-put32s, put32s-be32s, before-at, after-text}
+use Rattle.spelling_entries.proofs.Entries.{entry-read, entry-takes}
 use Rattle.spelling_extensions.proofs.Texts.{count-lacks}
 use Rattle.spelling_extensions.proofs.Tree.{node-read}
 use Rattle.spelling_extensions.proofs.Undo.{undos-read}
 use Rattle.writing.proofs.Decimals.{decimalOf-value}
 
--- ---- an entry's ten numbers
+-- ---- an entry: its ten numbers, and its object name after them
 
 pub numbers-copied : (s : List ℕ) → Bytes s → 40 ≤ length s → put32s (be32s s 0 10) ≡ take 40 s
 numbers-copied s bytes long = put32s-be32s s 0 10 bytes long
+
+pub front-copied : (w v : ℕ) (k : Key) (p : ℕ) (s : List ℕ) (e : Entry) (m : ℕ) → Bytes s → readEntry w v k p s ≡ good e m
+    → put32s (e .numbers) ++ e .object ≡ take (40 + w) s
+front-copied w v k p s e m bytes q =
+    let (within, h) = entry-read w v k p s e m bytes q in
+    let front : List ℕ = put32s (e .numbers) ++ e .object in
+    let rest : List ℕ = put16 (flagsOf (h .extended) e) ++ (cond (h .extended) (put16 (wordOf e)) [] ++ h .tail) in
+    let whole : take m s ≡ front ++ rest = h .bytes ∙ sym (append-assoc (put32s (e .numbers)) (e .object) rest) in
+    let size : length front ≡ 40 + w = length-append (put32s (e .numbers)) (e .object) ∙ omega (arith, length-put32s (e .numbers), h .ten, h .object) in
+    let long : 42 + w ≤ m = entry-takes w v k p s e m q in
+    sym (sym (take-take (40 + w) m s (omega arith)) ∙ ap (take (40 + w)) whole ∙ take-at front rest (40 + w) size)
 
 -- ---- resolve undo: the whole data
 

@@ -1,10 +1,10 @@
 -- The counts of a cache tree hold on where entries of one name change and the nodes on the way to that name are made invalid.
-use mathlib.Core.Path.{_≡_, refl, sym, _∙_}
+use mathlib.Core.Path.{_≡_, refl, sym}
 use mathlib.Core.List.{List, [], _∷_}
-use mathlib.Core.Bool.{Bool, true, false, cond, _&&_}
+use mathlib.Core.Bool.{true, false, _&&_}
 use Prim.Native.Nat.{ℕ, _+_}
 use lib.ListN.{length, drop}
-use Rattle.format.specs.Records.{Node, Forest, nil, tree, Tree}
+use Rattle.format.specs.Records.{Forest, nil, tree, Tree}
 use Rattle.format.specs.Layout.{under, inside, okCount, okCounts, okTreeCounts}
 use Rattle.format.specs.Requests.{invalidNode, invalidWay, invalidTree}
 use Rattle.spelling_entries.proofs.Reading.{and-inv, and-both, by-test, by-cond}

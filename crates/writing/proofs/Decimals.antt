@@ -1,14 +1,14 @@
 -- A number is written in one decimal text, which says it; and a decimal text is the one that is written of what it says.
-use mathlib.Core.Path.{_≡_, refl, sym, ap, _∙_}
+use mathlib.Core.Path.{_≡_, refl, sym, _∙_}
 use mathlib.Core.List.{List, [], _∷_, _++_, append-nil}
-use mathlib.Core.Bool.{Bool, true, false, not, _&&_}
+use mathlib.Core.Bool.{true, not}
 use Prim.Native.Nat.{ℕ, zero, suc, _+_, _-_, _*_, _/_, _%_, _≤_, _<_}
 use native.Mathlib.Omega.{arith}
 use lib.Dec.{eqb, leb, ltb}
 use borrow.Author.Tests.{ltb-true, ltb-false, lt-ltb, le-ltb, leb-true, le-leb, eqb-true, eqb-false, ne-eqb, not-true}
 use Rattle.format.specs.Bytes.{digits, decimal, valueFrom, value}
 use Rattle.format.specs.Writer.{digitsOf, decimalOf}
-use Rattle.spelling_entries.proofs.Reading.{false-true, and-inv, and-both, by-test, by-cond}
+use Rattle.spelling_entries.proofs.Reading.{false-true, and-inv, by-test, by-cond}
 
 -- ---- the digits of n in front of others
 

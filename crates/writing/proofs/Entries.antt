@@ -1,14 +1,14 @@
 -- Sound entries spell what is written of them, and entries that are spelled are sound.
 use mathlib.Core.Path.{_≡_, refl, sym, _∙_}
-use mathlib.Core.List.{List, [], _∷_, _++_}
-use mathlib.Core.Bool.{Bool, true, false, not, _&&_, _||_}
-use Prim.Native.Nat.{ℕ, _+_, _≤_}
+use mathlib.Core.List.{List}
+use mathlib.Core.Bool.{Bool, true, false, _||_}
+use Prim.Native.Nat.{ℕ, _≤_}
 use native.Mathlib.Omega.{arith}
 use lib.ListN.{length, length-append}
 use lib.Dec.{eqb}
 use borrow.Author.Tests.{eqb-true}
 use Rattle.format.specs.Names.{compare, rises}
-use Rattle.format.specs.Records.{Entry, Key, keyOf}
+use Rattle.format.specs.Records.{Entry, Key}
 use Rattle.format.specs.Layout.{fixedLength, okExtended, IsEntry, Entries, entries-end, entries-more}
 use Rattle.format.specs.Writer.{needsWord, writeName, writeRest, writeEntry, writeEntries}
 use Rattle.format.specs.Requests.{anyWord}

@@ -1,18 +1,17 @@
 -- Sound records spell the file that is written of them, so it is read back as these records; and records that spell a file are sound.
 use mathlib.Core.Path.{_≡_, refl, ap, _∙_}
 use mathlib.Core.List.{List, [], _∷_, _++_, append-assoc, append-nil}
-use mathlib.Core.Bool.{true}
 use mathlib.Core.Option.{Option, none, some}
 use Prim.Native.Nat.{ℕ, _+_, _≤_, _<_}
 use native.Mathlib.Omega.{arith}
 use lib.ListN.{length, length-append}
-use Rattle.format.specs.Bytes.{put32}
-use Rattle.format.specs.Records.{Entry, Tree, Undo, Records}
+use Rattle.format.specs.Bytes.{Bytes, put32}
+use Rattle.format.specs.Records.{Tree, Undo, Records}
 use Rattle.format.specs.Layout.{Extension, cacheTree, resolveUndo, other, TREE, REUC, DIRC, Says, IsExtension, Extensions, extensions-end, extensions-more, trees, undos, only, names, Body, Spells}
 use Rattle.format.specs.Reading.{good}
 use Rattle.format.specs.Reader.{Contents, readFile}
 use Rattle.format.specs.Writer.{writeEntries, writeTree, writeUndos, writeExtension, writeCacheTree, writeResolveUndo, writeExtensions, writeHeader, writeBody, writeFile}
-use Rattle.spelling.proofs.File.{spelled-read}
+use Rattle.spelling.proofs.File.{spelled-read, read-spelled}
 use Rattle.writing.specs.Sound.{SoundTree, SoundUndos, Sound, Writable}
 use Rattle.writing.proofs.Entries.{entries-written, entries-long, entries-sound}
 use Rattle.writing.proofs.Tree.{tree-written, tree-sound}
@@ -149,3 +148,8 @@ spelled-sound {r = r} h =
       cacheTree = λ t e. tree-among (b .extensions-are) t (b .tree-is ∙ ap only e);
       resolveUndo = λ us e. undo-among (b .extensions-are) us (b .undo-is ∙ ap only e);
     }
+
+-- so are those of a file that was read
+pub read-sound : (w : ℕ) (hash : List ℕ → List ℕ) → ((b : List ℕ) → length (hash b) ≡ w) → (f : List ℕ) (c : Contents) (m : ℕ) → Bytes f
+    → readFile w hash f ≡ good c m → Sound w (c .records)
+read-sound w hash width f c m bytes q = spelled-sound (read-spelled w hash width f c m bytes q)
