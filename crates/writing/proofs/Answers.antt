@@ -1,0 +1,103 @@
+-- The bytes that a request answers are spelled by the result's records, and are read back as these.
+use mathlib.Core.Path.{_≡_, refl}
+use mathlib.Core.List.{List, []}
+use mathlib.Core.Bool.{true, false, cond, not, _&&_}
+use Prim.Native.Nat.{ℕ, _+_, _≤_}
+use native.Mathlib.Omega.{arith}
+use lib.ListN.{length}
+use lib.Dec.{eqb, leb}
+use borrow.Author.Tests.{eq-eqb, leb-true, ltb-true, not-true}
+use Rattle.format.specs.Bytes.{fit32}
+use Rattle.format.specs.Records.{Entry, Key, Records}
+use Rattle.format.specs.Layout.{Spells}
+use Rattle.format.specs.Reading.{good}
+use Rattle.format.specs.Reader.{readFile}
+use Rattle.format.specs.Writer.{writeEntries, writeBody, writeFile}
+use Rattle.format.specs.Requests.{putRecord, removeRecord, anyWord, okAsked, versionFor, fitting, writing, rewriteRequest, putRequest, removeRequest}
+use Rattle.spelling_entries.proofs.Reading.{and-inv, by-test, by-cond, good-inv, need-inv}
+use Rattle.writing.specs.Sound.{SoundEntry, Sound, Writable}
+use Rattle.writing.proofs.File.{written-spelled, read-written}
+use Rattle.writing.proofs.Edits.{put-sound, remove-sound}
+
+-- ---- the version
+
+asked-between : (asked : ℕ) (es : List Entry) → okAsked asked ≡ true → (2 ≤ versionFor asked es) × (versionFor asked es ≤ 4)
+unfolding okAsked versionFor
+asked-between asked es ok =
+    by-test (eqb asked 0)
+    (λ free. rw free (by-cond (λ v. (2 ≤ v) × (v ≤ 4)) (anyWord es) 3 2 (λ e. omega arith) (λ e. omega arith)))
+    (λ fixed.
+    let (low, high) = and-inv (leb 2 asked) (leb asked 4) (rw fixed at ok) in
+    rw fixed (leb-true _ _ low, leb-true _ _ high))
+
+asked-no-word : (asked : ℕ) (es : List Entry) → not (eqb asked 2 && anyWord es) ≡ true → versionFor asked es ≡ 2 → anyWord es ≡ false
+unfolding versionFor
+asked-no-word asked es test =
+    by-cond (λ v. v ≡ 2 → anyWord es ≡ false) (eqb asked 0) (cond (anyWord es) 3 2) asked
+    (λ free. by-cond (λ v. v ≡ 2 → anyWord es ≡ false) (anyWord es) 3 2 (λ e is. absurd (omega arith)) (λ e is. e))
+    (λ fixed is. let two : eqb asked 2 ≡ true = eq-eqb asked 2 is in not-true (anyWord es) (rw two at test))
+
+-- ---- what is answered
+
+-- n bytes, the file of the version v and the records r, within an output of room bytes
+pub record Answered (w : ℕ) (hash : List ℕ → List ℕ) (v : ℕ) (r : Records) (room : ℕ) (bytes : List ℕ) (n : ℕ) : Type 0 where
+  pub writable : Writable w v r
+  pub file : bytes ≡ writeFile w hash v r
+  pub size : n ≡ length bytes
+  pub short : n ≤ 16777216
+  pub fits : n ≤ room
+
+module _ {w : ℕ} {hash : List ℕ → List ℕ} {v : ℕ} {r : Records} {room : ℕ} {bytes : List ℕ} {n : ℕ} (h : Answered w hash v r room bytes n) where
+  file-short : length (writeFile w hash v r) ≤ 16777216
+  file-short = rw (← (h .file), ← (h .size)) (h .short)
+
+  pub answered-spelled : Spells w hash r bytes
+  answered-spelled = rw (h .file) (written-spelled w hash v r (h .writable) file-short)
+
+  pub answered-read : ((b : List ℕ) → length (hash b) ≡ w)
+      → readFile w hash bytes
+      ≡ good (record { version = v; end = 12 + length (writeEntries w v [] (r .entries)); records = r }) (length (writeBody w v r))
+  answered-read width = rw (h .file) (read-written w hash width v r (h .writable) file-short)
+
+-- ---- the requests
+
+module _ {w : ℕ} {hash : List ℕ → List ℕ} (asked room : ℕ) (bytes : List ℕ) (n : ℕ) where
+  writing-answers : (r : Records) → okAsked asked ≡ true → Sound w r → writing w hash asked room r ≡ good bytes n
+      → Answered w hash (versionFor asked (r .entries)) r room bytes n
+  unfolding writing fitting
+  writing-answers r ok sound q =
+      need-inv _ _ _ _ _ _ q λ test q₁.
+      need-inv _ _ _ _ _ _ q₁ λ short q₂.
+      need-inv _ _ _ _ _ _ q₂ λ fits q₃.
+      good-inv _ _ _ _ q₃ λ is size.
+      rw (← is, ← size) (record {
+        writable = record { sound = sound; two-to-four = asked-between asked (r .entries) ok; no-word = asked-no-word asked (r .entries) test };
+        file = refl;
+        size = refl;
+        short = leb-true _ _ short;
+        fits = leb-true _ _ fits;
+      })
+
+  pub rewrite-answers : (r : Records) → Sound w r → rewriteRequest w hash asked room r ≡ good bytes n
+      → Answered w hash (versionFor asked (r .entries)) r room bytes n
+  unfolding rewriteRequest
+  rewrite-answers r sound q = need-inv _ _ _ _ _ _ q λ ok q₁. writing-answers r ok sound q₁
+
+  -- the request tests the entry's mode, stage and name
+  pub put-answers : (e : Entry) (r : Records) → Sound w r → length (e .numbers) ≡ 10 → fit32 (e .numbers) ≡ true → length (e .object) ≡ w
+      → putRequest w hash asked e room r ≡ good bytes n
+      → Answered w hash (versionFor asked (putRecord w e r .entries)) (putRecord w e r) room bytes n
+  unfolding putRequest
+  put-answers e r sound ten fit object q =
+      need-inv _ _ _ _ _ _ q λ ok q₁.
+      need-inv _ _ _ _ _ _ q₁ λ mode q₂.
+      need-inv _ _ _ _ _ _ q₂ λ stage q₃.
+      need-inv _ _ _ _ _ _ q₃ λ name q₄.
+      let own : SoundEntry w e = record { ten = ten; fit = fit; mode = mode; object = object; stage = ltb-true _ _ stage; name = name } in
+      writing-answers (putRecord w e r) ok (put-sound e sound own) q₄
+
+  pub remove-answers : (k : Key) (r : Records) → Sound w r → removeRequest w hash asked k room r ≡ good bytes n
+      → Answered w hash (versionFor asked (removeRecord w k r .entries)) (removeRecord w k r) room bytes n
+  unfolding removeRequest
+  remove-answers k r sound q =
+      need-inv _ _ _ _ _ _ q λ ok q₁. need-inv _ _ _ _ _ _ q₁ λ there q₂. writing-answers (removeRecord w k r) ok (remove-sound k sound) q₂

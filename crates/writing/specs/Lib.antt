@@ -1,0 +1,2 @@
+-- Records that a file can have.
+pub mod Sound
