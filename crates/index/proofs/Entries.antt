@@ -17,7 +17,8 @@ use Rattle.file.specs.declared.Fields.{Fields}
 use Rattle.file.specs.declared.Shown.the-variants as S
 use Rattle.file.specs.Answers.{View, refused, inFile, inWorkspace, pick, cleared, holding, workAfter, nameIn, entryWith, entrySaid}
 use Rattle.file.proofs.Laws.{cleared-large, holding-after, holding-name, part-in}
-use Rattle.index.specs.Calls.{bodyOf, EntryShows}
+use Rattle.file_contents.specs.Contents.{bodyOf}
+use Rattle.index.specs.Calls.{EntryShows}
 use Rattle.index.proofs.Views.{cleared-past, part-within, pick-file, pick-work}
 
 module _ (v : ℕ) (f written : List ℕ) (at : ℕ) (st : Step) (o : Option F.Entry) (found : o ≡ some (entryAt v (bodyOf f) written at st))

@@ -3,4 +3,4 @@ pub mod Views
 pub mod Entries
 pub mod Nodes
 pub mod Records
-pub mod Bodies
+pub mod Summaries

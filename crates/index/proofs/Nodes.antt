@@ -28,7 +28,8 @@ use Rattle.file.proofs.Laws.{part-in}
 use Rattle.extensions.specs.declared.TreePlace.{TreePlace}
 use Rattle.extensions.specs.Heads.{part}
 use Rattle.extensions.specs.Found.{TreeIs, TreeFound}
-use Rattle.index.specs.Calls.{bodyOf, NodeShows}
+use Rattle.file_contents.specs.Contents.{bodyOf}
+use Rattle.index.specs.Calls.{NodeShows}
 use Rattle.index.proofs.Views.{part-within, part-of-body, item-none, item-some, pick-none, pick-file}
 
 -- ---- a tree that was found, with more than k nodes

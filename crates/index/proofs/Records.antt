@@ -18,7 +18,8 @@ use Rattle.file.proofs.Laws.{part-in}
 use Rattle.extensions.specs.declared.UndoPlace.{UndoPlace}
 use Rattle.extensions.specs.Heads.{part}
 use Rattle.extensions.specs.Found.{UndoFound}
-use Rattle.index.specs.Calls.{bodyOf, UndoShows}
+use Rattle.file_contents.specs.Contents.{bodyOf}
+use Rattle.index.specs.Calls.{UndoShows}
 use Rattle.index.proofs.Views.{part-within, part-of-body, item-none, item-some, pick-none, pick-file}
 
 item-is : (n : ℕ) (us : List F.Undo) → item n us ≡ getElem? us n

@@ -21,7 +21,8 @@ use Rattle.file.specs.declared.UndoAnswer.{UndoAnswer}
 use Rattle.file.specs.Answers.{tooSmall, View, refused, inFile, inWorkspace, pick, given, cleared, checkedOf, checkAnswer, entryOf, entryAnswer, nodeOf, nodeAnswer, undoOf, undoAnswer, entrySaid, nodeSaid, undoSaid, refusedEntry, refusedNode, refusedUndo}
 use Rattle.file.proofs.Laws.{small, large, cleared-large}
 use Rattle.extensions.specs.Heads.{part}
-use Rattle.index.specs.Calls.{bodyOf, inRoom, EntryShows, NodeShows, UndoShows}
+use Rattle.file_contents.specs.Contents.{bodyOf, inRoom}
+use Rattle.index.specs.Calls.{EntryShows, NodeShows, UndoShows}
 
 -- ---- lists
 
@@ -31,13 +32,6 @@ part-within m zero n s h = take-take n m s (omega arith)
 part-within zero (suc at) n s h = absurd (omega arith)
 part-within (suc m) (suc at) n [] h = refl
 part-within (suc m) (suc at) n (x ∷ s) h = part-within m at n s (omega arith)
-
--- the body's length
-pub file-long : (f : List ℕ) → 12 ≤ length (bodyOf f) → 32 ≤ length f
-file-long f h = let l = length-take (length f - 20) f in omega arith
-
-pub body-room : (f work : List ℕ) → 32 ≤ length f → length f ≤ 16777216 → 8192 ≤ length work → Room (bodyOf f) work
-body-room f work long short room = let l = length-take (length f - 20) f in record { least = omega arith; most = omega arith; room = room }
 
 -- data in the body are data in the file
 pub part-of-body : (f : List ℕ) (a e : ℕ) → a ≤ e → e ≤ length (bodyOf f) → part (bodyOf f) a e ≡ part f a e
@@ -61,9 +55,6 @@ module _ {A : Type 0} where
 pub cleared-past : (work : List ℕ) → 8192 ≤ length work → drop 8192 (cleared work) ≡ drop 8192 work
 cleared-past work room = rw (cleared-large work room) (drop-at (replicate 8192 0) (drop 8192 work) 8192 (length-replicate {A = ℕ} 8192 0))
 
-pub cleared-by : (work after left : List ℕ) → 8192 ≤ length work → after ≡ replicate 8192 0 ++ left → left ≡ drop 8192 work → after ≡ cleared work
-cleared-by work after left room e rest = e ∙ rw (rest, cleared-large work room)
-
 -- ---- views
 
 module _ {A : Type 0} where
@@ -78,22 +69,6 @@ module _ {A : Type 0} where
   pick-work t o a f e = rw (f, e)
 
 -- the answers, from the reading with a workspace that may be too small
-pub in-room : (work : List ℕ) (x : Read Contents) → 8192 ≤ length work → inRoom work x ≡ x
-unfolding inRoom
-in-room work x h = rw (large work h)
-
-pub no-room : (work : List ℕ) (x : Read Contents) → length work < 8192 → inRoom work x ≡ bad 19 0
-unfolding inRoom
-no-room work x h = rw (small work h)
-
-pub room-of : (work : List ℕ) (x : Read Contents) (c : Contents) (m : ℕ) → inRoom work x ≡ good c m → 8192 ≤ length work
-unfolding inRoom tooSmall
-room-of work x c m e = by (ltb (length work) 8192) refl e
-  where
-    by : (t : Bool) → ltb (length work) 8192 ≡ t → cond t (bad 19 0) x ≡ good c m → 8192 ≤ length work
-    by true q e = bad-good _ _ _ _ e
-    by false q e = ltb-false (length work) 8192 q
-
 module _ (work : List ℕ) (k : ℕ) (x y : Read Contents) (e : inRoom work x ≡ y) where
   check-by : (t : Bool) → cond t (K.Refused 19 0) (checkedOf x) ≡ checkedOf (cond t (bad 19 0) x)
   check-by true = refl

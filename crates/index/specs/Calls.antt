@@ -1,12 +1,9 @@
--- What the calls leave behind, from the reading of the whole file.
+-- What the calls leave behind.
 use mathlib.Core.Path.{_≡_}
 use mathlib.Core.List.{List}
-use mathlib.Core.Bool.{Bool, true, false, cond}
-use Prim.Native.Nat.{ℕ, _-_, _≤_}
-use lib.ListN.{length, take, drop}
+use mathlib.Core.Bool.{Bool, true, false}
+use Prim.Native.Nat.{ℕ}
 use Rattle.format.specs.Records as F
-use Rattle.format.specs.Reading.{Read, bad, good}
-use Rattle.format.specs.Reader.{Contents, readEntries}
 use Rattle.file.specs.declared.Count.{Count}
 use Rattle.file.specs.declared.Count.the-variants.{Absent, Present}
 use Rattle.file.specs.declared.Checked.{Checked}
@@ -14,41 +11,8 @@ use Rattle.file.specs.declared.Checked.the-variants as K
 use Rattle.file.specs.declared.EntryAnswer.{EntryAnswer}
 use Rattle.file.specs.declared.NodeAnswer.{NodeAnswer}
 use Rattle.file.specs.declared.UndoAnswer.{UndoAnswer}
-use Rattle.file.specs.Answers.{tooSmall, View, refused, workAfter, entrySaid, nodeSaid, undoSaid, refusedEntry, refusedNode, refusedUndo}
-use Rattle.extensions.specs.Found.{TreeFound, UndoFound}
-use Rattle.index.specs.declared.Parts.{Parts}
+use Rattle.file.specs.Answers.{View, refused, workAfter, entrySaid, nodeSaid, undoSaid, refusedEntry, refusedNode, refusedUndo}
 use Rattle.index.specs.declared.CheckAnswer.{CheckAnswer}
-use Rattle.index.specs.declared.Whole.{Whole}
-use Rattle.index.specs.declared.Whole.the-variants as W
-
--- the body: all bytes but the checksum
-abbrev pub bodyOf : List ℕ → List ℕ
-bodyOf f = take (length f - 20) f
-
--- ---- the whole file
-
--- the reading x with a workspace that may be too small
-unfoldable pub inRoom : List ℕ → Read Contents → Read Contents
-inRoom work x = cond (tooSmall work) (bad 19 0) x
-
--- the reading x has the contents of which the code answers parts; b is the body, wn and wr are the numbers of the node and of the
--- record that were wanted
-pub record Contains (wn wr : ℕ) (x : Read Contents) (b : List ℕ) (parts : Parts) : Type 0 where
-  pub contents : Contents
-  pub taken : ℕ
-  pub read : x ≡ good contents taken
-  pub least : 12 ≤ length b
-  pub most : length b ≤ 16777216
-  pub version : contents .version ≡ parts .version
-  pub end : contents .end ≡ parts .end
-  pub counted : length (contents .records .entries) ≡ parts .count
-  pub entries : readEntries 20 (parts .version) (parts .count) F.start 12 (drop 12 b) ≡ good (contents .records .entries) (parts .end - 12)
-  pub tree : TreeFound wn b (contents .records .cacheTree) (parts .found .tree)
-  pub undo : UndoFound wr b (contents .records .resolveUndo) (parts .found .undo)
-
-abbrev pub WholeOf : ℕ → ℕ → Read Contents → List ℕ → Whole → Type 0
-WholeOf wn wr x b (W.Bad n p) = x ≡ bad n p
-WholeOf wn wr x b (W.Good parts) = Contains wn wr x b parts
 
 -- ---- what is shown. A refusal has its number and its place, and zeros and false in all other fields
 

@@ -6,23 +6,20 @@ ghost use mathlib.Core.Option.{Option};
 ghost use Prim.Native.Nat.{ℕ, _+_, _≤_, _<_};
 ghost use lib.ListN.{length, take, drop, replicate, getElem?};
 ghost use lib.Dec.{eqb};
-ghost use Rattle.format.specs.Bytes.{be32};
 ghost use Rattle.format.specs.Records as F;
 ghost use Rattle.format.specs.Reading.{good};
-ghost use Rattle.format.specs.Reader.{readEntries, readBody, readFile};
+ghost use Rattle.format.specs.Reader.{readEntries, readFile};
 ghost use Rattle.hash.specs.Sha1.{sha1};
 ghost use Rattle.entries_run.specs.Steps.{Room};
 ghost use Rattle.extensions.specs.Found.{TreeFound, UndoFound};
 ghost use Rattle.file.specs.declared.Count.the-variants.{Absent, Present};
 ghost use Rattle.file.specs.Answers.{cleared, pick, listed, itemsOf, checkAnswer, entryAnswer, nodeAnswer, undoAnswer};
-ghost use Rattle.index.specs.Calls.{bodyOf, inRoom, isPresent, numberOf, plainOf, WholeOf, EntryShows, NodeShows, UndoShows};
+ghost use Rattle.file_contents.specs.Contents.{bodyOf};
+ghost use Rattle.index.specs.Calls.{isPresent, numberOf, plainOf, EntryShows, NodeShows, UndoShows};
 use cache_tree::node::Node;
 use cache_tree::node::NodeRead;
 use cache_tree::node::read_node;
-use entries_run::Run;
 use entries_run::Sought;
-use extensions::Extended;
-use extensions::Found;
 use extensions::TreePlace;
 use extensions::UndoPlace;
 use file::Checked;
@@ -35,21 +32,8 @@ use file::UndoAnswer;
 use file::refused_entry;
 use file::refused_node;
 use file::refused_undo;
-use file_header::Header;
-
-// What an accepted file has; end is the byte where entries end.
-struct Parts {
-    pub version: u32,
-    pub count: u32,
-    pub end: usize,
-    pub found: Found,
-}
-
-// A refusal's number and place, or what the file has.
-enum Whole {
-    Bad(u32, usize),
-    Good(Parts),
-}
+use file_contents::Whole;
+use file_contents::read_cleared;
 
 // ---- the parts of an accepted file, shown
 
@@ -151,83 +135,6 @@ fn count_of(there: bool, n: u32) -> Count
         return Count::Present(n);
     }
     Count::Absent
-}
-
-// ---- the whole file
-
-// The body b of version v with so many entries.
-fn read_body(
-    b: &[u8],
-    v: u32,
-    count: u32,
-    work: &mut [u8],
-    seed: u64,
-    want_node: u32,
-    want_record: u32,
-) -> Whole
-    requires { ⌜ Room (now b) (now work) × (count ≡ be32 (now b) 8) ⌝ }
-    ensures { λ r. ⌜ WholeOf «want_node» «want_record» (readBody 20 v (now (b .entry))) (now (b .entry)) r × (drop 8192 (now (work .exit)) ≡ drop 8192 (now (work .entry))) ⌝ }
-{
-    let run = entries_run::run_entries(b, v, &mut *work, count);
-    match run {
-        Run::Bad(n, p) => Whole::Bad(n, p),
-        Run::Good(end) => {
-            let read = extensions::read_extensions(
-                b,
-                end,
-                v,
-                count,
-                work,
-                seed,
-                want_node,
-                want_record,
-            );
-            match read {
-                Extended::Bad(n, p) => Whole::Bad(n, p),
-                Extended::Good(found) => Whole::Good(Parts {
-                    version: v,
-                    count: count,
-                    end: end,
-                    found: found,
-                }),
-            }
-        }
-    }
-}
-
-// The whole file. want_node and want_record are numbers of a node and of a record, from 0 on.
-fn read_whole(file: &[u8], work: &mut [u8], want_node: u32, want_record: u32) -> Whole
-    requires { ⌜ 8192 ≤ length (now work) ⌝ }
-    ensures { λ r. ⌜ WholeOf «want_node» «want_record» (readFile 20 sha1 (now (file .entry))) (bodyOf (now (file .entry))) r × (drop 8192 (now (work .exit)) ≡ drop 8192 (now (work .entry))) ⌝ }
-{
-    let header = file_header::read_header(file);
-    match header {
-        Header::Bad(n, p) => Whole::Bad(n, p),
-        Header::Good(h) => {
-            let n = file.len() - 20;
-            read_body(
-                &file[..n],
-                h.version,
-                h.count,
-                work,
-                h.seed,
-                want_node,
-                want_record,
-            )
-        }
-    }
-}
-
-// The same for any workspace, which is cleared afterwards; one below 8,192 bytes is refused with 19 and left as it is.
-fn read_cleared(file: &[u8], work: &mut [u8], want_node: u32, want_record: u32) -> Whole
-    ensures { λ r. ⌜ WholeOf «want_node» «want_record» (inRoom (now (work .entry)) (readFile 20 sha1 (now (file .entry)))) (bodyOf (now (file .entry))) r × (now (work .exit) ≡ cleared (now (work .entry))) ⌝ }
-{
-    if work.len() < fields::LONGEST {
-        return Whole::Bad(19, 0);
-    }
-    let whole = read_whole(file, &mut *work, want_node, want_record);
-    fields::clear_from(work, 0);
-    whole
 }
 
 // ---- the calls

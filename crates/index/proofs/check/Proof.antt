@@ -2,9 +2,9 @@
 use mathlib.Core.Path.{sym, _∙_}
 use Rattle.format.specs.Reader.{readFile}
 use Rattle.hash.specs.Sha1.{sha1}
-use Rattle.index.specs.Calls.{bodyOf, inRoom, Contains}
+use Rattle.file_contents.specs.Contents.{bodyOf, inRoom, Contains}
 use Rattle.index.proofs.Views.{check-is}
-use Rattle.index.proofs.Bodies.{check-says}
+use Rattle.index.proofs.Summaries.{check-says}
 use borrow.Author.Needs.{needs}
 use Rattle.index.proofs.check.Statement.{statement}
 use Rattle.index.proofs.check.Tie as tie

@@ -5,8 +5,9 @@ use lib.Seq.{length-take-le}
 use lib.Dec.{eqb}
 use borrow.Author.Tests.{eq-eqb, ne-eqb}
 use Rattle.entries_run.specs.Steps.{Placed}
-use Rattle.index.specs.Calls.{bodyOf}
-use Rattle.index.proofs.Views.{cleared-by, file-long, pick-none, entry-refused}
+use Rattle.file_contents.specs.Contents.{bodyOf}
+use Rattle.file_contents.proofs.Room.{cleared-by, file-long}
+use Rattle.index.proofs.Views.{pick-none, entry-refused}
 use Rattle.index.proofs.Entries.{shown-file, shown-work}
 use borrow.Author.Needs.{needs}
 use Rattle.index.proofs.show_entry.Statement.{statement}

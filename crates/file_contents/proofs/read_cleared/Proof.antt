@@ -3,10 +3,10 @@ use mathlib.Core.Path.{sym}
 use Rattle.format.specs.Reader.{readFile}
 use Rattle.hash.specs.Sha1.{sha1}
 use Rattle.file.proofs.Laws.{cleared-small}
-use Rattle.index.proofs.Views.{cleared-by, in-room, no-room}
+use Rattle.file_contents.proofs.Room.{cleared-by, in-room, no-room}
 use borrow.Author.Needs.{needs}
-use Rattle.index.proofs.read_cleared.Statement.{statement}
-use Rattle.index.proofs.read_cleared.Tie as tie
+use Rattle.file_contents.proofs.read_cleared.Statement.{statement}
+use Rattle.file_contents.proofs.read_cleared.Tie as tie
 
 returns : tie.Need-returns
 returns c = (no-room _ _ (c .if1 .taken), sym (cleared-small _ (c .if1 .taken)))

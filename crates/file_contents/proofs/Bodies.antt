@@ -1,8 +1,6 @@
--- Laws of the reading of a body and of what check says of it.
+-- Laws of the reading of a body.
 use mathlib.Core.Path.{_≡_, refl, ap, _∙_}
 use mathlib.Core.List.{List}
-use mathlib.Core.Bool.{cond}
-use mathlib.Core.Option.{Option, none, some}
 use Prim.Native.Nat.{ℕ, zero, suc, _+_, _-_, _≤_}
 use native.Mathlib.Omega.{arith}
 use lib.ListN.{length, drop}
@@ -18,13 +16,8 @@ use Rattle.entries_run.specs.Steps.{runOf}
 use Rattle.entries_run.proofs.Steps.{runOf-bad, runOf-good}
 use Rattle.extensions.specs.declared.Found.{Found}
 use Rattle.extensions.specs.declared.Extended.the-variants as X
-use Rattle.extensions.specs.Found.{TreeFound, UndoFound}
 use Rattle.extensions.specs.Steps as E
-use Rattle.file.specs.declared.Count.the-variants.{Absent, Present}
-use Rattle.file.specs.declared.Checked.the-variants as K
-use Rattle.file.specs.Answers.{treeCount, undoCount, checkedOf}
-use Rattle.index.specs.declared.Parts.{Parts}
-use Rattle.index.specs.Calls.{Contains}
+use Rattle.file_contents.specs.Contents.{Contains}
 
 -- ---- how many entries are read
 
@@ -91,34 +84,3 @@ module _ (v : ℕ) (b : List ℕ) (count : ℕ) (counted : count ≡ be32 b 8) w
     pub body-accepted : (found : Found) → 12 ≤ length b → length b ≤ 16777216 → E.Ran wn wr v count b work end work′ (X.Good found)
         → Contains wn wr (readBody 20 v b) b (record { version = v; count = count; end = end; found = found })
     body-accepted found least most h = runOf-good _ end run λ es m e last. body-contains es m e end last least most wn wr found (h .answered es m e)
-
--- ---- what check says
-
-module _ (wn wr : ℕ) (b : List ℕ) (found : Found) where
-  tree-count : (o : Option F.Tree) → TreeFound wn b o (found .tree) → cond (found .tree .there) (Present (found .tree .nodes)) Absent ≡ treeCount o
-  tree-count none h = rw h
-  tree-count (some t) h = rw (h .there, h .nodes)
-
-  undo-count : (o : Option (List F.Undo)) → UndoFound wr b o (found .undo) → cond (found .undo .there) (Present (found .undo .records)) Absent ≡ undoCount o
-  undo-count none h = rw h
-  undo-count (some us) h = rw (h .there, h .records)
-
-pub check-says : (wn wr : ℕ) (x : Read Contents) (b : List ℕ) (parts : Parts) (h : Contains wn wr x b parts)
-    → K.Accepted
-    (record {
-      version = parts .version;
-      entries = parts .count;
-      end = parts .end;
-      nodes = cond (parts .found .tree .there) (Present (parts .found .tree .nodes)) Absent;
-      records = cond (parts .found .undo .there) (Present (parts .found .undo .records)) Absent;
-    })
-    ≡ checkedOf (good (h .contents) (h .taken))
-check-says wn wr x b parts h =
-    rw (
-      h .version,
-      h .end,
-      h .counted,
-      tree-count wn wr b (parts .found) (h .contents .records .cacheTree) (h .tree),
-      undo-count wn wr b (parts .found) (h .contents .records .resolveUndo) (h .undo),
-    )
-    refl

@@ -1,10 +1,10 @@
 -- The proof that `read_body` meets its contract.
 use mathlib.Core.Path.{sym, _∙_}
 use native.Mathlib.Omega.{arith}
-use Rattle.index.proofs.Bodies.{body-no-entries, body-refused, body-accepted}
+use Rattle.file_contents.proofs.Bodies.{body-no-entries, body-refused, body-accepted}
 use borrow.Author.Needs.{needs}
-use Rattle.index.proofs.read_body.Statement.{statement}
-use Rattle.index.proofs.read_body.Tie as tie
+use Rattle.file_contents.proofs.read_body.Statement.{statement}
+use Rattle.file_contents.proofs.read_body.Tie as tie
 
 run-entries-requires : tie.Need-run-entries-requires
 run-entries-requires c κs = search needs

@@ -3,10 +3,10 @@ use mathlib.Core.Path.{refl, sym}
 use native.Mathlib.Omega.{arith}
 use lib.Seq.{length-take-le}
 use Rattle.file_header.specs.Header.{Opened}
-use Rattle.index.proofs.Views.{body-room}
+use Rattle.file_contents.proofs.Room.{body-room}
 use borrow.Author.Needs.{needs}
-use Rattle.index.proofs.read_whole.Statement.{statement}
-use Rattle.index.proofs.read_whole.Tie as tie
+use Rattle.file_contents.proofs.read_whole.Statement.{statement}
+use Rattle.file_contents.proofs.read_whole.Tie as tie
 
 -- the header is accepted
 opened : (c : tie.After-header2) → Opened (c .before .before .before .before .before .args .file .now) (c .header2 .given .0 .0)

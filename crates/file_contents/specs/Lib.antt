@@ -1,0 +1,2 @@
+-- What an accepted file has.
+pub mod Contents
