@@ -1,2 +1,3 @@
 -- What the calls answer, from what the file says.
 pub mod Answers
+pub mod Writing

@@ -79,6 +79,12 @@ pub struct UndoAnswer {
     pub third: [u8; 20],
 }
 
+// The answer of rewrite, put and remove: a refusal's number and place, or how many bytes were written.
+pub enum Written {
+    Refused(u32, usize),
+    Done(usize),
+}
+
 // ---- the fields of an entry
 
 // The object name at a place.
