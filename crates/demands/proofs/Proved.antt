@@ -1,23 +1,23 @@
 -- The proofs of demand 3, from the reading of a file that records spell.
 use mathlib.Core.Path.{_≡_, refl, sym, ap, _∙_}
 use mathlib.Core.Logic.{_⊎_, inl, inr}
-use mathlib.Core.Bool.{Bool, true, false, cond}
+use mathlib.Core.Bool.{false}
 use mathlib.Core.List.{List}
 use Prim.Native.Nat.{ℕ, _<_}
 use native.Mathlib.Omega.{arith}
 use lib.ListN.{length, take, getElem?}
 use lib.Dec.{eqb}
 use Rattle.format.specs.Bytes.{Bytes}
-use Rattle.format.specs.Records.{Records, Entry, Item, Undo}
+use Rattle.format.specs.Records.{Records}
 use Rattle.format.specs.Layout.{Spells}
 use Rattle.format.specs.Reading.{Read, bad, good}
 use Rattle.format.specs.Reader.{Contents, readFile}
+use Rattle.format_laws.proofs.Numbers.{bytes-take}
 use Rattle.file.specs.declared.Summary.{Summary}
 use Rattle.file.specs.declared.Checked.{Checked}
 use Rattle.file.specs.declared.Checked.the-variants.{Refused, Accepted}
-use Rattle.file.specs.Answers.{tooSmall, treeCount, undoCount, summaryOf, checkedOf, checkAnswer, given, entryAnswer, nodeAnswer, undoAnswer, View, pick, listed, itemsOf, entryOf, nodeOf, undoOf}
-use Rattle.spelling_entries.proofs.Bytes.{bytes-take}
-use Rattle.spelling.proofs.File.{contentsOf, spelled-read, read-spelled, one, cut}
+use Rattle.file.specs.Answers.{tooSmall, summaryOf, checkedOf, checkAnswer, given, entryAnswer, nodeAnswer, undoAnswer, View, pick, listed, itemsOf, entryOf, nodeOf, undoOf}
+use Rattle.spelling.proofs.File.{contentsOf, spelled-read, read-spelled, cut}
 use Rattle.demands.proofs.Statements.{check, entry, node, undo}
 
 module _ (work : List ℕ) (room : tooSmall work ≡ false) where

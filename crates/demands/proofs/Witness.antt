@@ -1,11 +1,11 @@
 -- The statements of demand 3 are not empty: a file of 198 bytes that is accepted, so spelled, and whose cut to 96 bytes is accepted too. The
 -- cut's checksum reads, in the whole file, as the head of an extension that is passed over.
 use mathlib.Core.Path.{_≡_, refl}
-use mathlib.Core.List.{List, [], _∷_, _++_}
+use mathlib.Core.List.{List, [], _∷_}
 use mathlib.Core.Bool.{Bool, true, false, _&&_}
-use Prim.Native.Nat.{ℕ, zero, suc, _<_}
+use Prim.Native.Nat.{ℕ, zero, suc}
 use native.Mathlib.Omega.{arith}
-use lib.ListN.{length, take, getD, replicate}
+use lib.ListN.{take, replicate}
 use lib.Dec.{ltb}
 use borrow.Author.Tests.{ltb-true}
 use Rattle.hash_words.specs.Padding.{be64, padded, pad}
@@ -16,14 +16,14 @@ use Rattle.format.specs.Bytes.{Bytes, be16, be32, be32s, two, eqList, before, l
 use Rattle.format.specs.Names.{componentsFrom, components, okComponent, okComponents, okName, lengthField, compare}
 use Rattle.format.specs.Layout.{okMode, fixedLength, entryLength, okNodeName, has, distinct, under, inside, files, allValid, sum, okCount, okCounts, okTreeCounts, modeText, someStage, optional, trees, undos, names}
 use Rattle.format.specs.Reading.{need, shift, bind}
-use Rattle.format.specs.Reader.{Contents, isSet, okWord, plainLength, readPlain, readN, joined, readSuffix, readPacked, readName, entryOf, readTail, readFixed, readEntry, readEntries, readText, countIn, needSome, readCount, readSubtrees, readObject, readNode, readSiblings, readForest, readNodes, readTree, modeIn, readMode, readStage, readStages, readUndo, readUndos, readData, readExtension, readExtensions, readBody, readFile}
+use Rattle.format.specs.Reader.{isSet, okWord, plainLength, readPlain, readN, joined, readSuffix, readPacked, readName, entryOf, readTail, readFixed, readEntry, readEntries, readText, countIn, needSome, readCount, readSubtrees, readObject, readNode, readSiblings, readForest, readNodes, readTree, modeIn, readMode, readStage, readStages, readUndo, readUndos, readData, readExtension, readExtensions, readBody, readFile}
 use Rattle.format.specs.Records.{Records}
 use Rattle.format.specs.Layout.{Spells}
+use Rattle.format_laws.proofs.Tests.{and-inv}
 use Rattle.file.specs.declared.Summary.{Summary}
 use Rattle.file.specs.declared.Count.the-variants.{Absent}
-use Rattle.file.specs.declared.Checked.the-variants.{Refused, Accepted}
+use Rattle.file.specs.declared.Checked.the-variants.{Accepted}
 use Rattle.file.specs.Answers.{tooSmall, checkAnswer}
-use Rattle.spelling_entries.proofs.Reading.{and-inv}
 use Rattle.demands.proofs.Statements.{check}
 use Rattle.demands.proofs.Demands.{sha1-demand3}
 
