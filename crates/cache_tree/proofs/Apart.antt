@@ -5,32 +5,16 @@ use mathlib.Core.Bool.{Bool, true, false, cond, true≢false}
 use Prim.Native.Nat.{ℕ, zero, suc, _+_, _-_, _≤_, _<_}
 use native.Mathlib.Nat.{zero-add, suc-add}
 use native.Mathlib.Omega.{arith}
-use lib.ListN.{length, drop, replicate, length-replicate}
-use lib.Seq.{drop-at}
-use lib.Dec.{eqb}
-use borrow.Author.Tests.{eqb-true, eqb-false, eq-eqb, ne-eqb}
+use lib.ListN.{length, drop, replicate}
 use Rattle.format.specs.Bytes.{eqList}
+use Rattle.format_laws.proofs.Tests.{then-inv, else-inv}
+use Rattle.format_laws.proofs.Lists.{eqList-true, eqList-swap, past-zeros}
 use Rattle.cache_tree.specs.Flat.{treesLength, nameOf, restOf, namesOf, hasName, namesDiffer}
 use Rattle.cache_tree.specs.Filter.{hashOf, marked, markIn, allMarked, apart, restAfter}
-use Rattle.cache_tree.proofs.Orders.{cond-inv, eqList-same}
 use Rattle.cache_tree.proofs.Differ.{names-none, names-more, rest-at}
 use Rattle.cache_tree.proofs.Bits.{marked-in, marked-stays, length-mark, rest-mark}
 
 -- ---- one list of names after another
-
-eqb-swap : (x y : ℕ) → eqb x y ≡ eqb y x
-eqb-swap x y = by (eqb x y) refl
-  where
-    by : (b : Bool) → eqb x y ≡ b → b ≡ eqb y x
-    by true e = sym (eq-eqb y x (sym (eqb-true x y e)))
-    by false e = sym (ne-eqb y x (λ h. eqb-false x y e (sym h)))
-
-eqList-swap : (s t : List ℕ) → eqList s t ≡ eqList t s
-unfolding eqList
-eqList-swap [] [] = refl
-eqList-swap [] (y ∷ t) = refl
-eqList-swap (x ∷ s) [] = refl
-eqList-swap (x ∷ s) (y ∷ t) = rw (eqb-swap x y, eqList-swap s t)
 
 has-by : (e h g : Bool) → cond e true (cond h true g) ≡ cond (cond e true h) true g
 has-by true h g = refl
@@ -58,10 +42,6 @@ unfolding apart hasName
 apart-none [] = refl
 apart-none (x ∷ l) = apart-none l
 
-differ-inv : (h d : Bool) → cond h false d ≡ true → (h ≡ false) × (d ≡ true)
-differ-inv true d e = absurd (true≢false (sym e))
-differ-inv false d e = (refl, e)
-
 append-by : (h a d : Bool) → cond h false (cond a d false) ≡ cond (cond h false a) d false
 append-by true a d = refl
 append-by false a d = refl
@@ -71,7 +51,7 @@ differ-append : (c l : List (List ℕ)) → namesDiffer c ≡ true → namesDiff
 unfolding namesDiffer
 differ-append [] l e = rw (apart-none l)
 differ-append (x ∷ c) l e =
-    let i = differ-inv (hasName x c) (namesDiffer c) e in
+    let i = else-inv (hasName x c) (namesDiffer c) e in
     rw (has-append x c l, i .0, differ-append c l (i .1), apart-more x c l) (append-by (hasName x l) (apart c l) (namesDiffer l))
 
 equal-by : (h g d v : Bool) → (d ≡ false → v ≡ false) → cond h false d ≡ false → cond (cond h true g) false v ≡ false
@@ -89,7 +69,7 @@ equal-append (x ∷ c) l e = rw (has-append x c l) (equal-by (hasName x c) (hasN
 
 module _ (seed : ℕ) (w : List ℕ) where
   other-by : (x y : List ℕ) (b : Bool) → eqList x y ≡ b → marked w (hashOf seed y) ≡ true → marked w (hashOf seed x) ≡ false → b ≡ false
-  other-by x y true e m n = absurd (true≢false (sym m ∙ ap (λ (z : List ℕ). marked w (hashOf seed z)) (sym (eqList-same x y e)) ∙ n))
+  other-by x y true e m n = absurd (true≢false (sym m ∙ ap (λ (z : List ℕ). marked w (hashOf seed z)) (sym (eqList-true x y e)) ∙ n))
   other-by x y false e m n = refl
 
   -- one that is not marked is not among those that are
@@ -97,14 +77,14 @@ module _ (seed : ℕ) (w : List ℕ) where
   unfolding allMarked hasName
   unmarked x [] a n = refl
   unmarked x (y ∷ c) a n =
-      let i = cond-inv (marked w (hashOf seed y)) (allMarked seed w c) a in
+      let i = then-inv (marked w (hashOf seed y)) (allMarked seed w c) a in
       rw (other-by x y (eqList x y) refl (i .0) n) (unmarked x c (i .1) n)
 
   all-more : (x : List ℕ) (c : List (List ℕ)) → 8192 ≤ length w → allMarked seed w c ≡ true → allMarked seed (markIn w (hashOf seed x)) (c ++ (x ∷ [])) ≡ true
   unfolding allMarked
   all-more x [] h a = rw (marked-in w h (hashOf seed x))
   all-more x (y ∷ c) h a =
-      let i = cond-inv (marked w (hashOf seed y)) (allMarked seed w c) a in
+      let i = then-inv (marked w (hashOf seed y)) (allMarked seed w c) a in
       rw (marked-stays w h (hashOf seed x) (hashOf seed y) (i .0)) (all-more x c h (i .1))
 
 -- ---- the names of siblings and of those after them
@@ -211,4 +191,4 @@ chunk-whole n k t e d = ap (λ (j : ℕ). namesDiffer (namesOf j t)) (sym e) ∙
 -- the workspace after it was cleared
 module _ (w v : List ℕ) (is : v ≡ replicate 8192 0 ++ drop 8192 w) where
   pub clear-kept : drop 8192 v ≡ drop 8192 w
-  clear-kept = rw is (drop-at (replicate 8192 0) (drop 8192 w) 8192 (length-replicate {A = ℕ} 8192 0))
+  clear-kept = rw is (past-zeros 8192 (drop 8192 w))

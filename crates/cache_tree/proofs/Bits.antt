@@ -11,8 +11,8 @@ use lib.ListN.{length, getD, drop, set, length-set, drop-of-length-le}
 use lib.Seq.{drop-cons, drop-set-lt, getD-set-same, getD-set-other}
 use lib.Dec.{eqb}
 use borrow.Author.Tests.{eqb-true, eqb-false, eq-eqb}
+use Rattle.format_laws.proofs.Tests.{then-inv}
 use Rattle.cache_tree.specs.Filter.{stir, hashFrom, nextSpot, mask, hasBit, setBit, hasBits, setBits, marked, markIn}
-use Rattle.cache_tree.proofs.Orders.{cond-inv}
 
 -- ---- the hash, byte by byte
 
@@ -163,7 +163,7 @@ module _ (h : ℕ) where
   unfolding hasBits
   all-stay n zero w i g j room l k = refl
   all-stay n (suc m) w i g j room l k =
-      let c = cond-inv (hasBit w j) (hasBits m w g (nextSpot g j)) k in
+      let c = then-inv (hasBit w j) (hasBits m w g (nextSpot g j)) k in
       rw (stays-bits n w i j room l (c .0)) (all-stay n m w i g (nextSpot g j) room l (c .1))
 
 module _ (w : List ℕ) (room : 8192 ≤ length w) (h : ℕ) where

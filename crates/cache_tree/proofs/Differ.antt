@@ -8,12 +8,13 @@ use lib.ListN.{take, drop}
 use lib.Seq.{drop-drop}
 use Rattle.format.specs.Bytes.{eqList, before}
 use Rattle.format.specs.Reader.{readNode}
+use Rattle.format_laws.proofs.Lists.{drop-to}
+use Rattle.format_laws.proofs.Numbers.{suc-pred}
 use Rattle.cache_tree.specs.declared.node.Node as Code
 use Rattle.cache_tree.specs.declared.node.NodeRead.the-variants as R
 use Rattle.cache_tree.specs.Answers.{nodeAt}
 use Rattle.cache_tree.specs.Flat.{treesLength, nameOf, restOf, namesOf, hasName, namesDiffer, allDiffer}
 use Rattle.cache_tree.specs.Orders.{nameBelow, risesFrom}
-use Rattle.cache_tree.proofs.Readings.{drop-to}
 use Rattle.cache_tree.proofs.Nodes.{NodeIs, no-node}
 use Rattle.cache_tree.proofs.Flat.{differ-step}
 use Rattle.cache_tree.proofs.Orders.{rises-differ}
@@ -98,12 +99,9 @@ module _ (d : List ℕ) (place left : ℕ) where
   all-none h = let z : left ≡ 0 = omega arith in rw z
 
   module _ (some : 0 < left) where
-    more-is : left ≡ suc (left - 1)
-    more-is = omega arith
-
     pub all-stop : R.Bad ≡ nodeAt place (readNode 20 0 (drop place d)) → allDiffer left (drop place d) ≡ true
     unfolding allDiffer
-    all-stop e = no-node d place e λ n p q. rw (more-is, q)
+    all-stop e = no-node d place e λ n p q. rw (suc-pred left some, q)
 
     module _ (node : Code.Node) (is : NodeIs d place node) where
       all-step : allDiffer left (drop place d) ≡ cond (namesDiffer (namesOf (node .subtrees) (drop (node .next) d))) (allDiffer (left - 1) (drop (node .next) d)) false
@@ -111,7 +109,7 @@ module _ (d : List ℕ) (place left : ℕ) where
           let a = is .named in
           let b = is .ended in
           let e : node .next ≡ place + (node .next - place) = omega arith in
-          ap (λ (k : ℕ). allDiffer k (drop place d)) more-is
+          ap (λ (k : ℕ). allDiffer k (drop place d)) (suc-pred left some)
           ∙ differ-step (left - 1) (drop place d) (is .head) (node .next - place) (is .reads)
           ∙ rw (drop-to d place (node .next - place) (node .next) e, is .subtrees)
 

@@ -13,12 +13,12 @@ use Rattle.format.specs.Records.{Forest, Tree, Item, treeItems}
 use Rattle.format.specs.Layout.{okNodeName, distinct}
 use Rattle.format.specs.Reading.{Read, bad, good, need, shift, bind}
 use Rattle.format.specs.Reader.{readText, countIn, needSome, readCount, readSubtrees, readObject, readNode, readSiblings, readForest, readNodes}
+use Rattle.format_laws.proofs.Readings.{bad-good, need-inv, bind-inv}
 use Rattle.cache_tree.specs.declared.TreeRead.{TreeRead}
 use Rattle.cache_tree.specs.declared.TreeRead.the-variants as T
 use Rattle.cache_tree.specs.Answers.{levelIn}
 use Rattle.cache_tree.specs.Flat.{placeOf}
 use Rattle.cache_tree.specs.Shape.{readShape, treeOf, placed}
-use Rattle.cache_tree.proofs.Readings.{no-good, need-inv, bind-inv}
 use Rattle.cache_tree.proofs.Flat.{Shown}
 use Rattle.cache_tree.proofs.Shape.{tree-item, level-is}
 
@@ -121,15 +121,15 @@ tree-fault want p d e = shape-placed p 20 d ∙ by (readShape 20 0 d) (e ∙ sym
 -- ---- node number k of accepted data
 
 good-placed : {A : Type 0} (p m : ℕ) (a : A) (x : Read A) → placed p x ≡ good a m → x ≡ good a m
-good-placed p m a (bad n q) e = no-good 15 p m a e
+good-placed p m a (bad n q) e = bad-good 15 p a m e
 good-placed p m a (good b k) e = e
 
 shape-nodes : {X : Type 0} (p : ℕ) (d : List ℕ) (t : Tree) (m : ℕ) → readShape 20 p d ≡ good t m → ((n : ℕ) → readNodes 20 0 d ≡ good t n → X) → X
 unfolding readShape
 shape-nodes p d t m e f =
     bind-inv (readNodes 20 p d) _ t m e λ u a i q r is.
-    need-inv (eqb a (length d)) 15 p i t _ r λ whole r₁.
-    need-inv (distinct (u .subtrees)) 15 p i t _ r₁ λ differs r₂.
+    need-inv (eqb a (length d)) 15 p _ t i r λ whole r₁.
+    need-inv (distinct (u .subtrees)) 15 p _ t i r₁ λ differs r₂.
     let same : u ≡ t = cc in
     f a (good-placed p a t (readNodes 20 0 d) (sym (nodes-placed p 20 d) ∙ q ∙ ap (λ (v : Tree). good v a) same))
 

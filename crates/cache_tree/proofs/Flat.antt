@@ -14,11 +14,14 @@ use Rattle.format.specs.Records.{Node, Forest, nil, tree, width, Item, items}
 use Rattle.format.specs.Layout.{has, distinct, okNodeName}
 use Rattle.format.specs.Reading.{Read, bad, good, need, bind}
 use Rattle.format.specs.Reader.{Head, readText, readNode, readSiblings, readForest}
+use Rattle.format_laws.proofs.Lists.{drop-to}
+use Rattle.format_laws.proofs.Numbers.{suc-pred}
+use Rattle.format_laws.proofs.Readings.{bad-good, good-inv, need-inv, bind-inv}
 use Rattle.cache_tree.specs.declared.node.Node as Code
 use Rattle.cache_tree.specs.declared.node.NodeRead.the-variants as R
 use Rattle.cache_tree.specs.Answers.{size, nodeAt}
 use Rattle.cache_tree.specs.Flat.{placeOf, lengthOf, treesLength, nameOf, restOf, namesOf, hasName, namesDiffer, allDiffer}
-use Rattle.cache_tree.proofs.Readings.{no-good, good-inv, need-inv, bind-inv, node-took, drop-to}
+use Rattle.cache_tree.proofs.Readings.{node-took}
 use Rattle.cache_tree.proofs.Nodes.{node-named, NodeIs, no-node}
 use Rattle.cache_tree.proofs.Lists.{items-size}
 
@@ -65,7 +68,7 @@ trees-bad k n p (x ∷ s) e = rw e
 
 pub trees-step : (k : ℕ) (s : List ℕ) (h : Head) (m : ℕ) → readNode 20 0 s ≡ good h m → treesLength (suc k) s ≡ m + treesLength (k + h .subtrees) (drop m s)
 unfolding treesLength lengthOf
-trees-step k [] h m e = no-good 15 0 m h (sym node-nil ∙ e)
+trees-step k [] h m e = bad-good 15 0 h m (sym node-nil ∙ e)
 trees-step k (x ∷ s) h m e =
     let b : (1 ≤ m) × (m ≤ length (x ∷ s)) = node-took 20 0 (x ∷ s) .of h m e in
     let d : length (drop m (x ∷ s)) ≡ length (x ∷ s) - m = length-drop m (x ∷ s) in
@@ -87,17 +90,16 @@ reads-is s f g k m n r e i = rw (← e, ← i) r
 
 pub forest-reads : (l k : ℕ) (s : List ℕ) (f : Forest) (m : ℕ) → readForest 20 0 l k s ≡ good f m → Reads s f k m
 unfolding readForest readSiblings
-forest-reads zero zero s f m e = let g = good-inv nil f 0 m e in reads-is s nil f 0 0 m reads-none (g .0) (g .1)
-forest-reads zero (suc k) s f m e = no-good 15 0 m f e
-forest-reads (suc l) zero s f m e = let g = good-inv nil f 0 m e in reads-is s nil f 0 0 m reads-none (g .0) (g .1)
+forest-reads zero zero s f m e = good-inv nil f 0 m e (λ same size. reads-is s nil f 0 0 m reads-none same size)
+forest-reads zero (suc k) s f m e = bad-good 15 0 f m e
+forest-reads (suc l) zero s f m e = good-inv nil f 0 m e (λ same size. reads-is s nil f 0 0 m reads-none same size)
 forest-reads (suc l) (suc k) s f m e =
     bind-inv (readNode 20 0 s) _ f m e λ h a i q r is.
-    need-inv (okNodeName (h .node .name)) 15 0 i f _ r λ ok r₁.
+    need-inv (okNodeName (h .node .name)) 15 0 _ f i r λ ok r₁.
     bind-inv (readForest 20 0 l (h .subtrees) (drop a s)) _ f i r₁ λ kids b j q₁ r₂ is₁.
     bind-inv (readForest 20 0 (suc l) k (drop b (drop a s))) _ f j r₂ λ after c o q₂ r₃ is₂.
-    let g = good-inv (tree (h .node) kids after) f 0 o r₃ in
-    let z : 0 ≡ o = g .1 in
-    reads-is s _ f (suc k) _ m (reads-more q (forest-reads l (h .subtrees) (drop a s) kids b q₁) (forest-reads (suc l) k (drop b (drop a s)) after c q₂)) (g .0) (omega arith)
+    good-inv (tree (h .node) kids after) f 0 o r₃ λ same z.
+    reads-is s _ f (suc k) _ m (reads-more q (forest-reads l (h .subtrees) (drop a s) kids b q₁) (forest-reads (suc l) k (drop b (drop a s)) after c q₂)) same (omega arith)
 
 -- ---- what stands where
 
@@ -242,9 +244,6 @@ module _ (d : List ℕ) (place left : ℕ) where
   trees-end h = let z : left ≡ 0 = omega arith in rw (z, trees-none (drop place d), add-zero place)
 
   module _ (some : 0 < left) where
-    more-is : left ≡ suc (left - 1)
-    more-is = omega arith
-
     module _ (node : Code.Node) (is : NodeIs d place node) where
       rest-is : drop (node .next - place) (drop place d) ≡ drop (node .next) d
       rest-is = let a = is .named in let b = is .ended in drop-to d place (node .next - place) (node .next) (omega arith)
@@ -254,7 +253,7 @@ module _ (d : List ℕ) (place left : ℕ) where
           let a = is .named in
           let b = is .ended in
           let e : placeOf left (drop place d) ≡ node .next - place + placeOf (left - 1) (drop (node .next) d) =
-          ap (λ (k : ℕ). placeOf k (drop place d)) more-is ∙ place-step (left - 1) (drop place d) (is .head) (node .next - place) (is .reads) ∙ rw rest-is in
+          ap (λ (k : ℕ). placeOf k (drop place d)) (suc-pred left some) ∙ place-step (left - 1) (drop place d) (is .head) (node .next - place) (is .reads) ∙ rw rest-is in
           omega arith
 
       pub trees-more : place + treesLength left (drop place d) ≡ node .next + treesLength (left - 1 + node .subtrees) (drop (node .next) d)
@@ -262,20 +261,20 @@ module _ (d : List ℕ) (place left : ℕ) where
           let a = is .named in
           let b = is .ended in
           let e : treesLength left (drop place d) ≡ node .next - place + treesLength (left - 1 + node .subtrees) (drop (node .next) d) =
-          ap (λ (k : ℕ). treesLength k (drop place d)) more-is ∙ trees-step (left - 1) (drop place d) (is .head) (node .next - place) (is .reads) ∙ rw (rest-is, is .subtrees) in
+          ap (λ (k : ℕ). treesLength k (drop place d)) (suc-pred left some) ∙ trees-step (left - 1) (drop place d) (is .head) (node .next - place) (is .reads) ∙ rw (rest-is, is .subtrees) in
           omega arith
 
     module _ (inside : place ≤ length d) (none : R.Bad ≡ nodeAt place (readNode 20 0 (drop place d))) where
       pub place-stop : place + placeOf left (drop place d) ≡ length d
       place-stop =
           no-node d place none λ n p q.
-          let e : placeOf left (drop place d) ≡ length (drop place d) = ap (λ (k : ℕ). placeOf k (drop place d)) more-is ∙ place-bad (left - 1) n p (drop place d) q in
+          let e : placeOf left (drop place d) ≡ length (drop place d) = ap (λ (k : ℕ). placeOf k (drop place d)) (suc-pred left some) ∙ place-bad (left - 1) n p (drop place d) q in
           let l : length (drop place d) ≡ length d - place = length-drop place d in
           omega arith
 
       pub trees-stop : place + treesLength left (drop place d) ≡ length d
       trees-stop =
           no-node d place none λ n p q.
-          let e : treesLength left (drop place d) ≡ length (drop place d) = ap (λ (k : ℕ). treesLength k (drop place d)) more-is ∙ trees-bad (left - 1) n p (drop place d) q in
+          let e : treesLength left (drop place d) ≡ length (drop place d) = ap (λ (k : ℕ). treesLength k (drop place d)) (suc-pred left some) ∙ trees-bad (left - 1) n p (drop place d) q in
           let l : length (drop place d) ≡ length d - place = length-drop place d in
           omega arith

@@ -12,12 +12,14 @@ use Rattle.format.specs.Records.{Node, Forest, nil, tree, width, Item, items}
 use Rattle.format.specs.Layout.{okNodeName}
 use Rattle.format.specs.Reading.{Read, bad, good, need, shift, bind}
 use Rattle.format.specs.Reader.{Head, readNode, readSiblings, readForest}
+use Rattle.format_laws.proofs.Lists.{drop-to}
+use Rattle.format_laws.proofs.Readings.{bad-good, good-inv, need-inv, bind-inv}
 use Rattle.cache_tree.specs.declared.list.ListRead.{ListRead}
 use Rattle.cache_tree.specs.declared.list.ListRead.the-variants as L
 use Rattle.cache_tree.specs.declared.node.Node as Code
 use Rattle.cache_tree.specs.declared.node.NodeRead.the-variants as R
 use Rattle.cache_tree.specs.Answers.{nodeAt, readOne, size, either, levelIn, listAt, rooted, nodesIn}
-use Rattle.cache_tree.proofs.Readings.{no-good, good-inv, need-inv, bind-inv, node-took, drop-to}
+use Rattle.cache_tree.proofs.Readings.{node-took}
 use Rattle.cache_tree.proofs.Nodes.{NodeIs}
 
 -- ---- one list after another
@@ -130,11 +132,10 @@ unfolding readOne size
 one-sized l below s = record {
   of = λ f j e.
       bind-inv (readNode 20 0 s) _ f j e λ h m i q r is.
-      need-inv (okNodeName (h .node .name)) 15 0 i f _ r λ ok r₁.
+      need-inv (okNodeName (h .node .name)) 15 0 _ f i r λ ok r₁.
       bind-inv (readForest 20 0 l (h .subtrees) (drop m s)) _ f i r₁ λ kids n o q₁ r₂ is₁.
-      let g = good-inv (tree (h .node) kids nil) f 0 o r₂ in
-      let z : size f ≡ suc (size kids + 0) = sym (ap size (g .0)) in
-      let z₁ : 0 ≡ o = g .1 in
+      good-inv (tree (h .node) kids nil) f 0 o r₂ λ same z₁.
+      let z : size f ≡ suc (size kids + 0) = sym (ap size same) in
       let b : (size kids ≤ n) × (n ≤ length (drop m s)) = below (h .subtrees) (drop m s) .of kids n q₁ in
       let c : (1 ≤ m) × (m ≤ length s) = node-took 20 0 s .of h m q in
       let d : length (drop m s) ≡ length s - m = length-drop m s in
@@ -145,9 +146,8 @@ none-sized : (l : ℕ) (s : List ℕ) → Sized (length s) (readForest 20 0 l 0 
 unfolding size
 none-sized l s = record {
   of = λ f m e.
-      let g = good-inv nil f 0 m (sym (list-none l s) ∙ e) in
-      let z : size f ≡ 0 = sym (ap size (g .0)) in
-      let z₁ : 0 ≡ m = g .1 in
+      good-inv nil f 0 m (sym (list-none l s) ∙ e) λ same z₁.
+      let z : size f ≡ 0 = sym (ap size same) in
       (omega arith, omega arith);
 }
 
@@ -157,9 +157,8 @@ more-sized l k s one rest = record {
   of = λ f j e.
       bind-inv (readOne l s) _ f j (sym (list-step l k s) ∙ e) λ t m i q r is.
       bind-inv (readForest 20 0 l k (drop m s)) _ f i r λ after n o q₁ r₁ is₁.
-      let g = good-inv (graft t after) f 0 o r₁ in
-      let z : size f ≡ size t + size after = sym (ap size (g .0)) ∙ graft-size t after in
-      let z₁ : 0 ≡ o = g .1 in
+      good-inv (graft t after) f 0 o r₁ λ same z₁.
+      let z : size f ≡ size t + size after = sym (ap size same) ∙ graft-size t after in
       let b : (size after ≤ n) × (n ≤ length (drop m s)) = rest (drop m s) .of after n q₁ in
       let c : (size t ≤ m) × (m ≤ length s) = one .of t m q in
       let d : length (drop m s) ≡ length s - m = length-drop m s in
@@ -168,7 +167,7 @@ more-sized l k s one rest = record {
 
 no-level : (s : List ℕ) → Sized (length s) (readOne 0 s)
 unfolding readOne
-no-level s = record { of = λ f m e. no-good 15 0 m f e }
+no-level s = record { of = λ f m e. bad-good 15 0 f m e }
 
 pub forest-sized : (l k : ℕ) (s : List ℕ) → Sized (length s) (readForest 20 0 l k s)
 forest-sized zero zero s = none-sized zero s

@@ -9,11 +9,14 @@ use native.Mathlib.Omega.{arith}
 use lib.ListN.{length, getD, take, drop, replicate, length-take, length-drop}
 use lib.Seq.{take-all, drop-drop}
 use lib.Dec.{leb, ltb}
-use borrow.Author.Tests.{eq-eqb, ne-eqb, le-leb, lt-leb, lt-ltb, le-ltb, ltb-true}
+use borrow.Author.Tests.{eq-eqb, ne-eqb, le-leb, lt-leb, ltb-true}
 use Rattle.format.specs.Bytes.{before, decimal, value}
 use Rattle.format.specs.Records as Records
 use Rattle.format.specs.Reading.{Read, bad, good, need, shift, bind}
 use Rattle.format.specs.Reader.{readText, countIn, needSome, readCount, readSubtrees, readObject, Head, readNode}
+use Rattle.format_laws.proofs.Lists.{drop-to}
+use Rattle.format_laws.proofs.Texts.{text-none, text-some}
+use Rattle.format_laws.proofs.Readings.{need-inv, bind-inv}
 use Rattle.cache_tree.specs.declared.number.Number.{Number}
 use Rattle.cache_tree.specs.declared.number.Number.the-variants as N
 use Rattle.cache_tree.specs.declared.node.Count.{Count}
@@ -24,25 +27,7 @@ use Rattle.cache_tree.specs.declared.node.Node.{Node}
 use Rattle.cache_tree.specs.declared.node.NodeRead.{NodeRead}
 use Rattle.cache_tree.specs.declared.node.NodeRead.the-variants as R
 use Rattle.cache_tree.specs.Answers.{numberIn, isValid, counted, objectLength, countTo, countAt, subtreesAt, nodeOf, nodeAt}
-use Rattle.cache_tree.proofs.Readings.{need-inv, bind-inv, Took, count-took, subtrees-took, node-took, drop-to}
-
--- ---- texts
-
--- e is the place of the first byte b at or after at
-module _ (b n p : ℕ) (d : List ℕ) (at e : ℕ) (is : e ≡ at + before b (drop at d)) where
-  pub text-none : e ≡ length d → readText b n p (drop at d) ≡ bad n p
-  unfolding readText need
-  text-none h =
-      let l : length (drop at d) ≤ before b (drop at d) = simp length-drop (omega arith) in
-      rw (le-ltb _ _ l)
-
-  pub text-some : e < length d → readText b n p (drop at d) ≡ good (take (e - at) (drop at d)) (e + 1 - at)
-  unfolding readText need
-  text-some h =
-      let l : before b (drop at d) < length (drop at d) = simp length-drop (omega arith) in
-      let k : e - at ≡ before b (drop at d) = omega arith in
-      let m : e + 1 - at ≡ before b (drop at d) + 1 = omega arith in
-      rw (lt-ltb _ _ l, k, m)
+use Rattle.cache_tree.proofs.Readings.{Took, count-took, subtrees-took, node-took}
 
 -- ---- entry counts
 
@@ -351,7 +336,7 @@ pub record NodeIs (d : List ℕ) (at : ℕ) (node : Node) : Type 0 where
 
 text-is : (b n p : ℕ) (s t : List ℕ) (m : ℕ) → readText b n p s ≡ good t m → (t ≡ take (before b s) s) × (m ≡ before b s + 1) × (before b s < length s)
 unfolding readText
-text-is b n p s t m e = need-inv (ltb (before b s) (length s)) n p m t _ e (λ l r. (cc, cc, ltb-true _ _ l))
+text-is b n p s t m e = need-inv (ltb (before b s) (length s)) n p _ t m e (λ l r. (cc, cc, ltb-true _ _ l))
 
 -- the name of a node that was read
 pub node-named : (w p : ℕ) (s : List ℕ) (h : Head) (m : ℕ) → readNode w p s ≡ good h m → (h .node .name ≡ take (before 0 s) s) × (before 0 s < m) × (before 0 s < length s)
@@ -405,9 +390,9 @@ no-node d at e f = no-node-by at (readNode 20 0 (drop at d)) e f
 
 -- ---- the object name of a node that was read
 
-object-valid : (w p : ℕ) (c : Records.Count) (s o : List ℕ) (k : ℕ) → readObject w p c s ≡ good o k → isValid c ≡ true → (k ≡ w) × (o ≡ take w s)
+pub object-valid : (w p : ℕ) (c : Records.Count) (s o : List ℕ) (k : ℕ) → readObject w p c s ≡ good o k → isValid c ≡ true → (k ≡ w) × (o ≡ take w s)
 unfolding readObject
-object-valid w p (Records.valid n) s o k e v = need-inv (leb w (length s)) 15 p k o _ e (λ l r. (cc, cc))
+object-valid w p (Records.valid n) s o k e v = need-inv (leb w (length s)) 15 p _ o k e (λ l r. (cc, cc))
 object-valid w p Records.invalid s o k e v = absurd (true≢false (sym v))
 
 object-invalid : (w p : ℕ) (c : Records.Count) (s o : List ℕ) (k : ℕ) → readObject w p c s ≡ good o k → isValid c ≡ false → o ≡ replicate w 0

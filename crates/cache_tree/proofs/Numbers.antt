@@ -1,7 +1,7 @@
 -- Laws of decimals: what the first bytes of a text say of the whole.
 use mathlib.Core.Path.{_≡_, refl}
 use mathlib.Core.List.{List, [], _∷_}
-use mathlib.Core.Bool.{Bool, true, false, _&&_}
+use mathlib.Core.Bool.{and-false}
 use Prim.Native.Nat.{ℕ, _+_, _*_, _-_, _≤_, _<_}
 use native.Mathlib.Numerals.{add-one}
 use native.Mathlib.Omega.{arith}
@@ -43,10 +43,6 @@ grows : (v : ℕ) (t : List ℕ) → v ≤ valueFrom v t
 unfolding valueFrom
 grows v [] = omega arith
 grows v (d ∷ t) = omega (arith, grows (v * 10 + (d - 48)) t)
-
-and-false : (b : Bool) → (b && false) ≡ false
-and-false true = refl
-and-false false = refl
 
 pub over : (limit v : ℕ) (t : List ℕ) → limit < v → numberFrom limit v t ≡ N.Bad
 unfolding numberFrom

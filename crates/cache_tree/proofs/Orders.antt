@@ -7,13 +7,15 @@ use Prim.Native.Nat.{ℕ, suc, _≤_, _<_}
 use native.Mathlib.Omega.{arith}
 use lib.ListN.{length, getD, take, drop, take-append-drop, drop-of-length-le}
 use lib.Seq.{drop-cons}
-use lib.Dec.{eqb, leb, ltb}
-use borrow.Author.Tests.{lt-ltb, le-ltb, ltb-true, ltb-false, eqb-true, le-leb, lt-leb}
+use lib.Dec.{leb, ltb}
+use borrow.Author.Tests.{lt-ltb, le-ltb, ltb-true, ltb-false, le-leb, lt-leb}
 use Rattle.format.specs.declared.Order.{Order}
 use Rattle.format.specs.declared.Order.the-variants.{Below, Same, Above}
 use Rattle.format.specs.Bytes.{eqList}
 use Rattle.format.specs.Names.{compare, common, isBelow}
-use Rattle.fields.proofs.Laws.{compare-append, common-take, common-ends}
+use Rattle.format_laws.proofs.Tests.{then-inv}
+use Rattle.format_laws.proofs.Lists.{eqList-true}
+use Rattle.format_laws.proofs.Names.{compare-append, common-take, common-ends}
 use Rattle.cache_tree.specs.Flat.{hasName, namesDiffer}
 use Rattle.cache_tree.specs.Orders.{firstBelow, slashBelow, lengthBelow, nameBelow, risesFrom}
 
@@ -115,25 +117,11 @@ unfolding slashBelow lengthBelow
 below-self true s = rw (compare-self s) (first-same (length s) (length s) false refl)
 below-self false s = rw (compare-self (s ++ (47 ∷ [])))
 
-pub cond-inv : (a b : Bool) → cond a b false ≡ true → (a ≡ true) × (b ≡ true)
-cond-inv true b h = (refl, h)
-cond-inv false b h = absurd (true≢false (sym h))
-
-cons-same : (x y : ℕ) (s t : List ℕ) → x ≡ y → s ≡ t → (x ∷ s) ≡ (y ∷ t)
-cons-same x y s t e f = cc
-
-pub eqList-same : (s t : List ℕ) → eqList s t ≡ true → s ≡ t
-unfolding eqList
-eqList-same [] [] h = refl
-eqList-same [] (y ∷ t) h = absurd (true≢false (sym h))
-eqList-same (x ∷ s) [] h = absurd (true≢false (sym h))
-eqList-same (x ∷ s) (y ∷ t) h = let i = cond-inv (eqb x y) (eqList s t) h in cons-same x y s t (eqb-true x y (i .0)) (eqList-same s t (i .1))
-
 below-other : (b : Bool) (s t : List ℕ) → nameBelow b s t ≡ true → eqList s t ≡ false
 below-other b s t h = by (eqList s t) refl
   where
     by : (e : Bool) → eqList s t ≡ e → e ≡ false
-    by true e = absurd (true≢false (sym h ∙ ap (nameBelow b s) (sym (eqList-same s t e)) ∙ below-self b s))
+    by true e = absurd (true≢false (sym h ∙ ap (nameBelow b s) (sym (eqList-true s t e)) ∙ below-self b s))
     by false e = refl
 
 -- ---- siblings that rise
@@ -143,7 +131,7 @@ module _ (b : Bool) where
   unfolding risesFrom hasName
   rises-has x y [] h k = refl
   rises-has x y (z ∷ l) h k =
-      let i = cond-inv (nameBelow b y z) (risesFrom b z l) k in
+      let i = then-inv (nameBelow b y z) (risesFrom b z l) k in
       let t : nameBelow b x z ≡ true = below-trans b x y z h (i .0) in
       rw (below-other b x z t) (rises-has x z l t (i .1))
 
@@ -151,7 +139,7 @@ module _ (b : Bool) where
   unfolding risesFrom hasName namesDiffer
   rises-differ x [] k = refl
   rises-differ x (y ∷ l) k =
-      let i = cond-inv (nameBelow b x y) (risesFrom b y l) k in
+      let i = then-inv (nameBelow b x y) (risesFrom b y l) k in
       rw (below-other b x y (i .0), rises-has x y l (i .0) (i .1)) (rises-differ y l (i .1))
 
 -- ---- names in the order of the index: what follows the common beginning decides

@@ -1,54 +1,25 @@
--- Laws of readings: how many bytes a reading takes, and one reading after another.
-use mathlib.Core.Path.{_≡_, refl, sym, ap, _∙_}
+-- Laws of readings: how many bytes a reading takes.
+use mathlib.Core.Path.{_≡_, refl}
 use mathlib.Core.List.{List}
 use mathlib.Core.Bool.{Bool, true, false, _&&_}
 use mathlib.Core.Option.{Option, none, some}
 use Prim.Native.Nat.{ℕ, _+_, _-_, _≤_, _<_}
 use native.Mathlib.Omega.{arith}
 use lib.ListN.{length, drop, length-drop}
-use lib.Seq.{drop-drop}
 use lib.Dec.{ltb, leb}
 use borrow.Author.Tests.{ltb-true, leb-true}
 use Rattle.format.specs.Bytes.{before, decimal, value}
 use Rattle.format.specs.Records as Records
 use Rattle.format.specs.Reading.{Read, bad, good, need, shift, bind}
 use Rattle.format.specs.Reader.{readText, countIn, needSome, readCount, readSubtrees, readObject, readNode}
-
--- a place further on
-pub drop-to : (d : List ℕ) (at m next : ℕ) → next ≡ at + m → drop m (drop at d) ≡ drop next d
-drop-to d at m next e = drop-drop m at d ∙ ap (λ (n : ℕ). drop n d) (sym e)
-
--- ---- taking a reading apart
-
-pub no-good {ℓ} : {A : Type 0} {X : Type ℓ} (n p m : ℕ) (a : A) → bad n p ≡ good a m → X
-no-good n p m a e = let z : _≡_ {A = ℕ} 0 1 = cc in absurd (omega arith)
-
-pub good-inv : {A : Type 0} (a b : A) (m n : ℕ) → good a m ≡ good b n → (a ≡ b) × (m ≡ n)
-good-inv a b m n e = (cc, cc)
-
-pub need-inv {ℓ} : {A : Type 0} {X : Type ℓ} (b : Bool) (n p m : ℕ) (a : A) (r : Read A) → need b n p r ≡ good a m → (b ≡ true → r ≡ good a m → X) → X
-unfolding need
-need-inv true n p m a r e f = f refl e
-need-inv false n p m a r e f = no-good n p m a e
-
-shift-inv {ℓ} : {A : Type 0} {X : Type ℓ} (k m : ℕ) (a : A) (r : Read A) → shift k r ≡ good a m → ((n : ℕ) → r ≡ good a n → m ≡ k + n → X) → X
-unfolding shift
-shift-inv k m a (bad n p) e f = no-good n p m a e
-shift-inv k m a (good b n) e f = let q : b ≡ a = cc in let l : m ≡ k + n = cc in f n (ap (λ (c : _). good c n) q) l
-
-pub bind-inv {ℓ} : {A B : Type 0} {X : Type ℓ} (r : Read A) (k : A → ℕ → Read B) (b : B) (j : ℕ) → bind r k ≡ good b j → ((a : A) (m n : ℕ) → r ≡ good a m → k a m ≡ good b n → j ≡ m + n → X) → X
-unfolding bind
-bind-inv (bad n p) k b j e f = no-good n p j b e
-bind-inv (good a m) k b j e f = shift-inv m j b (k a m) e (λ n q l. f a m n refl q l)
-
--- ---- how many bytes a reading takes
+use Rattle.format_laws.proofs.Readings.{bad-good}
 
 -- from least to most bytes, where it is no refusal
 pub record Took {A : Type 0} (least most : ℕ) (r : Read A) : Type 0 where
   pub of : (a : A) (m : ℕ) → r ≡ good a m → (least ≤ m) × (m ≤ most)
 
 took-bad : {A : Type 0} (n p least most : ℕ) → Took {A = A} least most (bad n p)
-took-bad n p least most = record { of = λ a m e. no-good n p m a e }
+took-bad n p least most = record { of = λ a m e. bad-good n p a m e }
 
 took-good : {A : Type 0} (a : A) (k least most : ℕ) → least ≤ k → k ≤ most → Took least most (good a k)
 took-good a k least most h l = record { of = λ b m e. let q : k ≡ m = cc in (omega arith, omega arith) }

@@ -13,6 +13,7 @@ use Rattle.format.specs.Records.{Node, Forest, nil, tree, Tree, Item, items, tr
 use Rattle.format.specs.Layout.{distinct, okTreeCounts}
 use Rattle.format.specs.Reading.{Read, bad, good, need, shift, bind}
 use Rattle.format.specs.Reader.{Head, readNode, readForest, readNodes, readTree}
+use Rattle.format_laws.proofs.Readings.{need-inv, bind-inv}
 use Rattle.cache_tree.specs.declared.node.Node as Code
 use Rattle.cache_tree.specs.declared.node.NodeRead.the-variants as R
 use Rattle.cache_tree.specs.declared.list.ListRead.the-variants as L
@@ -20,7 +21,6 @@ use Rattle.cache_tree.specs.declared.TreeRead.the-variants as T
 use Rattle.cache_tree.specs.Answers.{nodeAt, size, levelIn, listAt, rooted}
 use Rattle.cache_tree.specs.Flat.{placeOf, namesDiffer, allDiffer}
 use Rattle.cache_tree.specs.Shape.{readShape, nodesAt, treeOf}
-use Rattle.cache_tree.proofs.Readings.{need-inv, bind-inv}
 use Rattle.cache_tree.proofs.Nodes.{NodeIs}
 use Rattle.cache_tree.proofs.Lists.{items-size}
 use Rattle.cache_tree.proofs.Flat.{Reads, reads-none, reads-more, forest-reads, reads-names, reads-item, reads-differ, distinct-is, differ-step, Shown, siblingNames, kidsDiffer}
@@ -140,7 +140,7 @@ nodes-differ : (d : List ℕ) (t : Tree) (m : ℕ) → readNodes 20 0 d ≡ good
 unfolding readNodes treeItems
 nodes-differ d t m e =
     bind-inv (readNode 20 0 d) _ t m e λ h a i q r is.
-    need-inv (eqb (length (h .node .name)) 0) 15 0 i t _ r λ ok r₁.
+    need-inv (eqb (length (h .node .name)) 0) 15 0 _ t i r λ ok r₁.
     bind-inv (readForest 20 0 127 (h .subtrees) (drop a d)) _ t i r₁ λ kids b j q₁ r₂ is₁.
     let same : record { root = h .node; subtrees = kids } ≡ t = cc in
     let f = forest-reads 127 (h .subtrees) (drop a d) kids b q₁ in
@@ -202,7 +202,7 @@ pub tree-item : (d : List ℕ) (t : Tree) (m : ℕ) → readNodes 20 0 d ≡ goo
 unfolding readNodes
 tree-item d t m e k z lt =
     bind-inv (readNode 20 0 d) _ t m e λ h a i q r is.
-    need-inv (eqb (length (h .node .name)) 0) 15 0 i t _ r λ ok r₁.
+    need-inv (eqb (length (h .node .name)) 0) 15 0 _ t i r λ ok r₁.
     bind-inv (readForest 20 0 127 (h .subtrees) (drop a d)) _ t i r₁ λ kids b j q₁ r₂ is₁.
     item-of d t (record { root = h .node; subtrees = kids }) _ (reads-more q (forest-reads 127 (h .subtrees) (drop a d) kids b q₁) reads-none) (cc) k z lt
 

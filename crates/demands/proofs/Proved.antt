@@ -20,8 +20,8 @@ use Rattle.file.specs.declared.Summary.{Summary}
 use Rattle.file.specs.declared.Checked.{Checked}
 use Rattle.file.specs.declared.Checked.the-variants.{Refused, Accepted}
 use Rattle.file.specs.Answers.{tooSmall, cleared, holding, workAfter, refused, inWorkspace, treeCount, undoCount, summaryOf, checkedOf, checkAnswer, given, entryAnswer, nodeAnswer, undoAnswer, View, pick, listed, itemsOf, entryOf, nodeOf, undoOf}
-use Rattle.spelling_entries.proofs.Reading.{and-inv}
-use Rattle.spelling_entries.proofs.Bytes.{bytes-take}
+use Rattle.format_laws.proofs.Tests.{and-inv}
+use Rattle.format_laws.proofs.Numbers.{bytes-take}
 use Rattle.spelling.proofs.File.{contentsOf, spelled-read, read-spelled, one, cut}
 use Rattle.demands.proofs.Statements.{check, entry, node, undo}
 

@@ -10,21 +10,19 @@ use lib.ListN.{length, take, getD, replicate}
 use lib.Dec.{ltb}
 use borrow.Author.Tests.{ltb-true}
 use Rattle.hash_words.specs.Padding.{be64, padded, pad}
-use Rattle.hash_words.specs.Words.{bytes4, words}
-use Rattle.hash_words.specs.Words.{be32 as word}
+use Rattle.hash_words.specs.Words.{bytes4, words, be32 as word}
 use Rattle.hash.specs.Sha1.{quarter, f, K, H0, nextWord, extended, schedule, round, rounds, chain, block, absorb, digest, sha1}
 use Rattle.format.specs.Bytes.{Bytes, be16, be32, be32s, two, eqList, before, lacks, zeros, digits, decimal, valueFrom, value}
 use Rattle.format.specs.Names.{componentsFrom, components, okComponent, okComponents, okName, lengthField, compare}
-use Rattle.format.specs.Layout.{okMode, fixedLength, entryLength, okNodeName, has, distinct, under, inside, files, allValid, sum, okCount, okCounts, okTreeCounts, modeText, someStage, optional, trees, undos, names}
+use Rattle.format.specs.Layout.{okMode, fixedLength, entryLength, okNodeName, has, distinct, under, inside, files, allValid, sum, okCount, okCounts, okTreeCounts, modeText, someStage, optional, trees, undos, names, Spells}
 use Rattle.format.specs.Reading.{need, shift, bind}
 use Rattle.format.specs.Reader.{Contents, isSet, okWord, plainLength, readPlain, readN, joined, readSuffix, readPacked, readName, entryOf, readTail, readFixed, readEntry, readEntries, readText, countIn, needSome, readCount, readSubtrees, readObject, readNode, readSiblings, readForest, readNodes, readTree, modeIn, readMode, readStage, readStages, readUndo, readUndos, readData, readExtension, readExtensions, readBody, readFile}
 use Rattle.format.specs.Records.{Records, Entry}
-use Rattle.format.specs.Layout.{Spells}
 use Rattle.file.specs.declared.Summary.{Summary}
 use Rattle.file.specs.declared.Count.the-variants.{Absent}
 use Rattle.file.specs.declared.Checked.the-variants.{Refused, Accepted}
 use Rattle.file.specs.Answers.{tooSmall, checkAnswer, given, entryAnswer, inWorkspace}
-use Rattle.spelling_entries.proofs.Reading.{and-inv}
+use Rattle.format_laws.proofs.Tests.{and-inv}
 use Rattle.demands.proofs.Statements.{check, entry}
 use Rattle.demands.proofs.Demands.{sha1-demand3}
 

@@ -11,12 +11,13 @@ use Rattle.format.specs.Records.{Key}
 use Rattle.format.specs.Layout.{okMode, fixedLength}
 use Rattle.format.specs.Reading.{Read, bad, good, need, shift, bind}
 use Rattle.format.specs.Reader.{isSet, okWord, readEntry, readFixed, readTail}
-use Rattle.fields.proofs.Laws.{be16-drop, be32-drop}
+use Rattle.format_laws.proofs.Numbers.{be16-drop, be32-drop}
+use Rattle.format_laws.proofs.Readings.{bind-need, bind-cond}
 use Rattle.entries.specs.declared.Head.{Head}
 use Rattle.entries.specs.declared.Fixed.{Fixed}
 use Rattle.entries.specs.declared.Fixed.the-variants as F
 use Rattle.entries.specs.Answers.{readHead, fixedOf}
-use Rattle.entries.proofs.Reading.{bind-need, bind-cond, Kept, kept-need, kept-cond, enough, cut}
+use Rattle.entries.proofs.Reading.{Kept, kept-need, kept-cond, enough, cut}
 
 -- an entry is what stands before its name, and the rest
 pub readEntry-head : (w v : ℕ) (k : Key) (p : ℕ) (s : List ℕ)
@@ -64,7 +65,7 @@ pub record Flagged (b : List ℕ) (at m x : ℕ) : Type 0 where
 -- what the code answers there
 module _ (b : List ℕ) (at v p : ℕ) where
   mode-is : (m : ℕ) → m ≡ be32 b (at + 24) → {t : Bool} → okMode m ≡ t → okMode (be32 (drop at b) 24) ≡ t
-  mode-is m h e = ap okMode (sym (h ∙ be32-drop b at 24)) ∙ e
+  mode-is m h e = ap okMode (be32-drop at b 24 ∙ sym h) ∙ e
 
   pub fixed-cut : length b - at < 62 → F.Bad 6 ≡ fixedOf (readHead 20 v p (drop at b))
   unfolding readHead fixedLength need fixedOf
@@ -76,7 +77,7 @@ module _ (b : List ℕ) (at v p : ℕ) where
 
   module _ (m x : ℕ) (f : Flagged b at m x) where
     flags-are : be16 (drop at b) 60 ≡ x
-    flags-are = sym (f .is-x ∙ be16-drop b at 60)
+    flags-are = be16-drop at b 60 ∙ sym (f .is-x)
 
     after-mode : readHead 20 v p (drop at b) ≡ need (not (isSet 16384 x && eqb v 2)) 8 p
         (cond (isSet 16384 x)
@@ -102,7 +103,7 @@ module _ (b : List ℕ) (at v p : ℕ) where
 
         module _ (y : ℕ) (longer : 64 ≤ length b - at) (is-y : y ≡ be16 b (at + 62)) where
           word-is : be16 (drop at b) 62 ≡ y
-          word-is = sym (is-y ∙ be16-drop b at 62)
+          word-is = be16-drop at b 62 ∙ sym is-y
 
           pub fixed-word : okWord y ≡ true → F.Good (record { length = 64; flags = x; word = y }) ≡ fixedOf (readHead 20 v p (drop at b))
           unfolding need isSet fixedOf

@@ -14,7 +14,7 @@ use Rattle.format.specs.Names.{okName, lengthField}
 use Rattle.format.specs.Layout.{entryLength}
 use Rattle.format.specs.Reading.{Read, bad, good, need}
 use Rattle.format.specs.Reader.{readN, plainLength, readPlain}
-use Rattle.fields.proofs.Laws.{part-inside}
+use Rattle.format_laws.proofs.Lists.{part-inside}
 use Rattle.entries.specs.declared.Text.{Text}
 use Rattle.entries.specs.declared.Text.the-variants as T
 use Rattle.entries.specs.declared.Number.{Number}

@@ -1,21 +1,12 @@
 -- Laws of the parts that readers are made of.
-use mathlib.Core.Path.{_≡_, refl}
+use mathlib.Core.Path.{_≡_}
 use mathlib.Core.List.{List}
 use mathlib.Core.Bool.{Bool, true, false, cond}
 use Prim.Native.Nat.{ℕ, _-_, _≤_, _<_}
 use lib.ListN.{length, drop, length-drop}
 use lib.Dec.{leb}
 use borrow.Author.Tests.{le-leb, lt-leb}
-use Rattle.format.specs.Reading.{Read, bad, need, bind}
-
-pub bind-need : {A B : Type 0} (t : Bool) (n p : ℕ) (r : Read A) (k : A → ℕ → Read B) → bind (need t n p r) k ≡ need t n p (bind r k)
-unfolding need bind
-bind-need true n p r k = refl
-bind-need false n p r k = refl
-
-pub bind-cond : {A B : Type 0} (t : Bool) (r q : Read A) (k : A → ℕ → Read B) → bind (cond t r q) k ≡ cond t (bind r k) (bind q k)
-bind-cond true r q k = refl
-bind-cond false r q k = refl
+use Rattle.format.specs.Reading.{Read, bad, need}
 
 -- an answer r that can be had again from what the code says of it
 pub record Kept {A X : Type 0} (say : Read A → X) (again : X → Read A) (r : Read A) : Type 0 where

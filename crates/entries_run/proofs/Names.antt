@@ -7,7 +7,7 @@ use lib.ListN.{length, take, drop}
 use lib.Seq.{length-take-le, take-add}
 use Rattle.format.specs.declared.Order.{Order}
 use Rattle.format.specs.Names.{compare, common, rises}
-use Rattle.fields.proofs.Laws.{compare-append, common-append}
+use Rattle.format_laws.proofs.Names.{compare-append, common-append}
 use Rattle.entries_run.specs.declared.Standing.{Standing}
 use Rattle.entries_run.specs.Steps.{Stands, Rebuilt}
 

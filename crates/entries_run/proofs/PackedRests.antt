@@ -1,7 +1,7 @@
 -- What the code answers for the rest of an entry of version 4.
 use mathlib.Core.Path.{_≡_, refl, sym, ap, _∙_}
 use mathlib.Core.List.{List, _++_, append-assoc}
-use mathlib.Core.Bool.{Bool, true, false, _&&_}
+use mathlib.Core.Bool.{true, false, _&&_}
 use Prim.Native.Nat.{ℕ, _+_, _-_, _/_, _%_, _≤_, _<_}
 use native.Mathlib.Omega.{arith}
 use lib.ListN.{length, take, drop, length-append, length-drop}
@@ -10,10 +10,11 @@ use lib.Dec.{eqb}
 use borrow.Author.Tests.{eq-eqb, ne-eqb, lt-ltb, le-ltb}
 use Rattle.format.specs.Bytes.{before}
 use Rattle.format.specs.Names.{okName, lengthField, compare, rises}
-use Rattle.format.specs.Reading.{Read, bad, good, need, shift, bind}
+use Rattle.format.specs.Reading.{bad, good, need, shift, bind}
 use Rattle.format.specs.Reader.{readN, joined, readSuffix, readPacked, readName}
-use Rattle.spelling_entries.proofs.Reading.{false-true}
-use Rattle.fields.proofs.Laws.{okName-over}
+use Rattle.format_laws.proofs.Tests.{false-true}
+use Rattle.format_laws.proofs.Names.{okName-over}
+use Rattle.format_laws.proofs.Readings.{shift-need}
 use Rattle.entries.specs.declared.Head.{Head}
 use Rattle.entries.specs.declared.Number.the-variants as M
 use Rattle.entries.specs.Answers.{numberOf}
@@ -23,11 +24,6 @@ use Rattle.entries_run.specs.declared.Next.the-variants as N
 use Rattle.entries_run.specs.declared.Standing.{Standing}
 use Rattle.entries_run.specs.Steps.{nameAt, Headed, Numbered, Rebuilt, Answered, readRest}
 use Rattle.entries_run.proofs.Rests.{answered-bad, answered-good, nameRead, rest-bad, rest-order, rest-good}
-
-shift-need : {A : Type 0} (k : ℕ) (t : Bool) (n p : ℕ) (r : Read A) → shift k (need t n p r) ≡ need t n p (shift k r)
-unfolding shift need
-shift-need k true n p r = refl
-shift-need k false n p r = refl
 
 module _ (b w : List ℕ) (c : Cursor) (h : Head) (room : c .len ≤ length w) where
   name-packed : (p : ℕ)

@@ -10,8 +10,8 @@ use lib.Dec.{eqb}
 use Rattle.format.specs.Names.{compare, rises}
 use Rattle.format.specs.Reading.{good}
 use Rattle.format.specs.Reader.{readPlain, readName}
+use Rattle.format_laws.proofs.Names.{okName-length}
 use Rattle.spelling_entries.proofs.Names.{name-read}
-use Rattle.fields.proofs.Laws.{okName-length}
 use Rattle.entries.specs.declared.Head.{Head}
 use Rattle.entries.specs.declared.Text.the-variants as T
 use Rattle.entries.specs.Answers.{textOf}

@@ -13,7 +13,8 @@ use Rattle.format.specs.Records.{Entry}
 use Rattle.format.specs.Layout.{fixedLength}
 use Rattle.format.specs.Reading.{Read, bad, good, need, shift, bind}
 use Rattle.format.specs.Reader.{isSet, readName, entryOf, readTail}
-use Rattle.spelling_entries.proofs.Reading.{cond-inv, good-inv, need-inv}
+use Rattle.format_laws.proofs.Tests.{cond-inv}
+use Rattle.format_laws.proofs.Readings.{good-inv, need-inv}
 use Rattle.entries.specs.declared.Head.{Head}
 use Rattle.entries.specs.declared.Fixed.the-variants as F
 use Rattle.entries.specs.Answers.{readHead, fixedOf}

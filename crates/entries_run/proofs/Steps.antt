@@ -1,18 +1,18 @@
 -- Laws of the run of entries, one step after another, for loops over entries.
 use mathlib.Core.Path.{_≡_, refl, sym, ap, _∙_}
-use mathlib.Core.List.{List, [], _∷_, _++_, append-assoc, append-nil}
+use mathlib.Core.List.{List, [], _∷_, _++_, append-nil}
 use mathlib.Core.Bool.{Bool, true, false, cond}
 use mathlib.Core.Option.{some}
 use Prim.Native.Nat.{ℕ, suc, _+_, _-_, _/_, _%_, _≤_, _<_}
-use native.Mathlib.Nat.{add-assoc, zero-add}
+use native.Mathlib.Nat.{zero-add}
 use native.Mathlib.Omega.{arith}
 use lib.ListN.{length, take, drop, getElem?, length-append}
 use lib.Seq.{drop-drop, take-append-seam}
 use lib.Dec.{eqb}
 use Rattle.format.specs.Records.{Entry, Key, keyOf, start}
-use Rattle.format.specs.Reading.{Read, bad, good, shift, bind}
+use Rattle.format.specs.Reading.{Read, bad, good, bind}
 use Rattle.format.specs.Reader.{entryOf, readEntry, readEntries}
-use Rattle.spelling_entries.proofs.Reading.{bad-good, good-inv}
+use Rattle.format_laws.proofs.Readings.{bad-good, inFront, front-none, front-one, front-front, front-inv}
 use Rattle.entries_run.specs.declared.Cursor.{Cursor}
 use Rattle.entries_run.specs.declared.Step.{Step}
 use Rattle.entries_run.specs.declared.Next.the-variants as N
@@ -20,40 +20,12 @@ use Rattle.entries_run.specs.declared.Run.the-variants as R
 use Rattle.entries_run.specs.declared.Sought.the-variants as S
 use Rattle.entries_run.specs.Steps.{nameAt, entryAt, Inside, Room, Found, Stepped, firstCursor, runFrom, runOf, Placed, Reaches}
 
--- ---- entries in front
-
--- the answer r with the entries es in front, which took m bytes
-unfoldable pub inFront : List Entry → ℕ → Read (List Entry) → Read (List Entry)
-inFront es m (bad n p) = bad n p
-inFront es m (good fs k) = good (es ++ fs) (m + k)
-
-pub front-none : (r : Read (List Entry)) → inFront [] 0 r ≡ r
-unfolding inFront
-front-none (bad n p) = refl
-front-none (good fs k) = ap (good fs) (omega arith)
-
-pub front-front : (es fs : List Entry) (m k : ℕ) (r : Read (List Entry)) → inFront es m (inFront fs k r) ≡ inFront (es ++ fs) (m + k) r
-unfolding inFront
-front-front es fs m k (bad n p) = refl
-front-front es fs m k (good gs l) = rw (append-assoc es fs gs, add-assoc m k l)
-
-pub front-inv : {X : Type 0} (es : List Entry) (m : ℕ) (r : Read (List Entry)) (fs : List Entry) (k : ℕ) → inFront es m r ≡ good fs k
-    → ((gs : List Entry) (l : ℕ) → r ≡ good gs l → es ++ gs ≡ fs → m + l ≡ k → X) → X
-unfolding inFront
-front-inv es m (bad n p) fs k e f = bad-good n p fs k e
-front-inv es m (good gs l) fs k e f = good-inv _ _ _ _ e (λ q s. f gs l refl q s)
-
 -- ---- one entry more
 
 run-suc : (v n : ℕ) (k : Key) (p : ℕ) (s : List ℕ)
     → readEntries 20 v (suc n) k p s ≡ bind (readEntry 20 v k p s) (λ e m. bind (readEntries 20 v n (keyOf e) (p + m) (drop m s)) (λ es o. good (e ∷ es) 0))
 unfolding readEntries
 run-suc v n k p s = refl
-
-shift-front : (e : Entry) (m : ℕ) (r : Read (List Entry)) → shift m (bind r (λ es o. good (e ∷ es) 0)) ≡ inFront (e ∷ []) m r
-unfolding shift bind inFront
-shift-front e m (bad n p) = refl
-shift-front e m (good es o) = ap (good (e ∷ es)) (omega arith)
 
 module _ (v n : ℕ) (k : Key) (p : ℕ) (s : List ℕ) (more : 0 < n) where
   run-more : readEntries 20 v n k p s ≡ bind (readEntry 20 v k p s) (λ e m. bind (readEntries 20 v (n - 1) (keyOf e) (p + m) (drop m s)) (λ es o. good (e ∷ es) 0))
@@ -68,7 +40,7 @@ module _ (v n : ℕ) (k : Key) (p : ℕ) (s : List ℕ) (more : 0 < n) where
   run-on : (e : Entry) (m : ℕ) → readEntry 20 v k p s ≡ good e m
       → readEntries 20 v n k p s ≡ inFront (e ∷ []) m (readEntries 20 v (n - 1) (keyOf e) (p + m) (drop m s))
   unfolding bind
-  run-on e m q = run-more ∙ rw q (shift-front e m _)
+  run-on e m q = run-more ∙ rw q (front-one e m _)
 
 -- a step from the cursor c, of which n entries are left
 module _ (v : ℕ) (b w : List ℕ) (c : Cursor) (w′ : List ℕ) (n : ℕ) (more : 0 < n) where

@@ -5,20 +5,17 @@ use mathlib.Core.Bool.{Bool, true, false}
 use Prim.Native.Nat.{ℕ, _+_, _-_, _≤_, _<_}
 use native.Mathlib.Omega.{arith}
 use lib.ListN.{length, take, drop, getD, length-drop}
-use lib.Seq.{drop-drop, getD-drop, length-take-le}
+use lib.Seq.{drop-drop, getD-drop}
 use lib.Dec.{leb}
 use borrow.Author.Tests.{le-leb, lt-leb}
 use Rattle.format.specs.Bytes.{be32, eqList}
 use Rattle.format.specs.Layout.{TREE, REUC, cacheTree, resolveUndo, other, optional}
 use Rattle.format.specs.Reading.{bad, good, need, shift}
 use Rattle.format.specs.Reader.{Seen, readTree, readData, readExtension}
-use Rattle.fields.proofs.Laws.{be32-drop}
-use Rattle.spelling_extensions.proofs.Answers.{same-size}
+use Rattle.format_laws.proofs.Lists.{part-length}
+use Rattle.format_laws.proofs.Numbers.{be32-drop}
+use Rattle.format_laws.proofs.Readings.{same-size}
 use Rattle.extensions.specs.Heads.{part, undosIn, known}
-
--- a part's length
-pub part-length : (b : List ℕ) (a e : ℕ) → a ≤ e → e ≤ length b → length (part b a e) ≡ e - a
-part-length b a e h i = let l = length-drop a b in length-take-le (e - a) (drop a b) (omega arith)
 
 -- a test of the signature, as the code cuts it out
 pub four-bytes : (b : List ℕ) (at : ℕ) (s : List ℕ) (r : Bool) {t : Bool} → r ≡ eqList (part b at (at + 4)) s → r ≡ t → eqList (take 4 (drop at b)) s ≡ t
@@ -31,7 +28,7 @@ module _ (b : List ℕ) (at : ℕ) (inside : at ≤ length b) (ns : List (List �
 
   module _ (long : 8 ≤ length b - at) (size : ℕ) (is : size ≡ be32 b (at + 4)) where
     size-is : be32 (drop at b) 4 ≡ size
-    size-is = sym (is ∙ be32-drop b at 4)
+    size-is = be32-drop at b 4 ∙ sym is
 
     eight : leb 8 (length (drop at b)) ≡ true
     eight = let l = length-drop at b in le-leb 8 (length (drop at b)) (omega arith)
@@ -78,4 +75,4 @@ module _ (b : List ℕ) (at : ℕ) (inside : at ≤ length b) (ns : List (List �
           pub head-other : eqList (take 4 (drop at b)) REUC ≡ false
               → readExtension 20 ns k at (drop at b) ≡ good (other (take 4 (drop at b)) (part b (at + 8) end)) (end - at)
           unfolding readData shift
-          head-other e = let l = part-length b (at + 8) end (omega arith) (omega arith) in read-rest ∙ rw (no-tree, e) (same-size (omega arith))
+          head-other e = let l = part-length b (at + 8) end (omega arith) in read-rest ∙ rw (no-tree, e) (same-size (omega arith))

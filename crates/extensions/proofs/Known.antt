@@ -8,7 +8,8 @@ use lib.ListN.{length}
 use Rattle.format.specs.Records.{Undo}
 use Rattle.format.specs.Layout.{Extension, resolveUndo}
 use Rattle.format.specs.Reading.{Read, bad, good, need, shift, bind}
-use Rattle.spelling_extensions.proofs.Answers.{same-size}
+use Rattle.format_laws.proofs.Lists.{part-length}
+use Rattle.format_laws.proofs.Readings.{same-size}
 use Rattle.spelling_extensions.proofs.Undo.{read-undos, undos-read}
 use Rattle.resolve_undo.specs.declared.RecordsRead.the-variants as S
 use Rattle.resolve_undo.specs.Answers.{placeOf, recordsRead}
@@ -18,7 +19,6 @@ use Rattle.extensions.specs.declared.One.{One}
 use Rattle.extensions.specs.declared.One.the-variants as O
 use Rattle.extensions.specs.Heads.{part, undosIn, known, Inside}
 use Rattle.extensions.specs.Steps.{Answered}
-use Rattle.extensions.proofs.Heads.{part-length}
 use Rattle.extensions.proofs.Faults.{Faults, undos-faults}
 
 module _ {A : Type 0} (p : ℕ) (x : Read A) (kind : A → Extension) where
@@ -62,7 +62,7 @@ module _ (want : ℕ) (b : List ℕ) (at end : ℕ) (inside : Inside b at end) (
   undo-added wn count place e =
       let d : List ℕ = part b (at + 8) end in
       records-inv want count place _ (undosIn at d) (e at) λ us k q.
-      let l = part-length b (at + 8) end (inside .0) (inside .1) in
+      let l = part-length b (at + 8) end (inside .1) in
       let h = undos-read 20 at (length d) [] d us k q in
       let zero : undosIn 0 d ≡ good us (length d) = read-undos 20 0 (length d) (h .1) (omega arith) in
       let item = read-item 0 want count place d us (length d) zero (e 0) in (

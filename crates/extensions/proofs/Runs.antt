@@ -1,6 +1,6 @@
 -- The extensions one after another: those that have been read stand in front of the rest.
 use mathlib.Core.Path.{_≡_, refl, sym, ap, _∙_}
-use mathlib.Core.List.{List, [], _∷_, _++_, append-assoc, append-nil}
+use mathlib.Core.List.{List, [], _∷_, _++_, append-nil}
 use mathlib.Core.Bool.{false}
 use mathlib.Core.Option.{Option, none, some}
 use Prim.Native.Nat.{ℕ, _+_, _-_, _≤_, _<_}
@@ -9,10 +9,10 @@ use lib.ListN.{length, drop, length-drop, drop-of-length-le}
 use lib.Seq.{drop-drop}
 use Rattle.format.specs.Records.{Tree, Undo}
 use Rattle.format.specs.Layout.{Extension, cacheTree, resolveUndo, other, trees, undos}
-use Rattle.format.specs.Reading.{Read, bad, good, shift, bind}
+use Rattle.format.specs.Reading.{bad, good, bind}
 use Rattle.format.specs.Reader.{Seen, noneSeen, alsoSeen, readExtension, first}
-use Rattle.spelling_entries.proofs.Reading.{false-true}
-use Rattle.spelling_extensions.proofs.Answers.{same-size, none-some}
+use Rattle.format_laws.proofs.Tests.{false-true}
+use Rattle.format_laws.proofs.Readings.{none-some, inFront, front-none, front-one, front-front}
 use Rattle.spelling_extensions.proofs.Extensions.{extensionsOf, extensionsOf-end, extensionsOf-step}
 use Rattle.extensions.specs.declared.Found.{Found}
 use Rattle.extensions.specs.Heads.{Inside}
@@ -70,24 +70,6 @@ module _ (wn wr : ℕ) (b : List ℕ) (found f : Found) where
 
 -- ---- one reading after another
 
--- xs, which took n bytes, in front of an answer
-abbrev pub inFront : List Extension → ℕ → Read (List Extension) → Read (List Extension)
-inFront xs n (bad m p) = bad m p
-inFront xs n (good ys k) = good (xs ++ ys) (n + k)
-
-front-none : (r : Read (List Extension)) → r ≡ inFront [] 0 r
-front-none (bad m p) = refl
-front-none (good ys k) = same-size (omega arith)
-
-front-front : (xs ys : List Extension) (m n : ℕ) (r : Read (List Extension)) → inFront xs m (inFront ys n r) ≡ inFront (xs ++ ys) (m + n) r
-front-front xs ys m n (bad a p) = refl
-front-front xs ys m n (good zs k) = let sum : m + (n + k) ≡ m + n + k = omega arith in rw (append-assoc xs ys zs, sum)
-
-front-one : (x : Extension) (m : ℕ) (r : Read (List Extension)) → shift m (bind r (λ xs n. good (x ∷ xs) 0)) ≡ inFront (x ∷ []) m r
-unfolding bind shift
-front-one x m (bad n p) = refl
-front-one x m (good xs k) = same-size (omega arith)
-
 module _ (ns : List (List ℕ)) (k : Seen) (p : ℕ) (s : List ℕ) (some : 1 ≤ length s) where
   step-bad : (n q : ℕ) → readExtension 20 ns k p s ≡ bad n q → extensionsOf 20 ns k p s ≡ bad n q
   unfolding bind
@@ -113,10 +95,11 @@ module _ (wn wr : ℕ) (b : List ℕ) (ns : List (List ℕ)) (at : ℕ) where
   unfolding trees undos
   behind-none =
       let none : at - at ≡ 0 = omega arith in
-      record { list = []; order = omega arith; whole = rw none (front-none _); tree = refl; undo = refl }
+      record { list = []; order = omega arith; whole = rw none (sym (front-none _)); tree = refl; undo = refl }
 
   module _ (place : ℕ) (found : Found) (h : Behind wn wr b ns at place found) where
     pub behind-end : length b ≤ place → place ≤ length b → extensionsOf 20 ns noneSeen at (drop at b) ≡ good (h .list) (length b - at)
+    unfolding inFront
     behind-end end inside =
         let o = h .order in
         let size : place - at + 0 ≡ length b - at = omega arith in
@@ -127,6 +110,7 @@ module _ (wn wr : ℕ) (b : List ℕ) (ns : List (List ℕ)) (at : ℕ) where
       left = let l = length-drop place b in omega arith
 
       pub behind-bad : (n : ℕ) → readExtension 20 ns (seenOf found) place (drop place b) ≡ bad n place → extensionsOf 20 ns noneSeen at (drop at b) ≡ bad n place
+      unfolding inFront
       behind-bad n e = h .whole ∙ rw (step-bad ns (seenOf found) place (drop place b) left n place e)
 
       pub behind-more : (next : ℕ) (f : Found) (e : Extension) → Inside b place next → readExtension 20 ns (seenOf found) place (drop place b) ≡ good e (next - place)

@@ -11,8 +11,8 @@ use Rattle.format.specs.Records.{Tree, treeItems}
 use Rattle.format.specs.Layout.{cacheTree, distinct, okTreeCounts}
 use Rattle.format.specs.Reading.{Read, bad, good, need, shift, bind}
 use Rattle.format.specs.Reader.{readNodes, readTree}
-use Rattle.spelling_entries.proofs.Reading.{good-inv, need-inv, bind-inv}
-use Rattle.spelling_extensions.proofs.Answers.{same-size}
+use Rattle.format_laws.proofs.Lists.{part-length}
+use Rattle.format_laws.proofs.Readings.{good-inv, need-inv, bind-inv, same-size}
 use Rattle.cache_tree.specs.declared.TreeRead.the-variants as T
 use Rattle.cache_tree.specs.Answers.{levelIn}
 use Rattle.cache_tree.specs.Flat.{placeOf}
@@ -23,7 +23,6 @@ use Rattle.extensions.specs.declared.Found.{Found}
 use Rattle.extensions.specs.declared.One.the-variants as O
 use Rattle.extensions.specs.Heads.{part, known, Inside}
 use Rattle.extensions.specs.Steps.{Answered}
-use Rattle.extensions.proofs.Heads.{part-length}
 use Rattle.extensions.proofs.Known.{known-bad, known-good}
 
 -- what the data have been tested for
@@ -81,7 +80,7 @@ module _ (want wr : ℕ) (b : List ℕ) (at end : ℕ) (inside : Inside b at end
         let d : List ℕ = part b (at + 8) end in
         tree-inv want d n place level (readShape 20 0 d) (e 0) λ t m q number place-is level-is.
         shape-inv d t m q λ size nodes differ.
-        let l = part-length b (at + 8) end (inside .0) (inside .1) in
+        let l = part-length b (at + 8) end (inside .1) in
         let counts : okTreeCounts ns t ≡ true = sym (test t _ nodes differ) ∙ right in
         let reads : readTree 20 ns at d ≡ good t (m + 0) = tree-read ns at d t m q ∙ rw counts in (
           cacheTree t,

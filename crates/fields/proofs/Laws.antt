@@ -1,57 +1,20 @@
--- Laws of numbers, texts and names at a place of a list.
+-- Laws of texts and names at a place of a list, and of the workspace.
 use mathlib.Core.Path.{_≡_, refl, sym, ap, _∙_}
 use mathlib.Core.List.{List, [], _∷_, _++_, append-assoc}
-use mathlib.Core.Bool.{Bool, true, false, cond, _&&_, false≢true}
+use mathlib.Core.Bool.{Bool, true, false, _&&_, and-true}
 use Prim.Native.Nat.{ℕ, suc, _+_, _-_, _≤_, _<_}
-use native.Mathlib.Nat.{add-assoc, sub-self}
+use native.Mathlib.Nat.{sub-self}
 use native.Mathlib.Numerals.{add-one}
 use native.Mathlib.Omega.{arith}
-use lib.ListN.{length, getD, take, drop, set, replicate, length-drop, drop-of-length-le, take-append-drop, length-replicate, getD-replicate}
-use lib.Seq.{length-take-le, drop-cons, take-suc, getD-drop, drop-drop, take-add, drop-at, take-all, take-length, paste, paste-zero, paste-suc}
-use lib.Dec.{eqb, leb}
-use borrow.Author.Tests.{eq-eqb, eqb-true, ne-eqb, leb-true, leb-false, le-leb, lt-leb, lt-ltb, le-ltb}
+use lib.ListN.{length, getD, take, drop, set, replicate, drop-of-length-le, length-replicate, getD-replicate}
+use lib.Seq.{drop-cons, take-all, take-length, paste, paste-zero, paste-suc}
+use lib.Dec.{leb}
+use borrow.Author.Tests.{eq-eqb, ne-eqb, leb-true, leb-false, le-leb, lt-ltb, le-ltb}
 use Rattle.format.specs.declared.Order.the-variants.{Below, Same, Above}
-use Rattle.format.specs.Bytes.{be16, be32, eqList, before, lacks, zeros}
+use Rattle.format.specs.Bytes.{eqList, before, lacks, zeros}
 use Rattle.format.specs.Names.{componentsFrom, components, okComponent, okComponents, okName, compare, common}
-
--- ---- numbers
-
-pub be16-drop : (s : List ℕ) (a k : ℕ) → be16 s (a + k) ≡ be16 (drop a s) k
-unfolding be16
-be16-drop s a k = rw (getD-drop a s k 0, getD-drop a s (k + 1) 0, add-assoc a k 1)
-
-pub be32-drop : (s : List ℕ) (a k : ℕ) → be32 s (a + k) ≡ be32 (drop a s) k
-unfolding be32
-be32-drop s a k = rw (sym (be16-drop s a k), sym (be16-drop s a (k + 2)), add-assoc a k 2)
-
--- ---- parts
-
--- a part that is one longer at its end
-pub part-more : (s : List ℕ) (a e : ℕ) → a ≤ e → e < length s → take (e + 1 - a) (drop a s) ≡ take (e - a) (drop a s) ++ (getD s e 0 ∷ [])
-part-more s a e h l =
-    let n : e + 1 - a ≡ suc (e - a) = omega arith in
-    let k : a + (e - a) ≡ e = omega arith in
-    let d : e - a < length (drop a s) = simp length-drop (omega arith) in
-    rw (n, take-suc (drop a s) (e - a) 0 d, getD-drop, k)
-
--- a part and its first byte
-pub part-cons : (s : List ℕ) (i e : ℕ) → i < e → e ≤ length s → take (e - i) (drop i s) ≡ getD s i 0 ∷ take (e - (i + 1)) (drop (i + 1) s)
-part-cons s i e h l =
-    let n : e - i ≡ suc (e - (i + 1)) = omega arith in
-    let d : i < length s = omega arith in
-    rw (n, drop-cons s i 0 d, add-one)
-
--- a part of a part
-pub part-inside : (s : List ℕ) (a n m : ℕ) → n ≤ m → a + n ≤ length s → take (a + m - (a + n)) (drop (a + n) s) ≡ drop n (take m (drop a s))
-part-inside s a n m h l =
-    let k : a + m - (a + n) ≡ m - n = omega arith in
-    let e : n + (m - n) ≡ m = omega arith in
-    let d : n ≤ length (drop a s) = simp length-drop (omega arith) in
-    let front : List ℕ = take n (drop a s) in
-    let back : List ℕ = take (m - n) (drop n (drop a s)) in
-    rw
-    (k, ← drop-drop)
-    (sym (ap (λ (i : ℕ). drop n (take i (drop a s))) (sym e) ∙ ap (drop n) (take-add n (m - n) (drop a s)) ∙ drop-at front back n (length-take-le n (drop a s) d)))
+use Rattle.format_laws.proofs.Tests.{and-left-comm}
+use Rattle.format_laws.proofs.Lists.{part-cons}
 
 -- ---- texts, from a place on
 
@@ -152,57 +115,6 @@ module _ (s t : List ℕ) (i : ℕ) where
   pub eqList-tail : length s ≤ i → leb (length t) i ≡ eqList (drop i s) (drop i t)
   eqList-tail h = eqList-by (leb (length t) i) refl h
 
--- ---- a common beginning
-
-compare-head : (x : ℕ) (s t : List ℕ) → compare (x ∷ s) (x ∷ t) ≡ compare s t
-unfolding compare
-compare-head x s t = let h : x ≤ x = omega arith in rw (le-ltb x x h)
-
-common-head : (x : ℕ) (s t : List ℕ) → common (x ∷ s) (x ∷ t) ≡ suc (common s t)
-unfolding common
-common-head x s t = rw (eq-eqb x x refl)
-
--- it does not count for the order
-pub compare-append : (q s t : List ℕ) → compare (q ++ s) (q ++ t) ≡ compare s t
-compare-append [] s t = refl
-compare-append (x ∷ q) s t = compare-head x (q ++ s) (q ++ t) ∙ compare-append q s t
-
-pub common-append : (q s t : List ℕ) → common (q ++ s) (q ++ t) ≡ length q + common s t
-common-append [] s t = omega arith
-common-append (x ∷ q) s t = common-head x (q ++ s) (q ++ t) ∙ omega (arith, common-append q s t)
-
--- the first bytes of s and t, as many as they have in common
-common-by : (x y : ℕ) (s t : List ℕ) (b : Bool) → eqb x y ≡ b → take (common s t) s ≡ take (common s t) t
-    → take (cond b (suc (common s t)) 0) (x ∷ s) ≡ take (cond b (suc (common s t)) 0) (y ∷ t)
-common-by x y s t true e h = rw (eqb-true x y e, h)
-common-by x y s t false e h = refl
-
-pub common-take : (s t : List ℕ) → take (common s t) s ≡ take (common s t) t
-unfolding common
-common-take [] t = refl
-common-take (x ∷ s) [] = refl
-common-take (x ∷ s) (y ∷ t) = common-by x y s t (eqb x y) refl (common-take s t)
-
--- what follows decides the order
-module _ (s t : List ℕ) (n : ℕ) (is : n ≡ common s t) (within : n ≤ length s) where
-  from-n : s ≡ take n s ++ drop n s
-  from-n = sym (take-append-drop n s)
-
-  also-n : t ≡ take n s ++ drop n t
-  also-n = sym (take-append-drop n t) ∙ rw (is, common-take)
-
-  pub compare-rest : compare s t ≡ compare (drop n s) (drop n t)
-  compare-rest = ap (λ (l : List ℕ). compare l t) from-n ∙ ap (compare (take n s ++ drop n s)) also-n ∙ compare-append (take n s) (drop n s) (drop n t)
-
-  pub common-rest : common (drop n s) (drop n t) ≡ 0
-  common-rest =
-      let e : common s t ≡ length (take n s) + common (drop n s) (drop n t) =
-      ap (λ (l : List ℕ). common l t) from-n ∙ ap (common (take n s ++ drop n s)) also-n ∙ common-append (take n s) (drop n s) (drop n t) in
-      omega (arith, e, length-take-le n s within)
-
-  pub common-ends : n < length s → n < length t → getD s n 0 ≡ getD t n 0 → ⊥
-  common-ends h l e = omega (arith, common-rest, common-step s t n h l e)
-
 -- ---- the workspace
 
 -- s, copied whole to a place of d
@@ -210,7 +122,6 @@ pub copied : (d s : List ℕ) (at : ℕ) → paste d at s (length s) ≡ take at
 copied d s at = rw (take-length, append-assoc)
 
 -- a list that is zero from n to e, as far as i
-
 module _ (d : List ℕ) (n e : ℕ) where
   pub fill-none : d ≡ paste d n (replicate (e - n) 0) (n - n)
   fill-none = rw sub-self (paste-zero d n (replicate (e - n) 0))
@@ -241,23 +152,6 @@ module _ (d : List ℕ) (n e : ℕ) where
 unfoldable pub okRest : List ℕ → List ℕ → Bool
 okRest part s = lacks 0 s && okComponents (componentsFrom part s)
 
-and-true : (b : Bool) → (b && true) ≡ b
-and-true true = refl
-and-true false = refl
-
-and-left : (a b : Bool) → (a && b) ≡ true → a ≡ true
-and-left true b e = refl
-and-left false b e = e
-
-and-right : (a b : Bool) → (a && b) ≡ true → b ≡ true
-and-right true b e = e
-and-right false b e = absurd (false≢true e)
-
-and-swap : (a b c : Bool) → (a && (b && c)) ≡ (b && (a && c))
-and-swap true b c = refl
-and-swap false true c = refl
-and-swap false false c = refl
-
 module _ (part s : List ℕ) (e : ℕ) where
   pub okRest-end : length s ≤ e → okRest part (drop e s) ≡ okComponent part
   unfolding okRest lacks componentsFrom okComponents
@@ -270,7 +164,7 @@ module _ (part s : List ℕ) (e : ℕ) where
 
     pub okRest-slash : getD s e 0 ≡ 47 → okRest part (drop e s) ≡ (okComponent part && okRest [] (drop (e + 1) s))
     unfolding okRest lacks componentsFrom okComponents
-    okRest-slash z = rw (drop-cons s e 0 inside, z, add-one) (and-swap (lacks 0 (drop (suc e) s)) (okComponent part) _)
+    okRest-slash z = rw (drop-cons s e 0 inside, z, add-one) (and-left-comm (lacks 0 (drop (suc e) s)) (okComponent part) _)
 
     pub okRest-other : (getD s e 0 ≡ 0 → ⊥) → (getD s e 0 ≡ 47 → ⊥) → okRest part (drop e s) ≡ okRest (part ++ (getD s e 0 ∷ [])) (drop (e + 1) s)
     unfolding okRest lacks componentsFrom
@@ -281,15 +175,3 @@ pub okName-in : (s : List ℕ) → length s ≤ 8192 → okName s ≡ okRest [] 
 unfolding okName okRest lacks components componentsFrom okComponents okComponent eqList
 okName-in [] h = refl
 okName-in (x ∷ s) h = let some : 1 ≤ length (x ∷ s) = omega arith in rw (le-leb _ _ some, le-leb _ _ h)
-
-pub okName-over : (s : List ℕ) → 8192 < length s → okName s ≡ false
-unfolding okName
-okName-over s h = let some : 1 ≤ length s = omega arith in rw (le-leb _ _ some, lt-leb _ _ h)
-
-pub okName-length : (s : List ℕ) → okName s ≡ true → (1 ≤ length s) × (length s ≤ 8192)
-unfolding okName
-okName-length s e =
-    let some : Bool = leb 1 (length s) in
-    let few : Bool = leb (length s) 8192 in
-    let sound : Bool = lacks 0 s && okComponents (components s) in
-    (leb-true _ _ (and-left some (few && sound) e), leb-true _ _ (and-left few sound (and-right some (few && sound) e)))

@@ -1,5 +1,5 @@
 -- Laws of the workspace, of names that answers point at, and of the fields of an entry.
-use mathlib.Core.Path.{_≡_, refl, _∙_}
+use mathlib.Core.Path.{_≡_, refl, sym, _∙_}
 use mathlib.Core.List.{List, [], _++_}
 use mathlib.Core.Bool.{true, false}
 use Prim.Native.Nat.{ℕ, _+_, _-_, _/_, _%_, _≤_, _<_}
@@ -11,7 +11,7 @@ use lib.Dec.{eqb}
 use borrow.Author.Tests.{lt-ltb, le-ltb, le-leb, lt-leb}
 use Rattle.format.specs.Bytes.{be32, be32s}
 use Rattle.format.specs.Reader.{isSet, entryOf}
-use Rattle.fields.proofs.Laws.{be32-drop}
+use Rattle.format_laws.proofs.Numbers.{be32-drop}
 use Rattle.file.specs.declared.Fields.{Fields}
 use Rattle.file.specs.declared.Shown.{Shown}
 use Rattle.file.specs.declared.Shown.the-variants.{Refused, InFile, InWorkspace}
@@ -94,6 +94,6 @@ fieldsAt b at x y = record {
 pub fields-entry : (b : List ℕ) (at x y : ℕ) (name : List ℕ) → entryWith (fieldsAt b at x y) name ≡ entryOf 20 (drop at b) x y name
 unfolding entryOf isSet be32s
 fields-entry b at x y name =
-    let first : be32 b at ≡ be32 (drop at b) 0 = rw (add-zero at) at (be32-drop b at 0) in
-    let at-k = be32-drop b at in
+    let first : be32 b at ≡ be32 (drop at b) 0 = rw (add-zero at) at (sym (be32-drop at b 0)) in
+    let at-k : (k : ℕ) → be32 b (at + k) ≡ be32 (drop at b) k = λ k. sym (be32-drop at b k) in
     rw (first, at-k 4, at-k 8, at-k 12, at-k 16, at-k 20, at-k 24, at-k 28, at-k 32, at-k 36, ← (drop-drop 40 at b)) refl

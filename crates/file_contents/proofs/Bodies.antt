@@ -10,7 +10,7 @@ use Rattle.format.specs.Records as F
 use Rattle.format.specs.Layout.{Extension, trees, undos, names}
 use Rattle.format.specs.Reading.{Read, bad, good, shift, bind}
 use Rattle.format.specs.Reader.{Contents, noneSeen, readEntries, readExtensions, readBody, first}
-use Rattle.spelling_entries.proofs.Reading.{good-inv, bind-inv}
+use Rattle.format_laws.proofs.Readings.{good-inv, bind-inv}
 use Rattle.entries_run.specs.declared.Run.the-variants as R
 use Rattle.entries_run.specs.Steps.{runOf}
 use Rattle.entries_run.proofs.Steps.{runOf-bad, runOf-good}

@@ -9,7 +9,7 @@ use lib.Dec.{ltb}
 use borrow.Author.Tests.{ltb-false}
 use Rattle.format.specs.Reading.{Read, bad, good}
 use Rattle.format.specs.Reader.{Contents}
-use Rattle.spelling_entries.proofs.Reading.{bad-good}
+use Rattle.format_laws.proofs.Readings.{bad-good}
 use Rattle.entries_run.specs.Steps.{Room}
 use Rattle.file.specs.Answers.{tooSmall, cleared}
 use Rattle.file.proofs.Laws.{small, large, cleared-large}

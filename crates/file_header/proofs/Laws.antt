@@ -12,8 +12,8 @@ use Rattle.format.specs.Bytes.{be32, eqList}
 use Rattle.format.specs.Layout.{DIRC}
 use Rattle.format.specs.Reading.{bad, need}
 use Rattle.format.specs.Reader.{readBody, readFile}
+use Rattle.format_laws.proofs.Tests.{and-inv}
 use Rattle.hash.specs.Sha1.{sha1}
-use Rattle.spelling_entries.proofs.Reading.{and-inv}
 use Rattle.file_header.specs.declared.Opening.{Opening}
 use Rattle.file_header.specs.declared.Header.{Header}
 use Rattle.file_header.specs.declared.Header.the-variants.{Bad, Good}

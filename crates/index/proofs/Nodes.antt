@@ -7,21 +7,21 @@ use Prim.Native.Nat.{ℕ, _+_, _-_, _≤_, _<_}
 use native.Mathlib.Omega.{arith}
 use lib.ListN.{length, take, drop, getD, replicate, length-take, length-drop}
 use lib.Seq.{drop-drop}
-use lib.Dec.{leb}
 use borrow.Author.Tests.{lt-ltb}
 use Rattle.format.specs.Records as F
 use Rattle.format.specs.Reading.{good}
 use Rattle.format.specs.Bytes.{before}
 use Rattle.format.specs.Reader.{Head, readText, readCount, readSubtrees, readObject, readNode, readNodes}
+use Rattle.format_laws.proofs.Tests.{false-true}
+use Rattle.format_laws.proofs.Readings.{bind-inv}
 use Rattle.cache_tree.specs.declared.node.Node as Code
 use Rattle.cache_tree.specs.declared.node.NodeRead.the-variants as N
 use Rattle.cache_tree.specs.Answers.{isValid, counted, objectLength, nodeOf, nodeAt}
 use Rattle.cache_tree.specs.Flat.{placeOf}
-use Rattle.cache_tree.proofs.Readings.{need-inv, bind-inv, node-took}
-use Rattle.cache_tree.proofs.Nodes.{node-named, node-object}
+use Rattle.cache_tree.proofs.Readings.{node-took}
+use Rattle.cache_tree.proofs.Nodes.{node-named, object-valid, node-object}
 use Rattle.cache_tree.proofs.Flat.{Shown}
 use Rattle.cache_tree.proofs.Shape.{tree-item, level-is}
-use Rattle.spelling_entries.proofs.Reading.{false-true}
 use Rattle.file.specs.declared.Shown.the-variants as S
 use Rattle.file.specs.Answers.{View, refused, inFile, listed, itemsOf, partIn, nameIn, countWith, nodeSaid}
 use Rattle.file.proofs.Laws.{part-in}
@@ -107,11 +107,6 @@ valid-length : (c : F.Count) → isValid c ≡ true → objectLength c ≡ 20
 valid-length (F.valid n) e = refl
 valid-length F.invalid e = false-true e
 
-object-takes : (w p : ℕ) (c : F.Count) (s o : List ℕ) (k : ℕ) → readObject w p c s ≡ good o k → isValid c ≡ true → w ≡ k
-unfolding readObject
-object-takes w p (F.valid n) s o k e v = need-inv (leb w (length s)) 15 p k o _ e (λ l r. (cc))
-object-takes w p F.invalid s o k e v = false-true v
-
 -- a node with a valid entry count takes the bytes of its object name
 node-takes : (w p : ℕ) (s : List ℕ) (h : Head) (m : ℕ) → readNode w p s ≡ good h m → isValid (h .node .count) ≡ true → w ≤ m
 unfolding readNode
@@ -122,7 +117,7 @@ node-takes w p s h m e v =
     bind-inv (readObject w p count (drop c (drop b (drop a s)))) _ h l r₂ λ object o z q₃ r₃ is₃.
     let same : record { node = record { name = name; count = count; object = object }; subtrees = k } ≡ h = cc in
     let valid : isValid count ≡ true = ap (λ (x : Head). isValid (x .node .count)) same ∙ v in
-    omega (arith, object-takes w p count _ object o q₃ valid)
+    omega (arith, object-valid w p count _ object o q₃ valid .0)
 
 module _ (d : List ℕ) (at : ℕ) (i : F.Item) (taken : ℕ)
     (reads : readNode 20 0 (drop at d) ≡ good (record { node = i .node; subtrees = i .subtrees }) taken) where

@@ -5,14 +5,15 @@ use mathlib.Core.Bool.{Bool, true, false, cond}
 use mathlib.Core.Option.{Option, none, some}
 use Prim.Native.Nat.{ℕ, zero, suc, _+_, _-_, _≤_, _<_}
 use native.Mathlib.Omega.{arith}
-use lib.ListN.{length, take, drop, getD, replicate, getElem?, length-take, length-replicate}
-use lib.Seq.{take-take, drop-at}
+use lib.ListN.{length, take, drop, getD, replicate, getElem?, length-take}
+use lib.Seq.{take-take}
 use lib.Dec.{ltb}
 use borrow.Author.Tests.{ltb-false}
 use Rattle.format.specs.Records as F
 use Rattle.format.specs.Reading.{Read, bad, good}
 use Rattle.format.specs.Reader.{Contents}
-use Rattle.spelling_entries.proofs.Reading.{bad-good}
+use Rattle.format_laws.proofs.Lists.{past-zeros}
+use Rattle.format_laws.proofs.Readings.{bad-good}
 use Rattle.entries_run.specs.Steps.{Room}
 use Rattle.file.specs.declared.Checked.the-variants as K
 use Rattle.file.specs.declared.EntryAnswer.{EntryAnswer}
@@ -53,7 +54,7 @@ module _ {A : Type 0} where
 -- ---- the workspace, cleared
 
 pub cleared-past : (work : List ℕ) → 8192 ≤ length work → drop 8192 (cleared work) ≡ drop 8192 work
-cleared-past work room = rw (cleared-large work room) (drop-at (replicate 8192 0) (drop 8192 work) 8192 (length-replicate {A = ℕ} 8192 0))
+cleared-past work room = rw (cleared-large work room) (past-zeros 8192 (drop 8192 work))
 
 -- ---- views
 

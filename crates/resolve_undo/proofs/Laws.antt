@@ -1,23 +1,24 @@
 -- Laws of the reader's steps at a place of the data.
 use mathlib.Core.Path.{_≡_, refl, sym, _∙_}
-use mathlib.Core.List.{List, _++_, append-nil}
+use mathlib.Core.List.{List}
 use mathlib.Core.Bool.{Bool, true, false, cond, not, _&&_, _||_}
 use mathlib.Core.Option.{Option, none, some}
 use Prim.Native.Nat.{ℕ, _+_, _-_, _≤_, _<_}
 use native.Mathlib.Omega.{arith}
 use native.Mathlib.Nat.{add-assoc}
-use lib.ListN.{length, take, drop, replicate, length-drop, drop-of-length-le}
-use lib.Seq.{drop-drop, length-take-le}
+use lib.ListN.{length, take, drop, replicate, length-drop}
+use lib.Seq.{drop-drop}
 use lib.Dec.{eqb, ltb}
-use borrow.Author.Tests.{ltb-true, lt-ltb, le-ltb, eq-eqb, ne-eqb, eqb-true, leb-true, le-leb}
+use borrow.Author.Tests.{ltb-true, lt-ltb, eq-eqb, ne-eqb, eqb-true, leb-true, le-leb}
 use Rattle.format.specs.Bytes.{before}
 use Rattle.format.specs.Names.{okName, compare, isBelow}
 use Rattle.format.specs.Records.{Stage, Undo}
 use Rattle.format.specs.Layout.{someStage}
 use Rattle.format.specs.Reading.{Read, bad, good, need, shift, bind}
 use Rattle.format.specs.Reader.{readText, needSome, modeIn, readMode, readStage, readStages, readUndo}
-use Rattle.spelling_entries.proofs.Reading.{by-test, cond-inv, good-inv, need-inv, bind-inv, need-good, bind-good}
-use Rattle.spelling_extensions.proofs.Answers.{same-size}
+use Rattle.format_laws.proofs.Tests.{by-test, cond-inv}
+use Rattle.format_laws.proofs.Texts.{text-none, text-some}
+use Rattle.format_laws.proofs.Readings.{good-inv, need-inv, bind-inv, need-good, bind-good, same-size}
 use Rattle.resolve_undo.specs.declared.ModeFound.the-variants as F
 use Rattle.resolve_undo.specs.declared.ModeRead.{ModeRead}
 use Rattle.resolve_undo.specs.declared.ModeRead.the-variants as M
@@ -25,23 +26,6 @@ use Rattle.resolve_undo.specs.declared.Record.{Record}
 use Rattle.resolve_undo.specs.declared.RecordRead.{RecordRead}
 use Rattle.resolve_undo.specs.declared.RecordRead.the-variants as R
 use Rattle.resolve_undo.specs.Answers.{modeFound, modeRead, ModeWithin, objectLength, objectsLength, objectIn, readThird, readSecond, readFirst, recordOf, recordRead, RecordWithin}
-
--- ---- a text from at that the byte b at e ends
-
-module _ (b n p at e : ℕ) (d : List ℕ) (is : e ≡ at + before b (drop at d)) (inside : at ≤ length d) where
-  text-none : e ≡ length d → readText b n p (drop at d) ≡ bad n p
-  unfolding readText need
-  text-none end =
-      let h : length (drop at d) ≤ before b (drop at d) = simp length-drop (omega arith) in
-      rw (le-ltb _ _ h)
-
-  text-some : e < length d → readText b n p (drop at d) ≡ good (take (e - at) (drop at d)) (e + 1 - at)
-  unfolding readText need
-  text-some more =
-      let h : before b (drop at d) < length (drop at d) = simp length-drop (omega arith) in
-      let k : before b (drop at d) ≡ e - at = omega arith in
-      let l : e - at + 1 ≡ e + 1 - at = omega arith in
-      rw (lt-ltb _ _ h, k, l)
 
 -- ---- modes
 
@@ -62,18 +46,18 @@ module _ (p at k : ℕ) where
 module _ (at e : ℕ) (d : List ℕ) (is : e ≡ at + before 0 (drop at d)) (inside : at ≤ length d) (p : ℕ) where
   pub mode-none : e ≡ length d → modeRead at (readMode p (drop at d)) ≡ M.Bad
   unfolding readMode bind
-  mode-none end = rw (text-none 0 17 p at e d is inside end)
+  mode-none end = rw (text-none 0 17 p d at e is end)
 
   module _ (more : e < length d) where
     pub mode-bad : modeFound (modeIn (take (e - at) (drop at d))) ≡ F.Bad → modeRead at (readMode p (drop at d)) ≡ M.Bad
     unfolding readMode bind
-    mode-bad h = rw (text-some 0 17 p at e d is inside more) (some-bad p at (e + 1 - at) _ h)
+    mode-bad h = rw (text-some 0 17 p d at e is more) (some-bad p at (e + 1 - at) _ h)
 
     pub mode-good : (m : ℕ) → modeFound (modeIn (take (e - at) (drop at d))) ≡ F.Good m → modeRead at (readMode p (drop at d)) ≡ M.Good m (e + 1)
     unfolding readMode bind
     mode-good m h =
         let l : at + (e + 1 - at) ≡ e + 1 = omega arith in
-        rw (text-some 0 17 p at e d is inside more) (some-good p at (e + 1 - at) _ m h ∙ rw l)
+        rw (text-some 0 17 p d at e is more) (some-good p at (e + 1 - at) _ m h ∙ rw l)
 
 -- ---- answers
 
@@ -135,15 +119,6 @@ missing-object w m s h = rw (eq-eqb m 0 h)
 pub there-object : (w m : ℕ) (s : List ℕ) → (m ≡ 0 → ⊥) → objectIn w m s ≡ take w s
 unfolding objectIn
 there-object w m s h = rw (ne-eqb m 0 h)
-
--- an array of w bytes, with w bytes of d copied over it
-pub copied-over : (w at e : ℕ) (d o : List ℕ) → length o ≡ w → e ≡ at + w → e ≤ length d
-    → take 0 o ++ (take (e - at) (drop at d) ++ drop (0 + length (take (e - at) (drop at d))) o) ≡ take w (drop at d)
-copied-over w at e d o wide is fits =
-    let size : e - at ≡ w = omega arith in
-    let long : length (take w (drop at d)) ≡ w = length-take-le w (drop at d) (simp length-drop (omega arith)) in
-    let all : length o ≤ 0 + w = omega arith in
-    rw (size, long, drop-of-length-le o all, append-nil)
 
 -- the stage of a mode whose object name, where it is there, begins s
 abbrev pub stageIn : ℕ → ℕ → List ℕ → Stage
@@ -289,13 +264,10 @@ pub undo-is : (w p : ℕ) (previous s : List ℕ)
 unfolding readUndo readFirst readSecond readThird
 undo-is w p previous s = refl
 
-pub path-size : (at e : ℕ) (d : List ℕ) → e < length d → length (take (e - at) (drop at d)) ≡ e - at
-path-size at e d h = let l : e - at ≤ length (drop at d) = simp length-drop (omega arith) in length-take-le (e - at) (drop at d) l
-
 module _ (w at e : ℕ) (d previous : List ℕ) (is : e ≡ at + before 0 (drop at d)) (inside : at ≤ length d) (p : ℕ) where
   pub undo-none : e ≡ length d → recordRead at (readUndo w p previous (drop at d)) ≡ R.Bad
   unfolding readUndo bind
-  undo-none end = rw (text-none 0 17 p at e d is inside end)
+  undo-none end = rw (text-none 0 17 p d at e is end)
 
   module _ (more : e < length d) where
     abbrev path : List ℕ
@@ -303,12 +275,12 @@ module _ (w at e : ℕ) (d previous : List ℕ) (is : e ≡ at + before 0 (drop 
 
     pub undo-path : (okName path && isBelow (compare previous path)) ≡ false → recordRead at (readUndo w p previous (drop at d)) ≡ R.Bad
     unfolding bind need shift
-    undo-path h = rw (undo-is, text-some 0 17 p at e d is inside more, h)
+    undo-path h = rw (undo-is, text-some 0 17 p d at e is more, h)
 
     pub undo-rest : (okName path && isBelow (compare previous path)) ≡ true
         → recordRead at (readUndo w p previous (drop at d)) ≡ recordRead (e + 1) (readFirst w p path (drop (e + 1) d))
     unfolding bind need
     undo-rest h =
         let place : at + (e + 1 - at) ≡ e + 1 = omega arith in
-        rw (undo-is, text-some 0 17 p at e d is inside more, h)
+        rw (undo-is, text-some 0 17 p d at e is more, h)
         (record-shift at (e + 1 - at) (readFirst w p path (drop (e + 1 - at) (drop at d))) ∙ rw (drop-drop (e + 1 - at) at d, place))

@@ -12,8 +12,9 @@ use Rattle.format.specs.Bytes.{before}
 use Rattle.format.specs.Records.{Undo}
 use Rattle.format.specs.Reading.{Read, bad, good, shift, bind}
 use Rattle.format.specs.Reader.{readText, readUndo, readUndos}
-use Rattle.spelling_entries.proofs.Reading.{by-test, good-inv, need-inv, bind-inv}
-use Rattle.spelling_entries.proofs.Bytes.{before-le}
+use Rattle.format_laws.proofs.Tests.{by-test}
+use Rattle.format_laws.proofs.Texts.{before-le}
+use Rattle.format_laws.proofs.Readings.{good-inv, need-inv, bind-inv}
 use Rattle.spelling_extensions.proofs.Undo.{undosOf, undosOf-end, undosOf-step}
 use Rattle.resolve_undo.specs.declared.Record.{Record}
 use Rattle.resolve_undo.specs.declared.RecordRead.the-variants as R

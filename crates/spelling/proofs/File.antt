@@ -1,21 +1,23 @@
 -- A whole file: it is accepted exactly when records spell it, one set of records only spells it, and what a cut of it can show.
 use mathlib.Core.Path.{_≡_, refl, sym, ap, _∙_}
-use mathlib.Core.List.{List, [], _∷_, _++_, append-assoc}
-use mathlib.Core.Bool.{Bool, true, false, _&&_}
+use mathlib.Core.List.{List, _++_, append-assoc}
+use mathlib.Core.Bool.{true, _&&_}
 use mathlib.Core.Option.{Option, none, some}
-use Prim.Native.Nat.{ℕ, zero, suc, _+_, _-_, _≤_, _<_}
+use Prim.Native.Nat.{ℕ, _+_, _-_, _≤_, _<_}
 use native.Mathlib.Omega.{arith}
-use lib.ListN.{length, take, drop, length-append, length-take, length-drop, take-append-drop}
+use lib.ListN.{length, take, drop, length-append, take-append-drop}
 use lib.Seq.{take-at, drop-at, drop-drop, take-take, length-take-le}
 use lib.Dec.{leb}
 use borrow.Author.Tests.{le-leb, leb-true}
 use Rattle.format.specs.Bytes.{Bytes, be32, put32, eqList}
-use Rattle.format.specs.Records.{Entry, Key, start, Records, Tree, Undo}
-use Rattle.format.specs.Layout.{Entries, Extension, Extensions, trees, undos, only, DIRC, names, Body, Spells}
-use Rattle.format.specs.Reading.{Read, bad, good, need, shift, bind}
-use Rattle.format.specs.Reader.{readEntries, readExtensions, noneSeen, first, Contents, readBody, readFile}
-use Rattle.spelling_entries.proofs.Reading.{and-inv, and-both, eqList-true, eq-eqList, bad-good, good-inv, need-inv, shift-inv, bind-inv}
-use Rattle.spelling_entries.proofs.Bytes.{bytes-take, bytes-drop, length-put32, be32-take, be32-at, be32-below, put32-be32}
+use Rattle.format.specs.Records.{Entry, start, Records}
+use Rattle.format.specs.Layout.{trees, undos, only, DIRC, names, Body, Spells}
+use Rattle.format.specs.Reading.{good, need, shift, bind}
+use Rattle.format.specs.Reader.{readEntries, noneSeen, first, Contents, readBody, readFile}
+use Rattle.format_laws.proofs.Tests.{and-inv, and-both}
+use Rattle.format_laws.proofs.Lists.{eqList-true, eq-eqList}
+use Rattle.format_laws.proofs.Numbers.{bytes-take, bytes-drop, length-put32, be32-take, be32-at, be32-below, put32-be32}
+use Rattle.format_laws.proofs.Readings.{good-inv, need-inv, shift-inv, bind-inv}
 use Rattle.spelling_entries.proofs.Entries.{read-entries, entries-read}
 use Rattle.spelling_extensions.proofs.Extensions.{only-once, once-only, read-extensions, extensions-read}
 

@@ -14,8 +14,10 @@ use Rattle.format.specs.Records.{Entry, modeOf, Key, keyOf}
 use Rattle.format.specs.Layout.{okMode, fixedLength, flagsOf, wordOf, okExtended, IsEntry, Entries, entries-end, entries-more}
 use Rattle.format.specs.Reading.{good}
 use Rattle.format.specs.Reader.{isSet, okWord, entryOf, readName, readTail, readFixed, readEntry, readEntries}
-use Rattle.spelling_entries.proofs.Reading.{and-inv, cond-inv, good-inv, need-inv, shift-inv, bind-inv, need-good, shift-good, bind-good}
-use Rattle.spelling_entries.proofs.Bytes.{bytes-drop, length-put16, length-put32s, length-be32s, be16-here, be16-below, put16-be16, getD-be32s, be32s-put32s, fit32-be32s, put32s-be32s}
+use Rattle.format_laws.proofs.Tests.{and-inv, cond-inv}
+use Rattle.format_laws.proofs.Numbers.{bytes-drop, length-put16, be16-here, be16-below, put16-be16}
+use Rattle.format_laws.proofs.Readings.{good-inv, need-inv, shift-inv, bind-inv, need-good, shift-good, bind-good}
+use Rattle.spelling_entries.proofs.Bytes.{length-put32s, length-be32s, getD-be32s, be32s-put32s, fit32-be32s, put32s-be32s}
 use Rattle.spelling_entries.proofs.Names.{read-name, name-read}
 use Rattle.spelling_entries.proofs.Flags.{flags-read, read-flags, word-read, read-word}
 

@@ -10,11 +10,8 @@ use Rattle.format.specs.Names.{lengthField}
 use Rattle.format.specs.Records.{Entry}
 use Rattle.format.specs.Layout.{bit, flagsOf, wordOf}
 use Rattle.format.specs.Reader.{isSet, okWord}
-use Rattle.spelling_entries.proofs.Reading.{and-inv, and-both, by-test}
-
-bit-below : (t : Bool) → bit t < 2
-bit-below true = omega arith
-bit-below false = omega arith
+use Rattle.format_laws.proofs.Tests.{and-inv, and-both, by-test}
+use Rattle.format_laws.proofs.Numbers.{bit-below}
 
 bit-isSet : (b x : ℕ) → bit (isSet b x) ≡ x / b % 2
 unfolding isSet

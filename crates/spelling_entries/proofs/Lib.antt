@@ -1,5 +1,4 @@
 -- Entries that are spelled are read, and what is read was spelled. Read in this order.
-pub mod Reading
 pub mod Bytes
 pub mod Names
 pub mod Flags

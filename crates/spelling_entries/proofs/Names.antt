@@ -1,7 +1,7 @@
 -- The name of an entry, plain or packed: what is spelled is read, and what is read was spelled.
 use mathlib.Core.Path.{_≡_, refl, sym, _∙_}
 use mathlib.Core.List.{List, [], _∷_, _++_, append-assoc}
-use mathlib.Core.Bool.{Bool, true, false, cond, _&&_}
+use mathlib.Core.Bool.{Bool, true, false, cond}
 use Prim.Native.Nat.{ℕ, zero, suc, _+_, _-_, _/_, _%_, _≤_, _<_, min}
 use native.Mathlib.Omega.{arith}
 use lib.ListN.{length, take, drop, getD, replicate, length-append, length-drop, length-take, length-replicate, take-append-drop}
@@ -9,19 +9,16 @@ use lib.Seq.{drop-append-seam, take-append-seam, take-append-add, take-at, take-
 use lib.Dec.{eqb, leb, ltb}
 use borrow.Author.Tests.{ltb-true, ltb-false, leb-true, eqb-true, lt-ltb, le-ltb, le-leb, eq-eqb}
 use Rattle.format.specs.Bytes.{two, putN, before, lacks, zeros}
-use Rattle.format.specs.Names.{okName, okComponents, components, lengthField}
+use Rattle.format.specs.Names.{okName, lengthField}
 use Rattle.format.specs.Layout.{when, entryLength, Plain, Packed, NameBytes}
 use Rattle.format.specs.Reading.{good}
 use Rattle.format.specs.Reader.{plainLength, readPlain, readN, joined, readSuffix, readPacked, readName}
-use Rattle.spelling_entries.proofs.Reading.{and-inv, and-both, by-test, cond-inv, by-cond, good-inv, need-inv, bind-inv, need-good, bind-good}
-use Rattle.spelling_entries.proofs.Bytes.{take-one, take-two, putN-one, putN-two, two-putN, putN-of-two, before-at, take-before, lacks-right, zeros-replicate, replicate-zeros}
-
-pub okName-lacks : (s : List ℕ) → okName s ≡ true → lacks 0 s ≡ true
-unfolding okName
-okName-lacks s h =
-    let (_, long) = and-inv (leb 1 (length s)) (leb (length s) 8192 && (lacks 0 s && okComponents (components s))) h in
-    let (_, rest) = and-inv (leb (length s) 8192) (lacks 0 s && okComponents (components s)) long in
-    and-inv (lacks 0 s) (okComponents (components s)) rest .0
+use Rattle.format_laws.proofs.Tests.{and-inv, and-both, by-test, cond-inv, by-cond}
+use Rattle.format_laws.proofs.Lists.{take-one, take-two}
+use Rattle.format_laws.proofs.Texts.{before-at, take-before, lacks-right}
+use Rattle.format_laws.proofs.Names.{okName-lacks}
+use Rattle.format_laws.proofs.Readings.{good-inv, need-inv, bind-inv, need-good, bind-good}
+use Rattle.spelling_entries.proofs.Bytes.{putN-one, putN-two, two-putN, putN-of-two, zeros-replicate, replicate-zeros}
 
 -- ---- the plain name of versions 2 and 3, f being the bytes before it
 

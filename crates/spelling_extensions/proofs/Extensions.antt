@@ -14,9 +14,11 @@ use Rattle.format.specs.Records.{Tree, Undo}
 use Rattle.format.specs.Layout.{bit, Extension, cacheTree, resolveUndo, other, TREE, REUC, optional, Says, IsExtension, Extensions, extensions-end, extensions-more, trees, undos, only}
 use Rattle.format.specs.Reading.{Read, good, need, shift, bind}
 use Rattle.format.specs.Reader.{Seen, noneSeen, alsoSeen, readData, readExtension, readExtensions, first}
-use Rattle.spelling_entries.proofs.Reading.{false-true, cond-inv, eqList-true, bad-good, good-inv, need-inv, shift-inv, bind-inv}
-use Rattle.spelling_entries.proofs.Bytes.{bytes-drop, length-put32, be32-at, be32-below, put32-be32}
-use Rattle.spelling_extensions.proofs.Answers.{same-size, fuel-step}
+use Rattle.format_laws.proofs.Tests.{false-true, cond-inv}
+use Rattle.format_laws.proofs.Lists.{eqList-true}
+use Rattle.format_laws.proofs.Numbers.{bit-below, bytes-drop, length-put32, be32-at, be32-below, put32-be32}
+use Rattle.format_laws.proofs.Readings.{bad-good, good-inv, need-inv, shift-inv, bind-inv, same-size}
+use Rattle.spelling_extensions.proofs.Fuel.{fuel-step}
 use Rattle.spelling_extensions.proofs.Tree.{read-tree, tree-read}
 use Rattle.spelling_extensions.proofs.Undo.{read-undos, undos-read}
 
@@ -40,13 +42,9 @@ new-bit : (b : Bool) → not b ≡ true → bit b ≡ 0
 new-bit true e = false-true e
 new-bit false e = refl
 
-bit-le : (b : Bool) → bit b ≤ 1
-bit-le true = omega arith
-bit-le false = omega arith
-
 once-end : (k : Seen) → Once k []
 unfolding trees undos
-once-end k = let t = bit-le (k .cacheTree) in let u = bit-le (k .resolveUndo) in omega arith
+once-end k = let t = bit-below (k .cacheTree) in let u = bit-below (k .resolveUndo) in omega arith
 
 once-new : (x : Extension) (xs : List Extension) (k : Seen) → Once k (x ∷ xs) → isNew x k ≡ true
 unfolding trees undos

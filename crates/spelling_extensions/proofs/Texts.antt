@@ -14,9 +14,9 @@ use Rattle.format.specs.Records.{Count, valid, invalid}
 use Rattle.format.specs.Layout.{CountText}
 use Rattle.format.specs.Reading.{good, need, shift, bind}
 use Rattle.format.specs.Reader.{readText, countIn, needSome}
-use Rattle.spelling_entries.proofs.Reading.{false-true, and-inv, cond-inv, good-inv, need-inv, bind-inv}
-use Rattle.spelling_entries.proofs.Bytes.{before-at, lacks-before, take-before}
-use Rattle.spelling_extensions.proofs.Answers.{same-size, none-some, needSome-inv}
+use Rattle.format_laws.proofs.Tests.{false-true, and-inv, cond-inv}
+use Rattle.format_laws.proofs.Texts.{before-at, lacks-before, take-before}
+use Rattle.format_laws.proofs.Readings.{good-inv, need-inv, bind-inv, same-size, none-some, needSome-inv}
 
 -- ---- a text that the byte b ends
 

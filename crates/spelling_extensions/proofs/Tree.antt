@@ -13,9 +13,9 @@ use Rattle.format.specs.Records.{Count, valid, invalid, Node, Forest, Tree, wid
 use Rattle.format.specs.Layout.{CountText, ObjectBytes, IsNode, Siblings, siblings-end, siblings-more, distinct, IsTree, okTreeCounts}
 use Rattle.format.specs.Reading.{Read, good, need, shift, bind}
 use Rattle.format.specs.Reader.{countIn, readCount, readSubtrees, readObject, Head, readNode, readSiblings, readForest, readNodes, readTree}
-use Rattle.spelling_entries.proofs.Reading.{and-inv, bad-good, good-inv, need-inv, bind-inv}
-use Rattle.spelling_entries.proofs.Bytes.{after-text}
-use Rattle.spelling_extensions.proofs.Answers.{same-size}
+use Rattle.format_laws.proofs.Tests.{and-inv}
+use Rattle.format_laws.proofs.Texts.{after-text}
+use Rattle.format_laws.proofs.Readings.{bad-good, good-inv, need-inv, bind-inv, same-size}
 use Rattle.spelling_extensions.proofs.Texts.{read-text, text-read, read-decoded, decoded-read, parts-fit, text-then, decimal-lacks, count-lacks, read-count-text, count-text-read}
 
 -- ---- one node

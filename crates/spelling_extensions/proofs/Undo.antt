@@ -1,7 +1,7 @@
 -- Resolve-undo data that is spelled is read, and what is read was spelled.
 use mathlib.Core.Path.{_≡_, refl, sym, _∙_}
 use mathlib.Core.List.{List, [], _∷_, _++_, append-assoc}
-use mathlib.Core.Bool.{Bool, true, false, cond, _||_}
+use mathlib.Core.Bool.{Bool, true, cond, _||_}
 use mathlib.Core.Option.{Option, none, some}
 use Prim.Native.Nat.{ℕ, zero, suc, _+_, _≤_}
 use native.Mathlib.Omega.{arith}
@@ -15,10 +15,12 @@ use Rattle.format.specs.Records.{Stage, Undo}
 use Rattle.format.specs.Layout.{okMode, modeText, IsStage, someStage, IsUndo, Undos, undos-end, undos-more}
 use Rattle.format.specs.Reading.{Read, good, need, shift, bind}
 use Rattle.format.specs.Reader.{modeIn, readMode, readStage, readStages, readUndo, readUndos}
-use Rattle.spelling_entries.proofs.Reading.{and-inv, by-test, cond-inv, eqList-true, bad-good, good-inv, need-inv, bind-inv}
-use Rattle.spelling_entries.proofs.Bytes.{after-text}
-use Rattle.spelling_entries.proofs.Names.{okName-lacks}
-use Rattle.spelling_extensions.proofs.Answers.{same-size, none-some, fuel-step}
+use Rattle.format_laws.proofs.Tests.{and-inv, or-inv, by-test, cond-inv}
+use Rattle.format_laws.proofs.Lists.{eqList-true}
+use Rattle.format_laws.proofs.Texts.{after-text}
+use Rattle.format_laws.proofs.Names.{okName-lacks}
+use Rattle.format_laws.proofs.Readings.{bad-good, good-inv, need-inv, bind-inv, same-size, none-some}
+use Rattle.spelling_extensions.proofs.Fuel.{fuel-step}
 use Rattle.spelling_extensions.proofs.Texts.{read-text, text-read, read-decoded, decoded-read, parts-fit, text-then}
 
 -- ---- modes
@@ -26,11 +28,6 @@ use Rattle.spelling_extensions.proofs.Texts.{read-text, text-read, read
 -- a mode of an entry, or 0 for a stage that is missing
 abbrev pub stageMode : ℕ → Bool
 stageMode m = eqb m 0 || okMode m
-
--- the two cases of an "or" that holds
-or-inv {ℓ} : {X : Type ℓ} (a b : Bool) → (a || b) ≡ true → (a ≡ true → X) → (b ≡ true → X) → X
-or-inv true b e f g = f refl
-or-inv false b e f g = g e
 
 -- what holds of the five holds of each
 by-mode {ℓ} : (P : ℕ → Type ℓ) → P 0 → P 0x81a4 → P 0x81ed → P 0xa000 → P 0xe000 → (m : ℕ) → stageMode m ≡ true → P m

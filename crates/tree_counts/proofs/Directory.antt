@@ -12,17 +12,18 @@ use Rattle.format.specs.Bytes.{before, lacks}
 use Rattle.format.specs.Names.{compare, rises}
 use Rattle.format.specs.Records.{Entry, Key}
 use Rattle.format.specs.Layout.{under, inside, Entries, entries-end, entries-more, names}
+use Rattle.format_laws.proofs.Tests.{false-true, by-test, and-inv}
+use Rattle.format_laws.proofs.Texts.{lacks-before}
+use Rattle.format_laws.proofs.Names.{compare-append}
 use Rattle.tree_counts.specs.Runs.{notAbove, sortedFrom, begins}
-use Rattle.tree_counts.proofs.Tests.{false-true, by-test, and-inv, head-inv}
-use Rattle.tree_counts.proofs.Order.{compare-append, under-begins, sorted-skip}
+use Rattle.tree_counts.proofs.Tests.{head-inv}
+use Rattle.tree_counts.proofs.Order.{under-begins, sorted-skip}
 
 -- ---- the first component
 
 -- the bytes before the first "/" have none, and a name that has a "/" is under them
 pub component-lacks : (s : List ℕ) → lacks 47 (take (before 47 s) s) ≡ true
-unfolding before lacks
-component-lacks [] = refl
-component-lacks (x ∷ s) = by-test (eqb x 47) (λ e. rw e) (λ e. rw (e, e) (component-lacks s))
+component-lacks s = lacks-before 47 s
 
 pub component-under : (s : List ℕ) → lacks 47 s ≡ false → under (take (before 47 s) s) s ≡ true
 unfolding before lacks under

@@ -1,27 +1,14 @@
 -- Laws of names under a directory: which, and how many.
 use mathlib.Core.Path.{_≡_, refl, sym, _∙_}
 use mathlib.Core.List.{List, [], _∷_}
-use mathlib.Core.Bool.{Bool, true, false, cond}
+use mathlib.Core.Bool.{true, false}
 use Prim.Native.Nat.{ℕ}
 use lib.Dec.{eqb}
 use borrow.Author.Tests.{eqb-true, eq-eqb}
 use Rattle.format.specs.Bytes.{eqList, lacks}
 use Rattle.format.specs.Layout.{under}
-use Rattle.tree_counts.proofs.Tests.{false-true, clash, by-test, head-inv}
-
-cons-path : {x y : ℕ} {s t : List ℕ} → x ≡ y → s ≡ t → (x ∷ s) ≡ (y ∷ t)
-cons-path e f = cc
-
-pub eqList-true : (s t : List ℕ) → eqList s t ≡ true → s ≡ t
-unfolding eqList
-eqList-true [] [] e = refl
-eqList-true [] (y ∷ t) e = false-true e
-eqList-true (x ∷ s) [] e = false-true e
-eqList-true (x ∷ s) (y ∷ t) e = let i = head-inv x y _ e in cons-path (i .0) (eqList-true s t (i .1))
-
--- a first byte that is no "/"
-lacks-inv : (x : ℕ) (b : Bool) → cond (eqb x 47) false b ≡ true → (eqb x 47 ≡ false) × (b ≡ true)
-lacks-inv x b e = by-test (eqb x 47) (λ h. false-true (rw h at e)) (λ h. (h, rw h at e))
+use Rattle.format_laws.proofs.Tests.{false-true, clash, by-test, else-inv}
+use Rattle.tree_counts.proofs.Tests.{head-inv}
 
 -- a name under a directory has a "/"
 pub under-slash : (d s : List ℕ) → under d s ≡ true → lacks 47 s ≡ false
@@ -37,13 +24,13 @@ unfolding under lacks eqList
 under-one [] [] s lc ld p q = refl
 under-one [] (z ∷ d) [] lc ld p q = false-true p
 under-one [] (z ∷ d) (y ∷ s) lc ld p q =
-    clash (eq-eqb z 47 (head-inv z y _ q .0 ∙ eqb-true y 47 p)) (lacks-inv z _ ld .0)
+    clash (eq-eqb z 47 (head-inv z y _ q .0 ∙ eqb-true y 47 p)) (else-inv (eqb z 47) _ ld .0)
 under-one (x ∷ c) [] [] lc ld p q = false-true p
 under-one (x ∷ c) [] (y ∷ s) lc ld p q =
-    clash (eq-eqb x 47 (head-inv x y _ p .0 ∙ eqb-true y 47 q)) (lacks-inv x _ lc .0)
+    clash (eq-eqb x 47 (head-inv x y _ p .0 ∙ eqb-true y 47 q)) (else-inv (eqb x 47) _ lc .0)
 under-one (x ∷ c) (z ∷ d) [] lc ld p q = false-true p
 under-one (x ∷ c) (z ∷ d) (y ∷ s) lc ld p q =
     let i = head-inv x y _ p in
     let j = head-inv z y _ q in
     let e : eqb x z ≡ true = eq-eqb x z (i .0 ∙ sym (j .0)) in
-    rw (e, under-one c d s (lacks-inv x _ lc .1) (lacks-inv z _ ld .1) (i .1) (j .1))
+    rw (e, under-one c d s (else-inv (eqb x 47) _ lc .1) (else-inv (eqb z 47) _ ld .1) (i .1) (j .1))

@@ -3,7 +3,6 @@ use mathlib.Core.Path.{_≡_, refl, sym, ap, _∙_}
 use mathlib.Core.List.{List, [], _∷_, _++_}
 use mathlib.Core.Bool.{Bool, true, false, cond, not}
 use Prim.Native.Nat.{ℕ, _+_, _≤_, _<_}
-use native.Mathlib.Nat.{zero-add, suc-add}
 use native.Mathlib.Omega.{arith}
 use lib.ListN.{length, length-append}
 use lib.Dec.{eqb, ltb, leb, leb·zero, leb·suc-zero, leb·suc-suc}
@@ -12,8 +11,9 @@ use Rattle.format.specs.declared.Order.{Order}
 use Rattle.format.specs.declared.Order.the-variants.{Below, Above}
 use Rattle.format.specs.Names.{compare, common}
 use Rattle.format.specs.Layout.{under}
+use Rattle.format_laws.proofs.Tests.{false-true, clash, by-test, and-inv, eqb-swap}
 use Rattle.tree_counts.specs.Runs.{notAbove, sortedFrom, begins, leads, trails, every, never}
-use Rattle.tree_counts.proofs.Tests.{false-true, clash, by-test, and-inv, head-inv, eqb-swap}
+use Rattle.tree_counts.proofs.Tests.{head-inv}
 
 -- ---- the order of names
 
@@ -52,12 +52,6 @@ order-trans (x ∷ s) (y ∷ t) (z ∷ u) h k =
     (λ q. order-less x z (compare s u) (omega arith))
     (λ q g. rw (order-same x z (compare s u) (p ∙ q)) (order-trans s t u f g)))
 
--- the order of two names that begin alike is that of what follows
-pub compare-append : (q s t : List ℕ) → compare (q ++ s) (q ++ t) ≡ compare s t
-unfolding compare
-compare-append [] s t = refl
-compare-append (x ∷ q) s t = rw (order-same x x (compare (q ++ s) (q ++ t)) refl) (compare-append q s t)
-
 -- a name between two that begin with q begins with q
 pub between : (q s t u : List ℕ) → begins q s ≡ true → begins q u ≡ true → notAbove (compare s t) ≡ true → notAbove (compare t u) ≡ true → begins q t ≡ true
 unfolding begins compare
@@ -87,11 +81,6 @@ begins-common (x ∷ q) (y ∷ s) (z ∷ t) p =
     (by-test (eqb y z)
     (λ e. rw (e, leb·suc-suc (length q) (common s t)) (begins-common q s t (i .1)))
     (λ e. rw (e, leb·suc-zero (length q))))
-
-pub common-append : (q s t : List ℕ) → common (q ++ s) (q ++ t) ≡ length q + common s t
-unfolding common
-common-append [] s t = sym (zero-add (common s t))
-common-append (x ∷ q) s t = rw (eq-eqb x x refl, suc-add (length q) (common s t), common-append q s t)
 
 -- a name under d begins with d and "/"
 pub under-begins : (d s : List ℕ) → under d s ≡ begins (d ++ (47 ∷ [])) s

@@ -9,8 +9,9 @@ use borrow.Author.Tests.{not-true}
 use Rattle.format.specs.Bytes.{eqList, lacks}
 use Rattle.format.specs.Records.{Node, Forest, nil, tree}
 use Rattle.format.specs.Layout.{okNodeName, has, distinct, under}
+use Rattle.format_laws.proofs.Tests.{clash, by-test, and-inv, and-inv₃}
 use Rattle.tree_counts.specs.Judge.{plain, reached}
-use Rattle.tree_counts.proofs.Tests.{clash, by-test, and-inv, and-inv₃, or-false-inv}
+use Rattle.tree_counts.proofs.Tests.{or-false-inv}
 use Rattle.tree_counts.proofs.Names.{under-slash, under-one}
 
 -- what holds of a list of siblings holds of its parts

@@ -1,33 +1,11 @@
--- Laws of tests.
+-- More laws of tests.
 use mathlib.Core.Path.{_≡_, refl, sym, _∙_}
 use mathlib.Core.Bool.{Bool, true, false, cond, _&&_, true≢false, and-false}
 use Prim.Native.Nat.{ℕ, _+_, _≤_}
 use native.Mathlib.Omega.{arith}
 use lib.Dec.{eqb}
 use borrow.Author.Tests.{eqb-true, eqb-false, eq-eqb, ne-eqb}
-
-pub false-true {ℓ} : {X : Type ℓ} → false ≡ true → X
-false-true e = absurd (true≢false (sym e))
-
-pub clash {ℓ} : {X : Type ℓ} {b : Bool} → b ≡ true → b ≡ false → X
-clash p q = absurd (true≢false (sym p ∙ q))
-
-pub by-test {ℓ} : {X : Type ℓ} (b : Bool) → (b ≡ true → X) → (b ≡ false → X) → X
-by-test true f g = f refl
-by-test false f g = g refl
-
-pub and-inv : (a b : Bool) → (a && b) ≡ true → (a ≡ true) × (b ≡ true)
-and-inv true b e = (refl, e)
-and-inv false b e = false-true e
-
-pub and-inv₃ : (a b c : Bool) → (a && (b && c)) ≡ true → (a ≡ true) × (b ≡ true) × (c ≡ true)
-and-inv₃ true true c e = (refl, refl, e)
-and-inv₃ true false c e = false-true e
-and-inv₃ false b c e = false-true e
-
-pub cond-inv : (a b : Bool) → cond a b false ≡ true → (a ≡ true) × (b ≡ true)
-cond-inv true b e = (refl, e)
-cond-inv false b e = false-true e
+use Rattle.format_laws.proofs.Tests.{by-test, then-inv}
 
 pub or-false-inv : (a b : Bool) → cond a true b ≡ false → (a ≡ false) × (b ≡ false)
 or-false-inv true b e = absurd (true≢false e)
@@ -38,16 +16,9 @@ pub and-when : (a a′ b : Bool) → (b ≡ true → a ≡ a′) → (a && b) �
 and-when a a′ true h = rw (h refl)
 and-when a a′ false h = and-false a ∙ sym (and-false a′)
 
-pub and-left-comm : (a b c : Bool) → (a && (b && c)) ≡ (b && (a && c))
-and-left-comm true b c = refl
-and-left-comm false b c = sym (and-false b)
-
 -- equal heads
 pub head-inv : (x y : ℕ) (b : Bool) → cond (eqb x y) b false ≡ true → (x ≡ y) × (b ≡ true)
-head-inv x y b e = let i = cond-inv (eqb x y) b e in (eqb-true x y (i .0), i .1)
-
-pub eqb-swap : (x y : ℕ) → eqb x y ≡ eqb y x
-eqb-swap x y = by-test (eqb x y) (λ e. e ∙ sym (eq-eqb y x (sym (eqb-true x y e)))) (λ e. e ∙ sym (ne-eqb y x (λ h. eqb-false x y e (sym h))))
+head-inv x y b e = let i = then-inv (eqb x y) b e in (eqb-true x y (i .0), i .1)
 
 -- two sums, part by part at most: equal where their parts are
 pub sums-equal : (a b c d : ℕ) → a ≤ c → b ≤ d → eqb (a + b) (c + d) ≡ (eqb a c && eqb b d)

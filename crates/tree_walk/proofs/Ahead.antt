@@ -10,13 +10,13 @@ use borrow.Author.Tests.{lt-ltb, ltb-true}
 use Rattle.format.specs.Names.{common, compare}
 use Rattle.format.specs.Layout.{names}
 use Rattle.format.specs.Reader.{entryOf}
-use Rattle.spelling_entries.proofs.Reading.{bad-good, good-inv}
+use Rattle.format_laws.proofs.Tests.{false-true, by-test, and-inv}
+use Rattle.format_laws.proofs.Readings.{bad-good, good-inv, front-inv}
 use Rattle.entries_run.specs.declared.Step.{Step}
 use Rattle.entries_run.specs.declared.Next.the-variants as N
 use Rattle.entries_run.specs.Steps.{nameAt, Found, Stepped, runFrom}
-use Rattle.entries_run.proofs.Steps.{front-inv, entries-bad, entries-good, run-none}
+use Rattle.entries_run.proofs.Steps.{entries-bad, entries-good, run-none}
 use Rattle.tree_counts.specs.Runs.{notAbove, sortedFrom, begins, leads, beyond, within}
-use Rattle.tree_counts.proofs.Tests.{false-true, by-test, and-inv}
 use Rattle.tree_counts.proofs.Order.{begins-common}
 use Rattle.tree_counts.proofs.Runs.{within-end, within-step, beyond-step, beyond-end}
 use Rattle.tree_walk.specs.declared.front.Front.{Front}

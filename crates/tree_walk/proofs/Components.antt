@@ -8,10 +8,10 @@ use lib.ListN.{length, take, drop, length-take, length-drop}
 use lib.Dec.{eqb}
 use borrow.Author.Tests.{eq-eqb, ne-eqb}
 use Rattle.format.specs.Bytes.{before, lacks}
-use Rattle.tree_counts.proofs.Tests.{by-test}
 use Rattle.entries_run.specs.Steps.{nameAt}
 use Rattle.format.specs.Records.{Forest}
 use Rattle.format.specs.Layout.{distinct}
+use Rattle.format_laws.proofs.Tests.{by-test}
 use Rattle.tree_counts.specs.Judge.{child}
 use Rattle.cache_tree.proofs.Flat.{Reads}
 use Rattle.tree_walk.specs.declared.child.Child.{Child}

@@ -13,9 +13,9 @@ use Rattle.format.specs.Records.{Node, Forest, nil, tree, Tree}
 use Rattle.format.specs.Layout.{has, distinct}
 use Rattle.format.specs.Reading.{good}
 use Rattle.format.specs.Reader.{Head, readNode}
+use Rattle.format_laws.proofs.Tests.{clash, by-test, and-inv₃}
+use Rattle.format_laws.proofs.Lists.{eqList-true}
 use Rattle.tree_counts.specs.Judge.{child}
-use Rattle.tree_counts.proofs.Tests.{clash, by-test, and-inv₃}
-use Rattle.tree_counts.proofs.Names.{eqList-true}
 use Rattle.tree_counts.proofs.Walk.{child-some}
 use Rattle.cache_tree.specs.Flat.{treesLength, nameOf}
 use Rattle.cache_tree.proofs.Nodes.{node-named}

@@ -10,9 +10,9 @@ use Rattle.format.specs.Bytes.{lacks}
 use lib.Dec.{eqb, leb, ltb}
 use Rattle.format.specs.Records.{Count, valid, invalid, Forest, Tree}
 use Rattle.format.specs.Layout.{bit, under}
+use Rattle.format_laws.proofs.Tests.{by-test, and-inv}
 use Rattle.tree_counts.specs.Judge.{isValid, says, weight, positive, child, reached, judge, matched}
 use Rattle.tree_counts.specs.Runs.{sortedFrom, begins, leads, every, span, beyond, within, enter, runIn, Passed}
-use Rattle.tree_counts.proofs.Tests.{by-test, and-inv}
 use Rattle.tree_counts.proofs.Names.{under-slash}
 use Rattle.tree_counts.proofs.Siblings.{Sound, file-unreached}
 use Rattle.tree_counts.proofs.Counts.{matched-most}

@@ -11,19 +11,19 @@ use Rattle.format.specs.Records.{Entry, start, Count, valid, invalid, Forest, T
 use Rattle.format.specs.Layout.{distinct, allValid, okTreeCounts, names}
 use Rattle.format.specs.Reading.{good}
 use Rattle.format.specs.Reader.{readNode, readEntries, readNodes}
-use Rattle.spelling_entries.proofs.Bytes.{bytes-drop}
-use Rattle.spelling_entries.proofs.Reading.{need-inv, bind-inv, good-inv}
+use Rattle.format_laws.proofs.Tests.{by-test}
+use Rattle.format_laws.proofs.Lists.{drop-to}
+use Rattle.format_laws.proofs.Numbers.{bytes-drop}
+use Rattle.format_laws.proofs.Readings.{need-inv, bind-inv, good-inv}
 use Rattle.spelling_entries.proofs.Entries.{entries-read}
 use Rattle.cache_tree.specs.declared.node.Node.{Node}
 use Rattle.cache_tree.specs.declared.node.NodeRead.the-variants as R
 use Rattle.cache_tree.specs.Answers.{nodeAt}
-use Rattle.cache_tree.proofs.Readings.{drop-to}
 use Rattle.cache_tree.proofs.Flat.{Reads, forest-reads}
 use Rattle.entries_run.specs.Steps.{nameAt, firstCursor, runFrom, Room}
 use Rattle.entries_run.proofs.Steps.{run-first, inside-first}
 use Rattle.tree_counts.specs.Judge.{isValid, says, tidy, positive, judge, matched, countsAll}
 use Rattle.tree_counts.specs.Runs.{begins}
-use Rattle.tree_counts.proofs.Tests.{by-test}
 use Rattle.tree_counts.proofs.Siblings.{Sound}
 use Rattle.tree_counts.proofs.Readings.{nodes-plain}
 use Rattle.tree_counts.proofs.Counts.{counts-judged}

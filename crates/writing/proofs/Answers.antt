@@ -14,7 +14,8 @@ use Rattle.format.specs.Reading.{good}
 use Rattle.format.specs.Reader.{readFile}
 use Rattle.format.specs.Writer.{writeEntries, writeBody, writeFile}
 use Rattle.format.specs.Requests.{putRecord, removeRecord, anyWord, okAsked, versionFor, fitting, writing, rewriteRequest, putRequest, removeRequest}
-use Rattle.spelling_entries.proofs.Reading.{and-inv, by-test, by-cond, good-inv, need-inv}
+use Rattle.format_laws.proofs.Tests.{and-inv, by-test, by-cond}
+use Rattle.format_laws.proofs.Readings.{good-inv, need-inv}
 use Rattle.writing.specs.Sound.{SoundEntry, Sound, Writable}
 use Rattle.writing.proofs.File.{written-spelled, read-written}
 use Rattle.writing.proofs.Edits.{put-sound, remove-sound}

@@ -13,8 +13,9 @@ use Rattle.format.specs.Layout.{flagsOf, wordOf, CountText, ObjectBytes, IsNode
 use Rattle.format.specs.Reading.{good}
 use Rattle.format.specs.Reader.{readEntry, Head, readNode, readUndos}
 use Rattle.format.specs.Writer.{decimalOf, writeCount, writeObject, writeNode, writeStage, writeUndo, writeUndos}
-use Rattle.spelling_entries.proofs.Reading.{by-test}
-use Rattle.spelling_entries.proofs.Bytes.{length-put32s, put32s-be32s, before-at, after-text}
+use Rattle.format_laws.proofs.Tests.{by-test}
+use Rattle.format_laws.proofs.Texts.{before-at, after-text}
+use Rattle.spelling_entries.proofs.Bytes.{length-put32s, put32s-be32s}
 use Rattle.spelling_entries.proofs.Entries.{entry-read, entry-takes}
 use Rattle.spelling_extensions.proofs.Texts.{count-lacks}
 use Rattle.spelling_extensions.proofs.Tree.{node-read}

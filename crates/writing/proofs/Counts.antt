@@ -7,7 +7,7 @@ use lib.ListN.{length, drop}
 use Rattle.format.specs.Records.{Forest, nil, tree, Tree}
 use Rattle.format.specs.Layout.{under, inside, okCount, okCounts, okTreeCounts}
 use Rattle.format.specs.Requests.{invalidNode, invalidWay, invalidTree}
-use Rattle.spelling_entries.proofs.Reading.{and-inv, and-both, by-test, by-cond}
+use Rattle.format_laws.proofs.Tests.{and-inv, and-both, by-test, by-cond}
 
 -- ---- two lists of names that differ in occurrences of s alone
 

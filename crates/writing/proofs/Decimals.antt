@@ -8,7 +8,7 @@ use lib.Dec.{eqb, leb, ltb}
 use borrow.Author.Tests.{ltb-true, ltb-false, lt-ltb, le-ltb, leb-true, le-leb, eqb-true, eqb-false, ne-eqb, not-true}
 use Rattle.format.specs.Bytes.{digits, decimal, valueFrom, value}
 use Rattle.format.specs.Writer.{digitsOf, decimalOf}
-use Rattle.spelling_entries.proofs.Reading.{false-true, and-inv, by-test, by-cond}
+use Rattle.format_laws.proofs.Tests.{false-true, and-inv, by-test, by-cond}
 
 -- ---- the digits of n in front of others
 

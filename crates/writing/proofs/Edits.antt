@@ -6,7 +6,7 @@ use Prim.Native.Nat.{ℕ}
 use Rattle.format.specs.Records.{Entry, Key, keyOf, Records}
 use Rattle.format.specs.Layout.{names}
 use Rattle.format.specs.Requests.{goesBefore, sameKey, putEntry, removeEntry, putRecord, removeRecord}
-use Rattle.spelling_entries.proofs.Reading.{by-cond}
+use Rattle.format_laws.proofs.Tests.{by-cond}
 use Rattle.writing.specs.Sound.{SoundEntry, SoundEntries, entries-none, entries-next, Sound}
 use Rattle.writing.proofs.Order.{before-trans, before-total, same-key, start-before}
 use Rattle.writing.proofs.Counts.{AlikeBut, alike-end, alike-same, alike-left, alike-right, alike-self}

@@ -9,8 +9,8 @@ use Rattle.format.specs.Bytes.{eqList}
 use Rattle.format.specs.Records.{Node, Forest, nil, tree, Tree, width}
 use Rattle.format.specs.Layout.{has, distinct, under}
 use Rattle.format.specs.Requests.{invalidNode, invalidWay, invalidTree, invalidCacheTree}
-use Rattle.spelling_entries.proofs.Reading.{by-cond}
-use Rattle.spelling_extensions.proofs.Answers.{none-some}
+use Rattle.format_laws.proofs.Tests.{by-cond}
+use Rattle.format_laws.proofs.Readings.{none-some}
 use Rattle.writing.specs.Sound.{SoundNode, SoundSiblings, siblings-none, siblings-next, SoundTree}
 use Rattle.writing.proofs.Counts.{AlikeBut, tree-counts-kept}
 

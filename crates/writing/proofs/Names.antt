@@ -10,8 +10,8 @@ use borrow.Author.Tests.{eq-eqb}
 use Rattle.format.specs.Names.{common}
 use Rattle.format.specs.Layout.{when, Plain, Packed, NameBytes}
 use Rattle.format.specs.Writer.{writePlain, writePacked, writeName}
-use Rattle.fields.proofs.Laws.{common-take}
-use Rattle.spelling_entries.proofs.Reading.{by-cond}
+use Rattle.format_laws.proofs.Names.{common-take}
+use Rattle.format_laws.proofs.Tests.{by-cond}
 
 -- ---- the bytes that two names have in common
 

@@ -13,10 +13,11 @@ use Rattle.format.specs.Bytes.{eqList}
 use Rattle.format.specs.Names.{okName, compare, rises}
 use Rattle.format.specs.Records.{Key, start}
 use Rattle.format.specs.Requests.{goesBefore, sameKey}
-use Rattle.fields.proofs.Laws.{okName-length}
+use Rattle.format_laws.proofs.Names.{okName-length}
 use Rattle.tree_counts.specs.Runs.{notAbove}
 use Rattle.tree_counts.proofs.Order.{order-trans}
-use Rattle.spelling_entries.proofs.Reading.{false-true, and-inv, cond-inv, eqList-true, eq-eqList}
+use Rattle.format_laws.proofs.Tests.{false-true, and-inv, cond-inv}
+use Rattle.format_laws.proofs.Lists.{eqList-true, eq-eqList}
 
 -- ---- names
 

@@ -9,7 +9,9 @@ use native.Mathlib.Nat.{sub-self}
 use borrow.Author.Needs.{needs}
 use lib.ListN.{length, take, drop}
 use Rattle.format.specs.Names.{okComponent}
-use Rattle.fields.proofs.Laws.{okRest, okRest-end, okRest-nul, okRest-slash, okRest-other, okName-in, okName-over, part-more}
+use Rattle.format_laws.proofs.Lists.{part-more}
+use Rattle.format_laws.proofs.Names.{okName-over}
+use Rattle.fields.proofs.Laws.{okRest, okRest-end, okRest-nul, okRest-slash, okRest-other, okName-in}
 use Rattle.fields.proofs.name_ok.Statement.{statement}
 use Rattle.fields.proofs.name_ok.Tie as tie
 

@@ -4,7 +4,8 @@ use Prim.Native.Nat.{_<_}
 use native.Mathlib.Omega.{arith}
 use lib.ListN.{getD}
 use borrow.Author.Needs.{needs}
-use Rattle.fields.proofs.Laws.{compare-rest, common-ends, compare-short, compare-long, compare-end, compare-below, compare-above}
+use Rattle.format_laws.proofs.Names.{compare-rest, common-ends}
+use Rattle.fields.proofs.Laws.{compare-short, compare-long, compare-end, compare-below, compare-above}
 use Rattle.fields.proofs.order_after.Statement.{statement}
 use Rattle.fields.proofs.order_after.Tie as tie
 

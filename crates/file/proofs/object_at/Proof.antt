@@ -3,8 +3,8 @@ use mathlib.Core.Path.{refl, _∙_}
 use Prim.Native.Nat.{_+_}
 use native.Mathlib.Omega.{arith}
 use lib.ListN.{replicate}
-use Rattle.resolve_undo.proofs.Laws.{copied-over}
 use borrow.Author.Needs.{needs}
+use Rattle.format_laws.proofs.Lists.{copied-over}
 use Rattle.file.proofs.object_at.Statement.{statement}
 use Rattle.file.proofs.object_at.Tie as tie
 

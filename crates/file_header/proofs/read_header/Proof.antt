@@ -9,8 +9,8 @@ use borrow.Author.Needs.{needs}
 use borrow.Author.Tests.{not-true, not-false}
 use Rattle.format.specs.Bytes.{eqList}
 use Rattle.format.specs.Layout.{DIRC}
+use Rattle.format_laws.proofs.Numbers.{be32-take}
 use Rattle.hash.specs.Sha1.{sha1}
-use Rattle.spelling_entries.proofs.Bytes.{be32-take}
 use Rattle.file_header.specs.Header.{isVersion}
 use Rattle.file_header.proofs.Laws.{rest-of, version-in, Sized, file-cut, file-over, file-unsigned, file-version, file-checksum, file-body}
 use Rattle.file_header.proofs.read_header.Statement.{statement}

@@ -3,8 +3,9 @@ use mathlib.Core.Path.{refl, sym, _∙_}
 use Prim.Native.Nat.{_+_, _≤_}
 use lib.ListN.{length, replicate}
 use native.Mathlib.Omega.{arith}
-use Rattle.resolve_undo.proofs.Laws.{missing-object, there-length, there-object, copied-over}
+use Rattle.resolve_undo.proofs.Laws.{missing-object, there-length, there-object}
 use borrow.Author.Needs.{needs}
+use Rattle.format_laws.proofs.Lists.{copied-over}
 use Rattle.resolve_undo.proofs.object.Statement.{statement}
 use Rattle.resolve_undo.proofs.object.Tie as tie
 

@@ -6,7 +6,8 @@ use native.Mathlib.Omega.{arith}
 use lib.ListN.{length, take, drop}
 use borrow.Author.Needs.{needs}
 use Rattle.format.specs.Names.{okName, compare, isBelow}
-use Rattle.resolve_undo.proofs.Laws.{record-within, undo-none, undo-path, undo-rest, path-size}
+use Rattle.format_laws.proofs.Lists.{part-length}
+use Rattle.resolve_undo.proofs.Laws.{record-within, undo-none, undo-path, undo-rest}
 use Rattle.resolve_undo.proofs.read_undo.Statement.{statement}
 use Rattle.resolve_undo.proofs.read_undo.Tie as tie
 
@@ -72,7 +73,7 @@ returns-2 c =
       λ p.
           sym
           (undo-rest 20 (a .at) _ (a .d .now) _ (f .find .ensures .0) (f .before .before .pre .0) p more (path-is o ∙ c .before .if2 .taken)
-          ∙ sym (c .read-first .ensures .0 p _ (path-size (a .at) (f .find .result) (a .d .now) more))),
+          ∙ sym (c .read-first .ensures .0 p _ (part-length (a .d .now) (a .at) (f .find .result) (omega arith)))),
       record-within (a .at) (f .find .result + 1) (length (a .d .now)) (c .read-first .result) (omega arith) (c .read-first .ensures .1),
     )
 
