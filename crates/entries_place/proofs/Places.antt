@@ -19,14 +19,14 @@ use Rattle.entries_place.specs.declared.Place.{Place}
 use Rattle.entries_place.specs.Places.{rank, startsWith, isThere, rising, Ranked}
 use Rattle.entries_place.proofs.Keys.{common-through, before-name, before-trans, same-key, before-other}
 
+-- ---- the place
+
 pub rank-le : (k : Key) (es : List Entry) → rank k es ≤ length es
 unfolding rank
 rank-le k [] = omega arith
 rank-le k (x ∷ xs) = by-test (goesBefore (keyOf x) k) (λ p. rw p (omega (arith, rank-le k xs))) (λ p. rw p (omega arith))
 
--- ---- the entry at the place
-
--- where it is there, it has the key
+-- where an entry is there, it has the key
 pub there-inv {ℓ} : {X : Type ℓ} (k : Key) (es : List Entry) → isThere k es ≡ true
     → ((x : Entry) (xs : List Entry) → drop (rank k es) es ≡ x ∷ xs → getElem? es (rank k es) ≡ some x → keyOf x ≡ k → X) → X
 unfolding startsWith rank

@@ -3,7 +3,6 @@ ghost use mathlib.Core.Path.{_≡_};
 ghost use Prim.Native.Nat.{_≤_};
 ghost use lib.ListN.{length};
 ghost use Rattle.format.specs.Names as Names;
-ghost use Rattle.format.specs.Records.{Key};
 ghost use Rattle.entries_run.specs.Steps.{keyAt, Room, Inside};
 ghost use Rattle.entries_place.specs.Places.{thenStage, compareKeys, Ranked};
 use entries_run::Cursor;
