@@ -355,6 +355,14 @@ entry-takes w v k p s e m q =
     let h : Passes w v k p s e m = read-passes w v k p s e m q in
     omega (arith, h .size, fixed-size w (h .extended))
 
+-- what is read stands after the key before it
+pub entry-rises : (w v : ℕ) (k : Key) (p : ℕ) (s : List ℕ) (e : Entry) (m : ℕ) → readEntry w v k p s ≡ good e m
+    → rises (compare (k .name) (e .name)) (k .stage) (e .stage) ≡ true
+unfolding entryOf
+entry-rises w v k p s e m q =
+    let h : Passes w v k p s e m = read-passes w v k p s e m q in
+    rw (← (h .entry-is)) (h .order)
+
 -- ---- a run of entries
 
 pub read-entries :

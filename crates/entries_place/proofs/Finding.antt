@@ -1,0 +1,142 @@
+-- Laws of the search for the place of a key, entry after entry.
+use mathlib.Core.Path.{_≡_, refl, sym, ap, _∙_}
+use mathlib.Core.List.{List, [], _∷_, _++_, append-assoc}
+use mathlib.Core.Bool.{true, false}
+use Prim.Native.Nat.{ℕ, _+_, _≤_, _<_}
+use native.Mathlib.Omega.{arith}
+use lib.ListN.{length, take, drop, length-append, take-append-drop}
+use lib.Seq.{drop-append-seam, drop-length}
+use borrow.Author.Tests.{eq-eqb, ne-eqb}
+use Rattle.format.specs.declared.Order.{Order}
+use Rattle.format.specs.Names.{compare, isBelow}
+use Rattle.format.specs.Records.{Entry, Key, keyOf, start}
+use Rattle.format.specs.Reading.{good}
+use Rattle.format.specs.Reader.{entryOf, readEntries}
+use Rattle.format.specs.Requests.{goesBefore, sameKey}
+use Rattle.format_laws.proofs.Numbers.{bit-below}
+use Rattle.format_laws.proofs.Tests.{by-test}
+use Rattle.format_laws.proofs.Readings.{bad-good, good-inv}
+use Rattle.entries_run.specs.declared.Cursor.{Cursor}
+use Rattle.entries_run.specs.declared.Step.{Step}
+use Rattle.entries_run.specs.declared.Next.the-variants as N
+use Rattle.entries_run.specs.Steps.{nameAt, keyAt, entryAt, Found, Stepped, firstCursor}
+use Rattle.entries_run.proofs.Steps.{Walked, walked-first, walked-end, walked-take, walked-bad, walked-more}
+use Rattle.entries_place.specs.Places.{thenStage, compareKeys, rank, startsWith, isThere, Ranked}
+use Rattle.entries_place.proofs.Keys.{isSame, before-by, same-by}
+
+-- ---- the entry before a cursor
+
+module _ (v : ℕ) (b work : List ℕ) (c : Cursor) (k : Key) (r : Order) where
+  -- its name is in the workspace, or in the body
+  pub order-packed : v ≡ 4 → r ≡ thenStage (compare (take (c .len) work) (k .name)) (c .stage) (k .stage) → r ≡ compareKeys (keyAt v b work c) k
+  unfolding compareKeys nameAt
+  order-packed e h = rw (eq-eqb v 4 e) h
+
+  pub order-plain : (v ≡ 4 → ⊥) → (n : ℕ) → n ≡ c .len → r ≡ thenStage (compare (take n (drop (c .start) b)) (k .name)) (c .stage) (k .stage)
+      → r ≡ compareKeys (keyAt v b work c) k
+  unfolding compareKeys nameAt
+  order-plain e n is h = rw (ne-eqb v 4 e, ← is) h
+
+key-at : (v : ℕ) (b w : List ℕ) (c : Cursor) (w′ : List ℕ) (st : Step) → Found v b w c w′ st → keyOf (entryAt v b w′ (c .at) st) ≡ keyAt v b w′ (st .next)
+unfolding entryOf
+key-at v b w c w′ st f = ap (λ (n : ℕ). record { name = nameAt v b w′ (st .next .start) (st .next .len); stage = n }) (sym (f .stage))
+
+-- ---- entries that all stand before the key
+
+rank-past : (k : Key) (es gs : List Entry) → rank k es ≡ length es → rank k (es ++ gs) ≡ length es + rank k gs
+unfolding rank
+rank-past k [] gs e = omega arith
+rank-past k (x ∷ es) gs e =
+    by-test (goesBefore (keyOf x) k)
+    (λ p. rw p (omega (arith, rank-past k es gs (omega (arith, rw p at e)))))
+    (λ p. absurd (omega (arith, rw p at e)))
+
+module _ (k : Key) (es : List Entry) (x : Entry) (all-before : rank k es ≡ length es) where
+  one-more : goesBefore (keyOf x) k ≡ true → rank k (es ++ (x ∷ [])) ≡ length es + 1
+  unfolding rank
+  one-more p = rank-past k es (x ∷ []) all-before ∙ rw p
+
+  stopped : (all gs : List Entry) → all ≡ es ++ (x ∷ gs) → goesBefore (keyOf x) k ≡ false
+      → (length es ≡ rank k all) × (sameKey (keyOf x) k ≡ isThere k all)
+  unfolding rank startsWith
+  stopped all gs parts p =
+      let at : length es ≡ rank k all = sym (rw parts (rank-past k es (x ∷ gs) all-before ∙ rw p (omega arith))) in
+      (at, rw (← at, parts, drop-append-seam es (x ∷ gs)))
+
+-- so many entries lie between the start and the cursor, and all of them stand before the key
+pub record Passed (v : ℕ) (b : List ℕ) (k : Key) (n : ℕ) (w : List ℕ) (c : Cursor) : Type 0 where
+  pub entries : List Entry
+  pub walked : Walked v b entries w c
+  pub many : length entries ≡ n
+  pub before : rank k entries ≡ n
+
+module _ (v : ℕ) (b : List ℕ) (k : Key) where
+  pub passed-first : (w : List ℕ) → Passed v b k 0 w firstCursor
+  unfolding rank
+  passed-first w = record { entries = []; walked = walked-first v b w; many = refl; before = refl }
+
+  module _ (n : ℕ) (w : List ℕ) (c : Cursor) (h : Passed v b k n w c) (w′ : List ℕ) where
+    -- the next entry stands to the key as o says
+    module _ (st : Step) (t : Stepped v b w c w′ (N.Good st)) (o : Order) (e : o ≡ compareKeys (keyAt v b w′ (st .next)) k) where
+      abbrev next : Entry
+      next = entryAt v b w′ (c .at) st
+
+      order-is : o ≡ compareKeys (keyOf next) k
+      order-is = e ∙ ap (λ (x : Key). compareKeys x k) (sym (key-at v b w c w′ st (t .found st refl)))
+
+      all-before : rank k (h .entries) ≡ length (h .entries)
+      all-before = h .before ∙ sym (h .many)
+
+      pub passed-more : isBelow o ≡ true → Passed v b k (n + 1) w′ (st .next)
+      passed-more below =
+          record {
+            entries = h .entries ++ (next ∷ []);
+            walked = walked-more v b (h .entries) w c (h .walked) w′ st t;
+            many = rw length-append (omega (arith, h .many));
+            before = one-more k (h .entries) next all-before (before-by (keyOf next) k o order-is ∙ below) ∙ omega (arith, h .many);
+          }
+
+      pub stopped-at : isBelow o ≡ false → (count : ℕ) → n < count → (all : List Entry) (m : ℕ) → readEntries 20 v count start 12 (drop 12 b) ≡ good all m
+          → (n ≡ rank k all) × (isSame o ≡ isThere k all)
+      stopped-at not-below count more all m q =
+          let es : List Entry = h .entries ++ (next ∷ []) in
+          let few : length es ≤ count = rw length-append (omega (arith, h .many)) in
+          let begins : es ≡ take (length es) all = walked-take v b es w′ (st .next) (walked-more v b (h .entries) w c (h .walked) w′ st t) count all m q few in
+          let gs : List Entry = drop (length es) all in
+          let parts : all ≡ h .entries ++ (next ∷ gs) =
+          sym (take-append-drop (length es) all) ∙ ap (λ (l : List Entry). l ++ gs) (sym begins) ∙ append-assoc (h .entries) (next ∷ []) gs in
+          let (at, there) = stopped k (h .entries) next all-before all gs parts (before-by (keyOf next) k o order-is ∙ not-below) in
+          (sym (h .many) ∙ at, sym (same-by (keyOf next) k o order-is) ∙ there)
+
+    module _ (count : ℕ) (w₀ : List ℕ) (long : length w′ ≡ length w₀) (past : drop 8192 w′ ≡ drop 8192 w₀) where
+      -- no entry is left
+      pub passed-end : n ≡ count → Ranked v b w₀ count k w′ (record { before = n; there = false })
+      unfolding startsWith
+      passed-end all-of =
+          record {
+            is = λ all m q.
+                let read = ap (λ (i : ℕ). readEntries 20 v i start 12 (drop 12 b)) (h .many ∙ all-of) in
+                good-inv _ _ _ _ (sym (walked-end v b (h .entries) w c (h .walked)) ∙ read ∙ q) λ is l.
+                let at : rank k all ≡ length all = ap (rank k) (sym is) ∙ h .before ∙ sym (h .many) ∙ ap length is in
+                (sym (h .before) ∙ ap (rank k) is, rw (at, drop-length all));
+            few = omega arith;
+            long = long;
+            past = past;
+          }
+
+      module _ (more : n < count) where
+        -- the next entry is refused
+        pub passed-bad : (m : ℕ) → Stepped v b w c w′ (N.Bad m) → Ranked v b w₀ count k w′ (record { before = n; there = false })
+        passed-bad m t =
+            record {
+              is = λ all j q. bad-good _ _ _ _ (sym (walked-bad v b (h .entries) w c (h .walked) w′ m t count (omega (arith, h .many))) ∙ q);
+              few = omega arith;
+              long = long;
+              past = past;
+            }
+
+        -- the next entry has the key, or stands after it
+        pub passed-stop : (st : Step) (t : Stepped v b w c w′ (N.Good st)) (o : Order) → o ≡ compareKeys (keyAt v b w′ (st .next)) k → isBelow o ≡ false
+            → Ranked v b w₀ count k w′ (record { before = n; there = isSame o })
+        passed-stop st t o e not-below =
+            record { is = stopped-at st t o e not-below count more; few = omega (arith, bit-below (isSame o)); long = long; past = past }

@@ -1,0 +1,154 @@
+-- The proof that `find_place` meets its contract. The loop keeps that the entries before the cursor all stand before the name and stage.
+use mathlib.Core.Path.{_≡_, refl, _∙_}
+use Prim.Native.Nat.{_-_, _≤_}
+use native.Mathlib.Omega.{arith}
+use borrow.Author.Needs.{needs}
+use lib.ListN.{length, drop}
+use Rattle.entries_run.specs.Steps.{Inside}
+use Rattle.entries_run.proofs.Steps.{inside-first}
+use Rattle.entries_place.proofs.Finding.{Passed, passed-first, passed-more, passed-end, passed-bad, passed-stop}
+use Rattle.entries_place.proofs.find_place.Statement.{statement}
+use Rattle.entries_place.proofs.find_place.Tie as tie
+
+abbrev Inv-loop : tie.InvT-loop
+Inv-loop b v work₀ count name stage c₀ before₀ work c before =
+    Inside b c × (length work ≡ length work₀) × (drop 8192 work ≡ drop 8192 work₀) × (before ≤ count)
+    × Passed v b (record { name = name; stage = stage }) before work c
+
+abbrev μ-loop : tie.MeasureT-loop
+μ-loop b v work₀ count name stage c₀ before₀ work c before = count - before
+
+first-requires : tie.Need-first-requires Inv-loop μ-loop
+first-requires c κs = search needs
+
+loop-holds : tie.Need-loop-holds Inv-loop μ-loop
+loop-holds c =
+    let st = c .before .before .before .before in
+    let a = st .args in
+    rw (c .first .ensures) (inside-first (a .b .now) (a .work .now) (st .pre), refl, refl, omega arith, passed-first (a .v) (a .b .now) _ (a .work .now))
+
+next-entry-requires : tie.Need-next-entry-requires Inv-loop μ-loop
+next-entry-requires c κs = (c .before .before .loop .inv .0, omega arith)
+
+enum-told : tie.Need-enum-told Inv-loop μ-loop
+enum-told c = search needs
+
+same-length : tie.Need-same-length Inv-loop μ-loop
+same-length c = omega arith
+
+returns : tie.Need-returns Inv-loop μ-loop
+returns c =
+    let e = c .before .before .before .before in
+    let l = e .before .before .before in
+    let a = l .before .before .before .before .before .args in
+    let i = l .loop .inv in
+    let t = rw (c .enum-told .given .1) at (e .next-entry .ensures) in
+    passed-bad (a .v) (a .b .now) _ _ (l .loop .work) (l .loop .c) (i .4) _ (a .count) _ (t .long ∙ i .1) (t .past ∙ i .2) (e .before .before .loop-test .taken) _ t
+
+enum-known-g : tie.Need-enum-known-g Inv-loop μ-loop
+enum-known-g c = search needs
+
+order-at-requires : tie.Need-order-at-requires Inv-loop μ-loop
+order-at-requires c κs =
+    let g = c .before .before .before in
+    let e = g .before .before .before .before in
+    let t = rw (g .g .given .1) at (e .next-entry .ensures) in
+    (t .found _ refl .next, omega arith)
+
+enum-told-2 : tie.Need-enum-told-2 Inv-loop μ-loop
+enum-told-2 c = search needs
+
+add-before : tie.Need-add-before Inv-loop μ-loop
+add-before c = omega arith
+
+loop-less : tie.Need-loop-less Inv-loop μ-loop
+loop-less c = omega arith
+
+loop-again : tie.Need-loop-again Inv-loop μ-loop
+loop-again c =
+    let o = c .before .before in
+    let g = o .before .before .before .before in
+    let e = g .before .before .before .before in
+    let l = e .before .before .before in
+    let a = l .before .before .before .before .before .args in
+    let i = l .loop .inv in
+    let t = rw (g .g .given .1) at (e .next-entry .ensures) in (
+      t .found _ refl .next,
+      t .long ∙ i .1,
+      t .past ∙ i .2,
+      omega arith,
+      passed-more (a .v) (a .b .now) _ _ (l .loop .work) (l .loop .c) (i .4) _ _ t _ (rw (c .enum-told2 .given .1) at (o .order-at .ensures)) refl,
+    )
+
+enum-told-3 : tie.Need-enum-told-3 Inv-loop μ-loop
+enum-told-3 c = search needs
+
+same-length-2 : tie.Need-same-length-2 Inv-loop μ-loop
+same-length-2 c = omega arith
+
+returns-2 : tie.Need-returns-2 Inv-loop μ-loop
+returns-2 c =
+    let o = c .before .before in
+    let g = o .before .before .before .before in
+    let e = g .before .before .before .before in
+    let l = e .before .before .before in
+    let a = l .before .before .before .before .before .args in
+    let i = l .loop .inv in
+    let t = rw (g .g .given .1) at (e .next-entry .ensures) in
+    passed-stop (a .v) (a .b .now) _ _ (l .loop .work) (l .loop .c) (i .4) _ (a .count) _ (t .long ∙ i .1) (t .past ∙ i .2) (e .before .before .loop-test .taken) _ t _
+    (rw (c .enum-told3 .given .1) at (o .order-at .ensures)) refl
+
+enum-told-4 : tie.Need-enum-told-4 Inv-loop μ-loop
+enum-told-4 c = search needs
+
+same-length-3 : tie.Need-same-length-3 Inv-loop μ-loop
+same-length-3 c = omega arith
+
+returns-3 : tie.Need-returns-3 Inv-loop μ-loop
+returns-3 c =
+    let o = c .before .before in
+    let g = o .before .before .before .before in
+    let e = g .before .before .before .before in
+    let l = e .before .before .before in
+    let a = l .before .before .before .before .before .args in
+    let i = l .loop .inv in
+    let t = rw (g .g .given .1) at (e .next-entry .ensures) in
+    passed-stop (a .v) (a .b .now) _ _ (l .loop .work) (l .loop .c) (i .4) _ (a .count) _ (t .long ∙ i .1) (t .past ∙ i .2) (e .before .before .loop-test .taken) _ t _
+    (rw (c .enum-told4 .given .1) at (o .order-at .ensures)) refl
+
+same-length-4 : tie.Need-same-length-4 Inv-loop μ-loop
+same-length-4 c = c .before .loop .inv .1
+
+returns-4 : tie.Need-returns-4 Inv-loop μ-loop
+returns-4 c =
+    let l = c .before in
+    let a = l .before .before .before .before .before .args in
+    let i = l .loop .inv in
+    passed-end (a .v) (a .b .now) _ _ (l .loop .work) (l .loop .c) (i .4) _ (a .count) _ (i .1) (i .2) (omega arith)
+
+pub find-place-spec : {M : Type 1} → statement M
+find-place-spec =
+    tie.close
+    (tie.spec
+    Inv-loop
+    μ-loop
+    first-requires
+    loop-holds
+    next-entry-requires
+    enum-told
+    same-length
+    returns
+    enum-known-g
+    order-at-requires
+    enum-told-2
+    add-before
+    loop-less
+    loop-again
+    enum-told-3
+    same-length-2
+    returns-2
+    enum-told-4
+    same-length-3
+    returns-3
+    same-length-4
+    returns-4)

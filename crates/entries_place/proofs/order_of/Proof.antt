@@ -1,0 +1,55 @@
+-- The proof that `order_of` meets its contract.
+use mathlib.Core.Path.{sym, _∙_}
+use borrow.Author.Needs.{needs}
+use borrow.Author.Tests.{lt-ltb, le-ltb}
+use Rattle.entries_place.proofs.order_of.Statement.{statement}
+use Rattle.entries_place.proofs.order_of.Tie as tie
+
+compare-requires : tie.Need-compare-requires
+compare-requires c κs = search needs
+
+enum-told : tie.Need-enum-told
+enum-told c = search needs
+
+enum-told-2 : tie.Need-enum-told-2
+enum-told-2 c = search needs
+
+enum-told-3 : tie.Need-enum-told-3
+enum-told-3 c = search needs
+
+returns : tie.Need-returns
+returns c =
+    let e = c .before in
+    rw (sym (e .before .before .compare .ensures) ∙ e .enum-told3 .given .1, lt-ltb _ _ (c .if1 .taken))
+
+returns-2 : tie.Need-returns-2
+returns-2 c =
+    let i = c .before in
+    let e = i .before in
+    rw (sym (e .before .before .compare .ensures) ∙ e .enum-told3 .given .1, le-ltb _ _ (i .if1 .left), lt-ltb _ _ (c .if2 .taken))
+
+returns-3 : tie.Need-returns-3
+returns-3 c = rw (sym (c .before .before .compare .ensures) ∙ c .enum-told .given .1)
+
+returns-4 : tie.Need-returns-4
+returns-4 c = rw (sym (c .before .before .compare .ensures) ∙ c .enum-told2 .given .1)
+
+returns-5 : tie.Need-returns-5
+returns-5 c =
+    let i = c .before in
+    let e = i .before in
+    rw (sym (e .before .before .compare .ensures) ∙ e .enum-told3 .given .1, le-ltb _ _ (i .if1 .left), le-ltb _ _ (c .if2 .left))
+
+pub order-of-spec : {M : Type 1} → statement M
+order-of-spec =
+    tie.close
+    (tie.spec
+    compare-requires
+    enum-told
+    enum-told-2
+    enum-told-3
+    returns
+    returns-2
+    returns-3
+    returns-4
+    returns-5)
