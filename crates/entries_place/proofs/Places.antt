@@ -18,7 +18,8 @@ use Rattle.format_laws.proofs.Readings.{good-inv, bind-inv}
 use Rattle.spelling_entries.proofs.Entries.{entry-rises}
 use Rattle.entries_place.specs.declared.Place.{Place}
 use Rattle.entries_place.specs.Places.{rank, startsWith, isThere, rising, Ranked}
-use Rattle.entries_place.proofs.Keys.{common-through, before-name, before-trans, same-key, before-other}
+use Rattle.format_laws.proofs.Orders.{common-through}
+use Rattle.format_laws.proofs.Keys.{before-name, before-trans, same-key, before-other}
 
 -- ---- the place
 

@@ -5,3 +5,5 @@ pub mod Numbers
 pub mod Texts
 pub mod Names
 pub mod Readings
+pub mod Orders
+pub mod Keys

@@ -7,7 +7,6 @@ pub mod Tree
 pub mod Undo
 pub mod File
 pub mod Copies
-pub mod Order
 pub mod Counts
 pub mod Invalid
 pub mod Edits
