@@ -16,7 +16,7 @@ bit-below : (t : Bool) → bit t < 2
 bit-below true = omega arith
 bit-below false = omega arith
 
-bit-isSet : (b x : ℕ) → bit (isSet b x) ≡ x / b % 2
+pub bit-isSet : (b x : ℕ) → bit (isSet b x) ≡ x / b % 2
 unfolding isSet
 bit-isSet b x =
     by-test (eqb (x / b % 2) 1)
