@@ -5,7 +5,7 @@ use mathlib.Core.Bool.{Bool, true, false, cond}
 use Prim.Native.Nat.{ℕ, suc, _+_, _-_, _/_, _%_, _≤_, _<_}
 use native.Mathlib.Omega.{arith}
 use lib.ListN.{length, take, drop, replicate, length-append, length-drop, length-replicate}
-use lib.Seq.{length-take-le}
+use lib.Seq.{length-take-le, take-all}
 use lib.Dec.{eqb}
 use borrow.Author.Tests.{eq-eqb, ne-eqb}
 use Rattle.format.specs.Bytes.{putN}
@@ -71,13 +71,15 @@ plain-wrote out name out′ out″ at f all p r is padded short x y =
 
 pub packed-wrote :
     (out out′ out″ out‴ name : List ℕ) (at previous kept p q r : ℕ) → Kept name previous kept →
-    Wrote out at (putN (previous - kept)) out′ p × (p ≤ at + 2) → Wrote out′ p (drop kept name) out″ q → Wrote out″ q (0 ∷ []) out‴ r →
+    Wrote out at (putN (previous - kept)) out′ p × (p ≤ at + 2) → Wrote out′ p (take (length name - kept) (drop kept name)) out″ q → Wrote out″ q (0 ∷ []) out‴ r →
     NameWritten out at name previous kept (λ s. writePacked s name) out‴ r
 unfolding writePacked
 packed-wrote out out′ out″ out‴ name at previous kept p q r h (x, few) y z =
-    let rest : Wrote out′ p (drop kept name ++ (0 ∷ [])) out‴ r = wrote-then out′ (drop kept name) (0 ∷ []) out″ out‴ p q r y z in
     let long : length (drop kept name) ≡ length name - kept = length-drop kept name in
-    let e = y .end in
+    let all : length (drop kept name) ≤ length name - kept = omega arith in
+    let end : Wrote out′ p (drop kept name) out″ q = rw (take-all (length name - kept) (drop kept name) all) at y in
+    let rest : Wrote out′ p (drop kept name ++ (0 ∷ [])) out‴ r = wrote-then out′ (drop kept name) (0 ∷ []) out″ out‴ p q r end z in
+    let e = end .end in
     let f = z .end in
     let short = h .short in
     record {

@@ -1,3 +1,6 @@
+-- The proof that `put_name` meets its contract.
+use native.Mathlib.Omega.{arith}
+use Rattle.entries_write.proofs.Names.{name-packed, name-plain}
 use borrow.Author.Needs.{needs}
 use Rattle.entries_write.proofs.put_name.Statement.{statement}
 use Rattle.entries_write.proofs.put_name.Tie as tie
@@ -16,7 +19,7 @@ same-length c = search needs
 
 -- src/lib.rt:62:9
 returns : tie.Need-returns
-returns c = ?
+returns c = name-packed _ _ _ _ _ _ _ _ _ (c .before .before .before .before .if1 .taken) (c .before .before .put-packed .ensures)
 
 -- src/lib.rt:64:5
 put-plain-requires : tie.Need-put-plain-requires
@@ -28,7 +31,7 @@ same-length-2 c = search needs
 
 -- src/lib.rt:57:1
 returns-2 : tie.Need-returns-2
-returns-2 c = ?
+returns-2 c = name-plain _ _ _ _ _ _ _ _ _ (c .before .before .before .before .if1 .left) (c .before .before .put-plain .ensures)
 
 pub put-name-spec : {M : Type 1} → statement M
 put-name-spec =

@@ -1,3 +1,6 @@
+-- The proof that `put_packed` meets its contract.
+use native.Mathlib.Omega.{arith}
+use Rattle.entries_write.proofs.Names.{packed-wrote}
 use borrow.Author.Needs.{needs}
 use Rattle.entries_write.proofs.put_packed.Statement.{statement}
 use Rattle.entries_write.proofs.put_packed.Tie as tie
@@ -41,7 +44,8 @@ same-length c = search needs
 
 -- src/lib.rt:47:1
 returns : tie.Need-returns
-returns c = ?
+returns c =
+    packed-wrote _ _ _ _ _ _ _ _ _ _ _ (c .before .before .before .before .before .before .before .before .before .before .before .before .before .before .before .pre .1) (c .before .before .before .before .before .before .before .before .before .before .before .put-number .ensures) (c .before .before .before .before .before .before .put-bytes .ensures) (c .before .before .put-byte .ensures)
 
 pub put-packed-spec : {M : Type 1} → statement M
 put-packed-spec =

@@ -1,3 +1,6 @@
+-- The proof that `put_plain` meets its contract.
+use native.Mathlib.Omega.{arith}
+use Rattle.entries_write.proofs.Names.{plain-wrote}
 use borrow.Author.Needs.{needs}
 use Rattle.entries_write.proofs.put_plain.Statement.{statement}
 use Rattle.entries_write.proofs.put_plain.Tie as tie
@@ -33,7 +36,9 @@ same-length c = search needs
 
 -- src/lib.rt:36:1
 returns : tie.Need-returns
-returns c = ?
+returns c =
+    let size = c .before .before .before .before .before .before .before .before .entry-length .ensures in
+    plain-wrote _ _ _ _ _ _ _ _ _ (size .0) (size .2) (omega arith) (c .before .before .before .before .before .before .put-bytes .ensures) (c .before .before .put-nuls .ensures)
 
 pub put-plain-spec : {M : Type 1} → statement M
 put-plain-spec =

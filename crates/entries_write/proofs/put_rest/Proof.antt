@@ -1,3 +1,8 @@
+-- The proof that `put_rest` meets its contract.
+use native.Mathlib.Omega.{arith}
+use Rattle.entries_write.proofs.Words.{rest-short, rest-long}
+use Rattle.format.specs.Names.{lengthField}
+use Rattle.spelling_entries.proofs.Bytes.{length-put16}
 use borrow.Author.Needs.{needs}
 use Rattle.entries_write.proofs.put_rest.Statement.{statement}
 use Rattle.entries_write.proofs.put_rest.Tie as tie
@@ -13,7 +18,8 @@ length-field-requires c κs = search needs
 
 -- src/lib.rt:72:17
 add-flags : tie.Need-add-flags
-add-flags c = ?
+unfolding lengthField
+add-flags c = let f = c .length-field .ensures in omega arith
 
 -- src/lib.rt:74:13
 put-16-requires : tie.Need-put-16-requires
@@ -21,7 +27,10 @@ put-16-requires c κs = search needs
 
 -- src/lib.rt:75:9
 put-name-requires : tie.Need-put-name-requires
-put-name-requires c κs = ?
+put-name-requires c κs =
+    let e = c .before .before .before .put-16 .ensures .end in
+    let two = rw length-put16 at e in
+    (omega arith, omega arith, c .before .before .before .before .before .before .before .before .before .pre .2)
 
 -- src/lib.rt:75:9
 same-length : tie.Need-same-length
@@ -29,11 +38,14 @@ same-length c = search needs
 
 -- src/lib.rt:75:9
 returns : tie.Need-returns
-returns c = ?
+returns c =
+    let f = c .before .before .before .before .before .before .before .before .before .length-field .ensures in
+    rest-short _ _ _ _ _ _ _ _ _ _ _ _ (c .before .before .before .before .before .before .before .before .if1 .taken) (rw f at (c .before .before .before .before .before .before .put-16 .ensures)) (c .before .before .put-name .ensures)
 
 -- src/lib.rt:77:48
 add-put-16 : tie.Need-add-put-16
-add-put-16 c = ?
+unfolding lengthField
+add-put-16 c = let f = c .before .before .length-field .ensures in omega arith
 
 -- src/lib.rt:77:9
 put-16-requires-2 : tie.Need-put-16-requires-2
@@ -41,11 +53,19 @@ put-16-requires-2 c κs = search needs
 
 -- src/lib.rt:78:9
 put-16-requires-3 : tie.Need-put-16-requires-3
-put-16-requires-3 c κs = ?
+put-16-requires-3 c κs =
+    let e = c .before .before .before .put-162 .ensures .end in
+    let two = rw length-put16 at e in
+    omega arith
 
 -- src/lib.rt:79:5
 put-name-requires-2 : tie.Need-put-name-requires-2
-put-name-requires-2 c κs = ?
+put-name-requires-2 c κs =
+    let e = c .before .before .before .before .before .before .before .put-162 .ensures .end in
+    let two = rw length-put16 at e in
+    let f = c .before .before .before .put-163 .ensures .end in
+    let four = rw length-put16 at f in
+    (omega arith, omega arith, c .before .before .before .before .before .before .before .before .before .before .before .before .before .pre .2)
 
 -- src/lib.rt:68:1
 same-length-2 : tie.Need-same-length-2
@@ -53,7 +73,9 @@ same-length-2 c = search needs
 
 -- src/lib.rt:68:1
 returns-2 : tie.Need-returns-2
-returns-2 c = ?
+returns-2 c =
+    let f = c .before .before .before .before .before .before .before .before .before .before .before .before .before .length-field .ensures in
+    rest-long _ _ _ _ _ _ _ _ _ _ _ _ _ _ (c .before .before .before .before .before .before .before .before .before .before .before .before .if1 .left) (rw f at (c .before .before .before .before .before .before .before .before .before .before .put-162 .ensures)) (c .before .before .before .before .before .before .put-163 .ensures) (c .before .before .put-name2 .ensures)
 
 pub put-rest-spec : {M : Type 1} → statement M
 put-rest-spec =
