@@ -1,3 +1,9 @@
+-- The proof that `put_step` meets its contract.
+use mathlib.Core.Path.{sym}
+use native.Mathlib.Omega.{arith}
+use lib.Seq.{length-take-le}
+use Rattle.format.specs.Bytes.{Bytes}
+use Rattle.entries_write.proofs.Words.{fixed-end, entry-wrote, name-packed, name-plain, name-kept}
 use borrow.Author.Needs.{needs}
 use Rattle.entries_write.proofs.put_step.Statement.{statement}
 use Rattle.entries_write.proofs.put_step.Tie as tie
@@ -44,11 +50,16 @@ mul-word c = search needs
 
 -- src/lib.rt:94:59
 slice-aggregate-put-rest : tie.Need-slice-aggregate-put-rest
-slice-aggregate-put-rest c = ?
+slice-aggregate-put-rest c = let short = c .before .before .before .before .before .before .before .before .before .before .before .before .before .before .pre .1 .short in sym (length-take-le _ _ (omega arith))
 
 -- src/lib.rt:94:9
 put-rest-requires : tie.Need-put-rest-requires
-put-rest-requires c κs = ?
+put-rest-requires c κs =
+    let st = c .before .before .before .before .before .before .before .before .before .before .before .before .before .before in
+    let a = st .args in
+    let e = fixed-end (a .b .now) _ _ (a .from) _ _ (st .pre .1 .fixed) (c .before .before .before .before .before .before .before .before .put-bytes .ensures) in
+    let is = name-packed (a .v) (a .b .now) (a .work .now) (a .from) (a .st) (c .before .before .if1 .taken) in
+    (omega arith, omega arith, name-kept (a .v) (a .b .now) (a .work .now) (a .from) (a .st) _ _ _ is (st .pre .3))
 
 -- src/lib.rt:94:9
 same-length : tie.Need-same-length
@@ -56,7 +67,12 @@ same-length c = search needs
 
 -- src/lib.rt:94:9
 returns : tie.Need-returns
-returns c = ?
+returns c =
+    let st = c .before .before .before .before .before .before .before .before .before .before .before .before .before .before .before .before .before in
+    let a = st .args in
+    let bytes : Bytes (a .b .now) = λ i. omega (arith, c .before .before .before .before .before .before .before .before .before .before .before .before .before .before .before .before .shared-slice-known .given i) in
+    let is = name-packed (a .v) (a .b .now) (a .work .now) (a .from) (a .st) (c .before .before .before .before .before .if1 .taken) in
+    entry-wrote (a .b .now) _ _ (a .from) _ _ (st .pre .1 .fixed) (c .before .before .before .before .before .before .before .before .before .before .before .put-bytes .ensures) (a .v) (a .work .now) (a .st) _ _ _ _ _ _ is bytes (c .before .before .put-rest .ensures)
 
 -- src/lib.rt:96:15
 add-end : tie.Need-add-end
@@ -76,7 +92,12 @@ part-put-rest-end c = search needs
 
 -- src/lib.rt:97:5
 put-rest-requires-2 : tie.Need-put-rest-requires-2
-put-rest-requires-2 c κs = ?
+put-rest-requires-2 c κs =
+    let st = c .before .before .before .before .before .before .before .before .before .before .before .before .before .before in
+    let a = st .args in
+    let e = fixed-end (a .b .now) _ _ (a .from) _ _ (st .pre .1 .fixed) (c .before .before .before .before .before .before .before .before .put-bytes .ensures) in
+    let is = name-plain (a .v) (a .b .now) (a .work .now) (a .from) (a .st) (c .before .before .if1 .left) in
+    (omega arith, omega arith, name-kept (a .v) (a .b .now) (a .work .now) (a .from) (a .st) _ _ _ is (st .pre .3))
 
 -- src/lib.rt:83:1
 same-length-2 : tie.Need-same-length-2
@@ -84,7 +105,12 @@ same-length-2 c = search needs
 
 -- src/lib.rt:83:1
 returns-2 : tie.Need-returns-2
-returns-2 c = ?
+returns-2 c =
+    let st = c .before .before .before .before .before .before .before .before .before .before .before .before .before .before .before .before .before in
+    let a = st .args in
+    let bytes : Bytes (a .b .now) = λ i. omega (arith, c .before .before .before .before .before .before .before .before .before .before .before .before .before .before .before .before .shared-slice-known .given i) in
+    let is = name-plain (a .v) (a .b .now) (a .work .now) (a .from) (a .st) (c .before .before .before .before .before .if1 .left) in
+    entry-wrote (a .b .now) _ _ (a .from) _ _ (st .pre .1 .fixed) (c .before .before .before .before .before .before .before .before .before .before .before .put-bytes .ensures) (a .v) (a .work .now) (a .st) _ _ _ _ _ _ is bytes (c .before .before .put-rest2 .ensures)
 
 pub put-step-spec : {M : Type 1} → statement M
 put-step-spec =
