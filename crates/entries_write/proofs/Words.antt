@@ -64,8 +64,8 @@ module _ (out name : List ℕ) (at version base word previous kept : ℕ) (out�
       let near = y .near in
       record {
         wrote = λ entry s told beside.
-          let none : needsWord entry ≡ false = needs-none entry (told .word-is ∙ zero) in
-          rw (none, flags-without entry base word name told, told .name-is) (wrote-then out (put16 (base + lengthField (length name))) _ out′ out″ at p r x (y .wrote s beside));
+            let none : needsWord entry ≡ false = needs-none entry (told .word-is ∙ zero) in
+            rw (none, flags-without entry base word name told, told .name-is) (wrote-then out (put16 (base + lengthField (length name))) _ out′ out″ at p r x (y .wrote s beside));
         near = omega arith;
       }
 
@@ -80,11 +80,11 @@ module _ (out name : List ℕ) (at version base word previous kept : ℕ) (out�
       let near = z .near in
       record {
         wrote = λ entry s told beside.
-          let one : needsWord entry ≡ true = needs-one entry (λ none. other (sym (told .word-is) ∙ none)) in
-          rw
-          (one, flags-with entry base word name told, told .word-is, told .name-is)
-          (wrote-then out (put16 (base + lengthField (length name) + 16384)) _ out′ out‴ at p r x
-          (wrote-then out′ (put16 word) _ out″ out‴ p q r y (z .wrote s beside)));
+            let one : needsWord entry ≡ true = needs-one entry (λ none. other (sym (told .word-is) ∙ none)) in
+            rw
+            (one, flags-with entry base word name told, told .word-is, told .name-is)
+            (wrote-then out (put16 (base + lengthField (length name) + 16384)) _ out′ out‴ at p r x
+            (wrote-then out′ (put16 word) _ out″ out‴ p q r y (z .wrote s beside)));
         near = omega arith;
       }
 
@@ -127,8 +127,8 @@ module _ (b out out′ : List ℕ) (from at p : ℕ) (there : from + 62 ≤ leng
       let parts : take 60 s ≡ put32s (be32s s 0 10) ++ take 20 (drop 40 s) = fixed-bytes s (bytes-drop from b bytes) fixed-long in
       record {
         wrote = λ q beside.
-          let rest = y .wrote (entryAt v b work from st) q told (rw is at beside) in
-          rw (← append-assoc (put32s (be32s s 0 10)) (take 20 (drop 40 s)) _, ← parts) (wrote-then out (take 60 s) _ out′ out″ at p r fixed-wrote rest);
+            let rest = y .wrote (entryAt v b work from st) q told (rw is at beside) in
+            rw (← append-assoc (put32s (be32s s 0 10)) (take 20 (drop 40 s)) _, ← parts) (wrote-then out (take 60 s) _ out′ out″ at p r fixed-wrote rest);
         near = omega arith;
       }
 
