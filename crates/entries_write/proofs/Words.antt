@@ -1,26 +1,25 @@
 -- Laws of the flags, of the extended word, and of the bytes before them.
-use mathlib.Core.Path.{_≡_, refl, sym, ap, _∙_}
-use mathlib.Core.List.{List, [], _∷_, _++_, append-assoc}
-use mathlib.Core.Bool.{Bool, true, false, cond, _||_}
-use Prim.Native.Nat.{ℕ, _+_, _-_, _*_, _/_, _%_, _≤_, _<_}
+use mathlib.Core.Path.{_≡_, refl, sym, _∙_}
+use mathlib.Core.List.{List, _++_, append-assoc}
+use mathlib.Core.Bool.{Bool, true, false, _||_}
+use Prim.Native.Nat.{ℕ, _+_, _-_, _*_, _/_, _%_, _≤_}
 use native.Mathlib.Nat.{add-sub-cancel-left}
 use native.Mathlib.Omega.{arith}
-use lib.ListN.{length, take, drop, length-append, length-drop}
+use lib.ListN.{length, take, drop, length-drop}
 use lib.Seq.{take-add, length-take-le}
 use Rattle.format.specs.Bytes.{Bytes, be32s, put16, put32s}
 use Rattle.format.specs.Names.{lengthField}
 use Rattle.format.specs.Records.{Entry}
 use Rattle.format.specs.Layout.{bit, fixedLength, flagsOf, wordOf}
-use Rattle.format.specs.Reader.{isSet, entryOf}
+use Rattle.format.specs.Reader.{entryOf}
 use Rattle.format.specs.Writer.{needsWord, writeName, writeRest, writeEntry}
 use Rattle.spelling_entries.proofs.Bytes.{length-put16, bytes-drop, put32s-be32s}
 use Rattle.spelling_entries.proofs.Flags.{bit-isSet}
 use Rattle.output.specs.Output.{Wrote}
 use Rattle.output.proofs.Laws.{wrote-then}
 use Rattle.entries_run.specs.declared.Step.{Step}
-use Rattle.entries_run.specs.Steps.{nameAt, entryAt, Placed}
-use Rattle.entries_run.proofs.Steps.{entryAt-name}
-use Rattle.entries_write.specs.Parts.{Kept, Beside, Told, NameWritten, RestWritten, EntryWritten}
+use Rattle.entries_run.specs.Steps.{nameAt, entryAt}
+use Rattle.entries_write.specs.Parts.{Kept, Told, NameWritten, RestWritten, EntryWritten}
 
 -- ---- the extended word is there where it is not zero
 

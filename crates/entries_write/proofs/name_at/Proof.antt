@@ -6,34 +6,25 @@ use Rattle.entries_write.proofs.Names.{nameAt-work, nameAt-body}
 use borrow.Author.Needs.{needs}
 use Rattle.entries_write.proofs.name_at.Statement.{statement}
 use Rattle.entries_write.proofs.name_at.Tie as tie
-use Rattle.entries_write.proofs.name_at.Reads as reads
-use Rattle.entries_write.proofs.name_at.Lts as lts
 
--- src/lib.rt:105:9
 slice-aggregate-result : tie.Need-slice-aggregate-result
 slice-aggregate-result c = sym (length-take-le _ _ (omega arith))
 
--- src/lib.rt:105:9
 returns : tie.Need-returns
 returns c = nameAt-work _ _ _ _ _ (c .before .if1 .taken)
 
--- src/lib.rt:107:15
 add-end : tie.Need-add-end
 add-end c = search needs
 
--- src/lib.rt:108:5
 sub-result : tie.Need-sub-result
 sub-result c = search needs
 
--- src/lib.rt:108:5
 part-result-start : tie.Need-part-result-start
 part-result-start c = search needs
 
--- src/lib.rt:108:5
 part-result-end : tie.Need-part-result-end
 part-result-end c = search needs
 
--- src/lib.rt:100:1
 returns-2 : tie.Need-returns-2
 returns-2 c = nameAt-body _ _ _ _ _ (c .before .if1 .left)
 

@@ -5,53 +5,37 @@ use Rattle.entries_write.proofs.Words.{fixed-end, entry-wrote, name-kep
 use borrow.Author.Needs.{needs}
 use Rattle.entries_write.proofs.put_step.Statement.{statement}
 use Rattle.entries_write.proofs.put_step.Tie as tie
-use Rattle.entries_write.proofs.put_step.Reads as reads
-use Rattle.entries_write.proofs.put_step.Lts as lts
-use Rattle.entries_write.proofs.name_at.Reads as name-at-reads
-use Rattle.entries_write.proofs.put_rest.Reads as put-rest-reads
-use Rattle.output.proofs.put_bytes.Reads as put-bytes-reads
 
--- src/lib.rt:127:17
 add-fixed : tie.Need-add-fixed
 add-fixed c = search needs
 
--- src/lib.rt:128:51
 sub-put-bytes : tie.Need-sub-put-bytes
 sub-put-bytes c = search needs
 
--- src/lib.rt:128:51
 part-put-bytes-start : tie.Need-part-put-bytes-start
 part-put-bytes-start c = search needs
 
--- src/lib.rt:128:51
 part-put-bytes-end : tie.Need-part-put-bytes-end
 part-put-bytes-end c = search needs
 
--- src/lib.rt:128:9
 put-bytes-requires : tie.Need-put-bytes-requires
 put-bytes-requires c κs = search needs
 
--- src/lib.rt:129:16
 mul-base : tie.Need-mul-base
 mul-base c = search needs
 
--- src/lib.rt:129:47
 mul-base-2 : tie.Need-mul-base-2
 mul-base-2 c = search needs
 
--- src/lib.rt:129:16
 add-base : tie.Need-add-base
 add-base c = search needs
 
--- src/lib.rt:130:16
 mul-word : tie.Need-mul-word
 mul-word c = search needs
 
--- src/lib.rt:132:9
 name-at-requires : tie.Need-name-at-requires
 name-at-requires c κs = search needs
 
--- src/lib.rt:133:5
 put-rest-requires : tie.Need-put-rest-requires
 put-rest-requires c κs =
     let named = c .before in
@@ -61,11 +45,9 @@ put-rest-requires c κs =
     let end = fixed-end (a .b .now) _ _ (a .from) _ _ (start .pre .1 .fixed) (put .put-bytes .ensures) in
     (omega arith, omega arith, name-kept (a .v) (a .b .now) (a .work .now) (a .from) (a .st) _ _ _ (named .name-at .ensures) (start .pre .3))
 
--- src/lib.rt:112:1
 same-length : tie.Need-same-length
 same-length c = search needs
 
--- src/lib.rt:112:1
 returns : tie.Need-returns
 returns c =
     let rest = c .before .before in
