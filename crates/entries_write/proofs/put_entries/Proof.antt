@@ -1,0 +1,111 @@
+-- The proof that `put_entries` meets its contract. The loop keeps that some entries are written, which with those left are all.
+use mathlib.Core.Path.{_∙_}
+use Prim.Native.Nat.{_≤_}
+use native.Mathlib.Omega.{arith}
+use borrow.Author.Needs.{needs}
+use lib.ListN.{length}
+use Rattle.entries_write.proofs.Runs.{Writing, writing-start, writing-bad, step-placed, step-kept, writing-more, writing-end}
+use Rattle.entries_write.proofs.put_entries.Statement.{statement}
+use Rattle.entries_write.proofs.put_entries.Tie as tie
+
+abbrev Inv-loop : tie.InvT-loop
+Inv-loop b v work₀ n version out₀ at cursor₀ end₀ extended₀ left₀ work out cursor end extended left =
+    Writing v b work₀ cursor₀ n version out₀ at work out cursor end extended left
+
+abbrev μ-loop : tie.MeasureT-loop
+μ-loop b v work₀ n version out₀ at cursor₀ end₀ extended₀ left₀ work out cursor end extended left = left
+
+loop-holds : tie.Need-loop-holds Inv-loop μ-loop
+loop-holds c = writing-start _ _ _ _ _ _ _ _ (c .before .before .before .pre .0)
+
+next-entry-requires : tie.Need-next-entry-requires Inv-loop μ-loop
+next-entry-requires c κs = let long = c .before .before .loop .inv .long in (c .before .before .loop .inv .inside, omega arith)
+
+enum-told : tie.Need-enum-told Inv-loop μ-loop
+enum-told c = search needs
+
+same-length : tie.Need-same-length Inv-loop μ-loop
+same-length c =
+    let l = c .before .before .before .before .before .before .before in
+    let t = c .before .before .before .before .next-entry .ensures in
+    t .long ∙ l .loop .inv .long
+
+same-length-2 : tie.Need-same-length-2 Inv-loop μ-loop
+same-length-2 c = c .before .before .before .before .before .before .before .loop .inv .wrote .long
+
+returns : tie.Need-returns Inv-loop μ-loop
+returns c =
+    let l = c .before .before .before .before .before .before .before in
+    let t = rw (c .enum-told .given .1) at (c .before .before .before .before .next-entry .ensures) in
+    writing-bad (l .loop .inv) (c .before .before .before .before .before .before .loop-test .taken) t
+
+enum-known-g : tie.Need-enum-known-g Inv-loop μ-loop
+enum-known-g c = search needs
+
+put-step-requires : tie.Need-put-step-requires Inv-loop μ-loop
+put-step-requires c κs =
+    let l = c .before .before .before .before .before .before .before .before .before .before in
+    let more = c .before .before .before .before .before .before .before .before .before .loop-test .taken in
+    let t = rw (c .before .before .before .g .given .1) at (c .before .before .before .before .before .before .before .next-entry .ensures) in
+    let long = t .long in
+    let same = l .loop .inv .long in
+    let near = l .loop .inv .near in
+    let sum = l .loop .inv .count in
+    let room : 8192 ≤ length (l .loop .work) = omega arith in (
+      omega arith,
+      step-placed (l .loop .inv) more t room,
+      omega arith,
+      step-kept (l .loop .inv) more t room,
+    )
+
+either-requires : tie.Need-either-requires Inv-loop μ-loop
+either-requires c κs = search needs
+
+sub-left : tie.Need-sub-left Inv-loop μ-loop
+sub-left c = omega arith
+
+loop-less : tie.Need-loop-less Inv-loop μ-loop
+loop-less c = omega arith
+
+loop-again : tie.Need-loop-again Inv-loop μ-loop
+loop-again c =
+    let l = c .before .before .before .before .before .before .before .before .before .before .before .before .before .before .before in
+    let more = c .before .before .before .before .before .before .before .before .before .before .before .before .before .before .loop-test .taken in
+    let read = c .before .before .before .before .before .before .before .before .before .before .before .before in
+    let t = rw (c .before .before .before .before .before .before .before .before .g .given .1) at (read .next-entry .ensures) in
+    let same = l .loop .inv .long in
+    let room : 8192 ≤ length (l .loop .work) = omega arith in
+    writing-more (l .loop .inv) more t room (c .before .before .before .before .put-step .ensures) (c .before .either .ensures)
+
+same-length-3 : tie.Need-same-length-3 Inv-loop μ-loop
+same-length-3 c = c .before .loop .inv .long
+
+same-length-4 : tie.Need-same-length-4 Inv-loop μ-loop
+same-length-4 c = c .before .loop .inv .wrote .long
+
+returns-2 : tie.Need-returns-2 Inv-loop μ-loop
+returns-2 c =
+    let l = c .before in
+    writing-end (l .loop .inv) (c .loop-test .left)
+
+pub put-entries-spec : {M : Type 1} → statement M
+put-entries-spec =
+    tie.close
+    (tie.spec
+    Inv-loop
+    μ-loop
+    loop-holds
+    next-entry-requires
+    enum-told
+    same-length
+    same-length-2
+    returns
+    enum-known-g
+    put-step-requires
+    either-requires
+    sub-left
+    loop-less
+    loop-again
+    same-length-3
+    same-length-4
+    returns-2)

@@ -1,0 +1,98 @@
+-- The proof that `put_step` meets its contract.
+use native.Mathlib.Omega.{arith}
+use Rattle.format.specs.Bytes.{Bytes}
+use Rattle.entries_write.proofs.Words.{fixed-end, entry-wrote, name-kept}
+use borrow.Author.Needs.{needs}
+use Rattle.entries_write.proofs.put_step.Statement.{statement}
+use Rattle.entries_write.proofs.put_step.Tie as tie
+
+add-fixed : tie.Need-add-fixed
+add-fixed c = search needs
+
+sub-put-bytes : tie.Need-sub-put-bytes
+sub-put-bytes c = search needs
+
+part-put-bytes-start : tie.Need-part-put-bytes-start
+part-put-bytes-start c = search needs
+
+part-put-bytes-end : tie.Need-part-put-bytes-end
+part-put-bytes-end c = search needs
+
+put-bytes-requires : tie.Need-put-bytes-requires
+put-bytes-requires c κs = search needs
+
+mul-base : tie.Need-mul-base
+mul-base c = search needs
+
+mul-base-2 : tie.Need-mul-base-2
+mul-base-2 c = search needs
+
+add-base : tie.Need-add-base
+add-base c = search needs
+
+mul-word : tie.Need-mul-word
+mul-word c = search needs
+
+name-at-requires : tie.Need-name-at-requires
+name-at-requires c κs = search needs
+
+put-rest-requires : tie.Need-put-rest-requires
+put-rest-requires c κs =
+    let named = c .before in
+    let put = c .before .before .before .before .before .before .before .before in
+    let start = c .before .before .before .before .before .before .before .before .before .before .before .before .before .before in
+    let a = start .args in
+    let end = fixed-end (a .b .now) _ _ (a .from) _ _ (start .pre .1 .fixed) (put .put-bytes .ensures) in
+    (omega arith, omega arith, name-kept (a .v) (a .b .now) (a .work .now) (a .from) (a .st) _ _ _ (named .name-at .ensures) (start .pre .3))
+
+same-length : tie.Need-same-length
+same-length c = search needs
+
+returns : tie.Need-returns
+returns c =
+    let rest = c .before .before in
+    let named = c .before .before .before .before in
+    let put = c .before .before .before .before .before .before .before .before .before .before .before in
+    let known = c .before .before .before .before .before .before .before .before .before .before .before .before .before .before .before .before in
+    let start = known .before in
+    let a = start .args in
+    let bytes : Bytes (a .b .now) = λ i. omega (arith, known .shared-slice-known .given i) in
+    entry-wrote
+    (a .b .now)
+    _
+    _
+    (a .from)
+    _
+    _
+    (start .pre .1 .fixed)
+    (put .put-bytes .ensures)
+    (a .v)
+    (a .work .now)
+    (a .st)
+    _
+    _
+    _
+    _
+    _
+    _
+    (named .name-at .ensures)
+    bytes
+    (rest .put-rest .ensures)
+
+pub put-step-spec : {M : Type 1} → statement M
+put-step-spec =
+    tie.close
+    (tie.spec
+    add-fixed
+    sub-put-bytes
+    part-put-bytes-start
+    part-put-bytes-end
+    put-bytes-requires
+    mul-base
+    mul-base-2
+    add-base
+    mul-word
+    name-at-requires
+    put-rest-requires
+    same-length
+    returns)
