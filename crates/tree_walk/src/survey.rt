@@ -9,7 +9,7 @@ ghost use lib.ListN.{length, drop};
 ghost use lib.Dec.{leb, ltb};
 ghost use Rattle.format.specs.Records.{Forest};
 ghost use Rattle.format.specs.Layout.{bit};
-ghost use Rattle.cache_tree.proofs.Flat.{Reads};
+ghost use Rattle.cache_tree.specs.Flat.{Reads};
 ghost use Rattle.tree_walk.specs.Trees.{surveyOf};
 
 // Whether a node below a valid one is invalid, or how many nodes have a count of at least 1.
