@@ -54,28 +54,26 @@ pub fn read_tree(d: &[u8], work: &mut [u8], seed: u64, want: u32) -> TreeRead
     ensures { λ r. ⌜ ((p : ℕ) → r ≡ treeOf want (now (d .entry)) (readShape 20 p (now (d .entry)))) × (drop 8192 (now (work .exit)) ≡ drop 8192 (now (work .entry))) ⌝ }
 {
     let read = read_nodes(d, want);
-    match read {
-        ListRead::Bad => TreeRead::Bad,
-        ListRead::Good { next, nodes, level } => {
-            if next != d.len() {
-                return TreeRead::Bad;
-            }
-            if all_differ(d, nodes, work, seed) {
-                if want < nodes {
-                    let place = place_of(d, want);
-                    return TreeRead::Good {
-                        nodes: nodes,
-                        place: place,
-                        level: level,
-                    };
-                }
-                return TreeRead::Good {
-                    nodes: nodes,
-                    place: 0,
-                    level: level,
-                };
-            }
-            TreeRead::Bad
-        }
+    let ListRead::Good { next, nodes, level } = read else {
+        return TreeRead::Bad;
+    };
+    if next != d.len() {
+        return TreeRead::Bad;
     }
+    if all_differ(d, nodes, work, seed) {
+        if want < nodes {
+            let place = place_of(d, want);
+            return TreeRead::Good {
+                nodes: nodes,
+                place: place,
+                level: level,
+            };
+        }
+        return TreeRead::Good {
+            nodes: nodes,
+            place: 0,
+            level: level,
+        };
+    }
+    TreeRead::Bad
 }

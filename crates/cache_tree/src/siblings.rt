@@ -114,18 +114,14 @@ pub fn all_differ(d: &[u8], nodes: u32, work: &mut [u8], seed: u64) -> bool
     let mut left = nodes;
     while 0 < left {
         let read = read_node(d, place);
-        match read {
-            NodeRead::Bad => {
-                return true;
-            }
-            NodeRead::Good(node) => {
-                if differ(d, node.next, node.subtrees, work, seed) {
-                    place = node.next;
-                    left -= 1;
-                } else {
-                    return false;
-                }
-            }
+        let NodeRead::Good(node) = read else {
+            return true;
+        };
+        if differ(d, node.next, node.subtrees, work, seed) {
+            place = node.next;
+            left -= 1;
+        } else {
+            return false;
         }
     }
     true
