@@ -17,12 +17,13 @@ use Rattle.format.specs.Reader.{Head, readText, readNode, readSiblings, readFor
 use Rattle.format_laws.proofs.Lists.{drop-to}
 use Rattle.format_laws.proofs.Numbers.{suc-pred}
 use Rattle.format_laws.proofs.Readings.{bad-good, good-inv, need-inv, bind-inv}
-use Rattle.cache_tree.specs.declared.node.Node as Code
-use Rattle.cache_tree.specs.declared.node.NodeRead.the-variants as R
-use Rattle.cache_tree.specs.Answers.{size, nodeAt}
+use Rattle.tree_nodes.specs.declared.node.Node as Code
+use Rattle.tree_nodes.specs.declared.node.NodeRead.the-variants as R
+use Rattle.tree_nodes.specs.Answers.{nodeAt}
+use Rattle.cache_tree.specs.Answers.{size}
 use Rattle.cache_tree.specs.Flat.{placeOf, lengthOf, treesLength, nameOf, restOf, namesOf, hasName, namesDiffer, allDiffer, Reads, reads-none, reads-more}
-use Rattle.cache_tree.proofs.Readings.{node-took}
-use Rattle.cache_tree.proofs.Nodes.{node-named, NodeIs, no-node}
+use Rattle.tree_nodes.proofs.Readings.{node-took}
+use Rattle.tree_nodes.proofs.Nodes.{node-named, NodeIs, no-node}
 use Rattle.cache_tree.proofs.Lists.{items-size}
 
 -- ---- k nodes with all below them, with no fuel

@@ -2,18 +2,16 @@
 pub mod chunks;
 pub mod filter;
 pub mod list;
-pub mod node;
-pub mod number;
 pub mod siblings;
 pub mod walk;
 
 use crate::list::ListRead;
 use crate::list::read_list;
 use crate::list::with_root;
-use crate::node::NodeRead;
-use crate::node::read_node;
 use crate::siblings::all_differ;
 use crate::walk::place_of;
+use tree_nodes::node::NodeRead;
+use tree_nodes::node::read_node;
 ghost use mathlib.Core.Path.{_≡_};
 ghost use Prim.Native.Nat.{ℕ, _≤_};
 ghost use lib.ListN.{length, drop};

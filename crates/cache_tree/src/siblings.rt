@@ -1,12 +1,12 @@
 // Whether siblings differ in name. Those that rise in one of two orders do; others are looked at chunk by chunk.
 use crate::chunks::by_chunks;
-use crate::node::NodeRead;
-use crate::node::read_node;
 use crate::walk::after_tree;
 use fields::common;
 use fields::compare;
 use fields::find;
 use format::Order;
+use tree_nodes::node::NodeRead;
+use tree_nodes::node::read_node;
 ghost use mathlib.Core.Path.{_≡_};
 ghost use Prim.Native.Nat.{_-_, _≤_, _<_};
 ghost use lib.ListN.{length, drop};

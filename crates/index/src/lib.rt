@@ -16,9 +16,6 @@ ghost use Rattle.extensions.specs.Found.{TreeFound, UndoFound};
 ghost use Rattle.file.specs.declared.Count.the-variants.{Absent, Present};
 ghost use Rattle.file.specs.Answers.{cleared, pick, listed, itemsOf, checkAnswer, entryAnswer, nodeAnswer, undoAnswer};
 ghost use Rattle.index.specs.Calls.{bodyOf, inRoom, isPresent, numberOf, plainOf, WholeOf, EntryShows, NodeShows, UndoShows};
-use cache_tree::node::Node;
-use cache_tree::node::NodeRead;
-use cache_tree::node::read_node;
 use entries_run::Run;
 use entries_run::Sought;
 use extensions::Extended;
@@ -36,6 +33,9 @@ use file::refused_entry;
 use file::refused_node;
 use file::refused_undo;
 use file_header::Header;
+use tree_nodes::node::Node;
+use tree_nodes::node::NodeRead;
+use tree_nodes::node::read_node;
 
 // What an accepted file has; end is the byte where entries end.
 struct Parts {

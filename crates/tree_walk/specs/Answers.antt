@@ -9,7 +9,7 @@ use Rattle.format.specs.Records.{Entry, start, Forest, Tree}
 use Rattle.format.specs.Layout.{distinct, okTreeCounts, names}
 use Rattle.format.specs.Reading.{good}
 use Rattle.format.specs.Reader.{readEntries, readNodes}
-use Rattle.cache_tree.specs.declared.node.Node.{Node}
+use Rattle.tree_nodes.specs.declared.node.Node.{Node}
 use Rattle.cache_tree.specs.Flat.{Reads}
 use Rattle.tree_counts.specs.Judge.{judge, matched, Sound}
 

@@ -5,7 +5,7 @@ use native.Mathlib.Omega.{arith}
 use borrow.Author.Needs.{needs}
 use lib.ListN.{length, drop}
 use Rattle.cache_tree.specs.Flat.{allDiffer}
-use Rattle.cache_tree.proofs.Nodes.{NodeIs, node-is}
+use Rattle.tree_nodes.proofs.Nodes.{NodeIs, node-is}
 use Rattle.cache_tree.proofs.Differ.{all-none, all-stop, all-more, all-not}
 use Rattle.cache_tree.proofs.siblings.all_differ.Statement.{statement}
 use Rattle.cache_tree.proofs.siblings.all_differ.Tie as tie

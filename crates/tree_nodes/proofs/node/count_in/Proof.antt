@@ -4,9 +4,9 @@ use Prim.Native.Nat.{_≤_}
 use native.Mathlib.Omega.{arith}
 use borrow.Author.Needs.{needs}
 use borrow.Author.Tests.{le-leb}
-use Rattle.cache_tree.proofs.Nodes.{minusTo, plainTo, count-empty, count-minus, count-plain}
-use Rattle.cache_tree.proofs.node.count_in.Statement.{statement}
-use Rattle.cache_tree.proofs.node.count_in.Tie as tie
+use Rattle.tree_nodes.proofs.Nodes.{minusTo, plainTo, count-empty, count-minus, count-plain}
+use Rattle.tree_nodes.proofs.node.count_in.Statement.{statement}
+use Rattle.tree_nodes.proofs.node.count_in.Tie as tie
 
 returns : tie.Need-returns
 returns c = sym (count-empty _ _ (c .if1 .taken))

@@ -7,7 +7,7 @@ ghost use mathlib.Core.Bool.{cond};
 ghost use Prim.Native.Nat.{_+_, _-_, _≤_, _<_};
 ghost use lib.ListN.{length, drop};
 ghost use Rattle.format.specs.Reader.{countIn, readCount, readSubtrees, readNode};
-ghost use Rattle.cache_tree.specs.Answers.{countTo, countAt, subtreesAt, nodeAt};
+ghost use Rattle.tree_nodes.specs.Answers.{countTo, countAt, subtreesAt, nodeAt};
 
 // An entry count, 0 where it says "invalid", and the place after it.
 pub enum Count {

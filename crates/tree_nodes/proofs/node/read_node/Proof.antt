@@ -3,9 +3,9 @@ use mathlib.Core.Path.{sym, _∙_}
 use Prim.Native.Nat.{_+_}
 use native.Mathlib.Omega.{arith}
 use borrow.Author.Needs.{needs}
-use Rattle.cache_tree.proofs.Nodes.{CountIs, SubtreesIs, count-is, subtrees-is, node-none, node-no-count, node-no-subtrees, node-short, node-good}
-use Rattle.cache_tree.proofs.node.read_node.Statement.{statement}
-use Rattle.cache_tree.proofs.node.read_node.Tie as tie
+use Rattle.tree_nodes.proofs.Nodes.{CountIs, SubtreesIs, count-is, subtrees-is, node-none, node-no-count, node-no-subtrees, node-short, node-good}
+use Rattle.tree_nodes.proofs.node.read_node.Statement.{statement}
+use Rattle.tree_nodes.proofs.node.read_node.Tie as tie
 
 count-of : (c : tie.After-known-told) → CountIs (c .before .before .before .before .before .before .before .args .d .now) (c .before .before .before .before .before .find .result + 1) (c .before .counted .given .0 .0) (c .before .counted .given .0 .1 .0) (c .before .counted .given .0 .1 .1 .0)
 count-of c = count-is _ _ (omega arith) _ _ _ (sym (c .before .counted .given .1) ∙ c .before .before .before .read-count .ensures)
