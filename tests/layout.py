@@ -10,6 +10,15 @@ import struct
 from dataclasses import dataclass, field
 from typing import NamedTuple, Optional
 
+# what the makers of files take from here, each by "from layout import *"
+__all__ = [
+    "COUNT_TEXTS", "EXECUTABLE", "GITLINK", "LINK", "LISTING_LIMIT", "MODES", "REGULAR", "SUBTREE_TEXTS",
+    "UNDO_MODES", "WRONG_MODES",
+    "Extension", "Made", "Plan", "Record", "Tree", "Undo",
+    "arrange", "bad_names", "end_of_entries", "git_order", "index_order", "lay", "lay_number", "lay_record",
+    "lay_tree", "lay_undo", "refused", "seal", "whole_tree",
+]
+
 REGULAR, EXECUTABLE, LINK, GITLINK = 0o100644, 0o100755, 0o120000, 0o160000
 MODES = (REGULAR, EXECUTABLE, LINK, GITLINK)
 WRONG_MODES = (

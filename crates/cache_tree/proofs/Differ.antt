@@ -10,12 +10,12 @@ use Rattle.format.specs.Bytes.{eqList, before}
 use Rattle.format.specs.Reader.{readNode}
 use Rattle.format_laws.proofs.Lists.{drop-to}
 use Rattle.format_laws.proofs.Numbers.{suc-pred}
-use Rattle.cache_tree.specs.declared.node.Node as Code
-use Rattle.cache_tree.specs.declared.node.NodeRead.the-variants as R
-use Rattle.cache_tree.specs.Answers.{nodeAt}
+use Rattle.tree_nodes.specs.declared.node.Node as Code
+use Rattle.tree_nodes.specs.declared.node.NodeRead.the-variants as R
+use Rattle.tree_nodes.specs.Answers.{nodeAt}
 use Rattle.cache_tree.specs.Flat.{treesLength, nameOf, restOf, namesOf, hasName, namesDiffer, allDiffer}
 use Rattle.cache_tree.specs.Orders.{nameBelow, risesFrom}
-use Rattle.cache_tree.proofs.Nodes.{NodeIs, no-node}
+use Rattle.tree_nodes.proofs.Nodes.{NodeIs, no-node}
 use Rattle.cache_tree.proofs.Flat.{differ-step}
 use Rattle.cache_tree.proofs.Orders.{rises-differ}
 

@@ -17,12 +17,13 @@ use Rattle.format.specs.Reader.{Head, readText, readNode, readSiblings, readFor
 use Rattle.format_laws.proofs.Lists.{drop-to}
 use Rattle.format_laws.proofs.Numbers.{suc-pred}
 use Rattle.format_laws.proofs.Readings.{bad-good, good-inv, need-inv, bind-inv}
-use Rattle.cache_tree.specs.declared.node.Node as Code
-use Rattle.cache_tree.specs.declared.node.NodeRead.the-variants as R
-use Rattle.cache_tree.specs.Answers.{size, nodeAt}
-use Rattle.cache_tree.specs.Flat.{placeOf, lengthOf, treesLength, nameOf, restOf, namesOf, hasName, namesDiffer, allDiffer}
-use Rattle.cache_tree.proofs.Readings.{node-took}
-use Rattle.cache_tree.proofs.Nodes.{node-named, NodeIs, no-node}
+use Rattle.tree_nodes.specs.declared.node.Node as Code
+use Rattle.tree_nodes.specs.declared.node.NodeRead.the-variants as R
+use Rattle.tree_nodes.specs.Answers.{nodeAt}
+use Rattle.cache_tree.specs.Answers.{size}
+use Rattle.cache_tree.specs.Flat.{placeOf, lengthOf, treesLength, nameOf, restOf, namesOf, hasName, namesDiffer, allDiffer, Reads, reads-none, reads-more}
+use Rattle.tree_nodes.proofs.Readings.{node-took}
+use Rattle.tree_nodes.proofs.Nodes.{node-named, NodeIs, no-node}
 use Rattle.cache_tree.proofs.Lists.{items-size}
 
 -- ---- k nodes with all below them, with no fuel
@@ -74,16 +75,7 @@ trees-step k (x ∷ s) h m e =
     let d : length (drop m (x ∷ s)) ≡ length (x ∷ s) - m = length-drop m (x ∷ s) in
     rw e (ap (λ (i : ℕ). m + i) (same-fuel (length s) (length (drop m (x ∷ s))) (k + h .subtrees) (drop m (x ∷ s)) (omega arith) (omega arith)))
 
--- ---- a list of siblings that was read: k nodes in m bytes
-
-pub data Reads : List ℕ → Forest → ℕ → ℕ → Type 0 where
-  reads-none : {s : List ℕ} → Reads s nil 0 0
-  reads-more :
-      {s : List ℕ} {h : Head} {kids after : Forest} {a b c k : ℕ} →
-      readNode 20 0 s ≡ good h a →
-      Reads (drop a s) kids (h .subtrees) b →
-      Reads (drop b (drop a s)) after k c →
-      Reads s (tree (h .node) kids after) (suc k) (a + (b + c))
+-- ---- a list of siblings that was read
 
 reads-is : (s : List ℕ) (f g : Forest) (k m n : ℕ) → Reads s f k m → f ≡ g → m ≡ n → Reads s g k n
 reads-is s f g k m n r e i = rw (← e, ← i) r

@@ -1,7 +1,4 @@
 -- Laws that the functions' proofs cite.
-pub mod Numbers
-pub mod Readings
-pub mod Nodes
 pub mod Names
 pub mod Lists
 pub mod Flat

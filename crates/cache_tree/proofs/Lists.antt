@@ -16,11 +16,12 @@ use Rattle.format_laws.proofs.Lists.{drop-to}
 use Rattle.format_laws.proofs.Readings.{bad-good, good-inv, need-inv, bind-inv}
 use Rattle.cache_tree.specs.declared.list.ListRead.{ListRead}
 use Rattle.cache_tree.specs.declared.list.ListRead.the-variants as L
-use Rattle.cache_tree.specs.declared.node.Node as Code
-use Rattle.cache_tree.specs.declared.node.NodeRead.the-variants as R
-use Rattle.cache_tree.specs.Answers.{nodeAt, readOne, size, either, levelIn, listAt, rooted, nodesIn}
-use Rattle.cache_tree.proofs.Readings.{node-took}
-use Rattle.cache_tree.proofs.Nodes.{NodeIs}
+use Rattle.tree_nodes.specs.declared.node.Node as Code
+use Rattle.tree_nodes.specs.declared.node.NodeRead.the-variants as R
+use Rattle.tree_nodes.specs.Answers.{nodeAt}
+use Rattle.cache_tree.specs.Answers.{readOne, size, either, levelIn, listAt, rooted, nodesIn}
+use Rattle.tree_nodes.proofs.Readings.{node-took}
+use Rattle.tree_nodes.proofs.Nodes.{NodeIs}
 
 -- ---- one list after another
 

@@ -14,16 +14,17 @@ use Rattle.format.specs.Layout.{distinct, okTreeCounts}
 use Rattle.format.specs.Reading.{Read, bad, good, need, shift, bind}
 use Rattle.format.specs.Reader.{Head, readNode, readForest, readNodes, readTree}
 use Rattle.format_laws.proofs.Readings.{need-inv, bind-inv}
-use Rattle.cache_tree.specs.declared.node.Node as Code
-use Rattle.cache_tree.specs.declared.node.NodeRead.the-variants as R
+use Rattle.tree_nodes.specs.declared.node.Node as Code
+use Rattle.tree_nodes.specs.declared.node.NodeRead.the-variants as R
 use Rattle.cache_tree.specs.declared.list.ListRead.the-variants as L
 use Rattle.cache_tree.specs.declared.TreeRead.the-variants as T
-use Rattle.cache_tree.specs.Answers.{nodeAt, size, levelIn, listAt, rooted}
-use Rattle.cache_tree.specs.Flat.{placeOf, namesDiffer, allDiffer}
+use Rattle.tree_nodes.specs.Answers.{nodeAt}
+use Rattle.cache_tree.specs.Answers.{size, levelIn, listAt, rooted}
+use Rattle.cache_tree.specs.Flat.{placeOf, namesDiffer, allDiffer, Reads, reads-none, reads-more}
 use Rattle.cache_tree.specs.Shape.{readShape, nodesAt, treeOf}
-use Rattle.cache_tree.proofs.Nodes.{NodeIs}
+use Rattle.tree_nodes.proofs.Nodes.{NodeIs}
 use Rattle.cache_tree.proofs.Lists.{items-size}
-use Rattle.cache_tree.proofs.Flat.{Reads, reads-none, reads-more, forest-reads, reads-names, reads-item, reads-differ, distinct-is, differ-step, Shown, siblingNames, kidsDiffer}
+use Rattle.cache_tree.proofs.Flat.{forest-reads, reads-names, reads-item, reads-differ, distinct-is, differ-step, Shown, siblingNames, kidsDiffer}
 
 -- ---- the format's reading of TREE is this one, and then the test of the counts
 

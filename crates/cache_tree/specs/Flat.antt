@@ -1,9 +1,11 @@
 -- The nodes one after another, as they stand in the data, whatever they belong to.
+use mathlib.Core.Path.{_≡_}
 use mathlib.Core.List.{List, [], _∷_}
 use mathlib.Core.Bool.{Bool, true, false, cond}
 use Prim.Native.Nat.{ℕ, zero, suc, _+_}
 use lib.ListN.{length, take, drop}
 use Rattle.format.specs.Bytes.{eqList, before}
+use Rattle.format.specs.Records.{Forest, nil, tree}
 use Rattle.format.specs.Reading.{Read, bad, good}
 use Rattle.format.specs.Reader.{Head, readNode}
 
@@ -51,3 +53,15 @@ namesDiffer (x ∷ l) = cond (hasName x l) false (namesDiffer l)
 unfoldable pub allDiffer : ℕ → List ℕ → Bool
 allDiffer zero s = true
 allDiffer (suc n) s = onNode (readNode 20 0 s) true (λ subtrees m. cond (namesDiffer (namesOf subtrees (drop m s))) (allDiffer n (drop m s)) false)
+
+-- ---- siblings that were read
+
+-- Reads s f k m: the first m bytes of s are the k siblings of f, each followed by all below it
+pub data Reads : List ℕ → Forest → ℕ → ℕ → Type 0 where
+  reads-none : {s : List ℕ} → Reads s nil 0 0
+  reads-more :
+      {s : List ℕ} {h : Head} {kids after : Forest} {a b c k : ℕ} →
+      readNode 20 0 s ≡ good h a →
+      Reads (drop a s) kids (h .subtrees) b →
+      Reads (drop b (drop a s)) after k c →
+      Reads s (tree (h .node) kids after) (suc k) (a + (b + c))

@@ -3,7 +3,7 @@ ghost use mathlib.Core.Path.{_≡_};
 ghost use Prim.Native.Nat.{_≤_, _<_};
 ghost use lib.ListN.{length};
 ghost use Rattle.cache_tree.specs.Filter.{stir, hashOf, nextSpot, hasBit, setBit, marked, markIn};
-use crate::number::wide;
+use tree_nodes::number::wide;
 
 // One step of the hash.
 fn mix(x: u64) -> u64

@@ -2,18 +2,16 @@
 pub mod chunks;
 pub mod filter;
 pub mod list;
-pub mod node;
-pub mod number;
 pub mod siblings;
 pub mod walk;
 
 use crate::list::ListRead;
 use crate::list::read_list;
 use crate::list::with_root;
-use crate::node::NodeRead;
-use crate::node::read_node;
 use crate::siblings::all_differ;
 use crate::walk::place_of;
+use tree_nodes::node::NodeRead;
+use tree_nodes::node::read_node;
 ghost use mathlib.Core.Path.{_≡_};
 ghost use Prim.Native.Nat.{ℕ, _≤_};
 ghost use lib.ListN.{length, drop};
@@ -54,28 +52,26 @@ pub fn read_tree(d: &[u8], work: &mut [u8], seed: u64, want: u32) -> TreeRead
     ensures { λ r. ⌜ ((p : ℕ) → r ≡ treeOf want (now (d .entry)) (readShape 20 p (now (d .entry)))) × (drop 8192 (now (work .exit)) ≡ drop 8192 (now (work .entry))) ⌝ }
 {
     let read = read_nodes(d, want);
-    match read {
-        ListRead::Bad => TreeRead::Bad,
-        ListRead::Good { next, nodes, level } => {
-            if next != d.len() {
-                return TreeRead::Bad;
-            }
-            if all_differ(d, nodes, work, seed) {
-                if want < nodes {
-                    let place = place_of(d, want);
-                    return TreeRead::Good {
-                        nodes: nodes,
-                        place: place,
-                        level: level,
-                    };
-                }
-                return TreeRead::Good {
-                    nodes: nodes,
-                    place: 0,
-                    level: level,
-                };
-            }
-            TreeRead::Bad
-        }
+    let ListRead::Good { next, nodes, level } = read else {
+        return TreeRead::Bad;
+    };
+    if next != d.len() {
+        return TreeRead::Bad;
     }
+    if all_differ(d, nodes, work, seed) {
+        if want < nodes {
+            let place = place_of(d, want);
+            return TreeRead::Good {
+                nodes: nodes,
+                place: place,
+                level: level,
+            };
+        }
+        return TreeRead::Good {
+            nodes: nodes,
+            place: 0,
+            level: level,
+        };
+    }
+    TreeRead::Bad
 }

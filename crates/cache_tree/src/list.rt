@@ -1,8 +1,8 @@
 // Lists of siblings. Reading a node means reading its list of subtrees, and each of these is a node: the two readers call each other,
 // one level further down each time.
-use crate::node::NodeRead;
-use crate::node::read_node;
 use fields::find;
+use tree_nodes::node::NodeRead;
+use tree_nodes::node::read_node;
 ghost use mathlib.Core.Path.{_≡_};
 ghost use mathlib.Core.Bool.{cond};
 ghost use Prim.Native.Nat.{_+_, _-_, _≤_, _<_};

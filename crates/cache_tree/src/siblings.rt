@@ -1,12 +1,12 @@
 // Whether siblings differ in name. Those that rise in one of two orders do; others are looked at chunk by chunk.
 use crate::chunks::by_chunks;
-use crate::node::NodeRead;
-use crate::node::read_node;
 use crate::walk::after_tree;
 use fields::common;
 use fields::compare;
 use fields::find;
 use format::Order;
+use tree_nodes::node::NodeRead;
+use tree_nodes::node::read_node;
 ghost use mathlib.Core.Path.{_≡_};
 ghost use Prim.Native.Nat.{_-_, _≤_, _<_};
 ghost use lib.ListN.{length, drop};
@@ -114,18 +114,14 @@ pub fn all_differ(d: &[u8], nodes: u32, work: &mut [u8], seed: u64) -> bool
     let mut left = nodes;
     while 0 < left {
         let read = read_node(d, place);
-        match read {
-            NodeRead::Bad => {
-                return true;
-            }
-            NodeRead::Good(node) => {
-                if differ(d, node.next, node.subtrees, work, seed) {
-                    place = node.next;
-                    left -= 1;
-                } else {
-                    return false;
-                }
-            }
+        let NodeRead::Good(node) = read else {
+            return true;
+        };
+        if differ(d, node.next, node.subtrees, work, seed) {
+            place = node.next;
+            left -= 1;
+        } else {
+            return false;
         }
     }
     true

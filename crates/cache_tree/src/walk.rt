@@ -1,6 +1,6 @@
 // The nodes one after another, as they stand in the data.
-use crate::node::NodeRead;
-use crate::node::read_node;
+use tree_nodes::node::NodeRead;
+use tree_nodes::node::read_node;
 ghost use mathlib.Core.Path.{_≡_};
 ghost use Prim.Native.Nat.{_+_, _≤_};
 ghost use lib.ListN.{length, drop};

@@ -232,19 +232,21 @@ pub fn seek_entry(b: &[u8], v: u32, work: &mut [u8], k: u32) -> Sought
 {
     let mut c = first();
     let mut left = k;
-    loop {
+    while 0 < left {
         let g = next_entry(b, v, &mut *work, c);
         match g {
             Next::Bad(n) => {
                 return Sought::Bad(n, c.at);
             }
             Next::Good(st) => {
-                if left == 0 {
-                    return Sought::Good(c.at, st);
-                }
                 c = st.next;
             }
         }
         left -= 1;
+    }
+    let last = next_entry(b, v, &mut *work, c);
+    match last {
+        Next::Bad(n) => Sought::Bad(n, c.at),
+        Next::Good(st) => Sought::Good(c.at, st),
     }
 }

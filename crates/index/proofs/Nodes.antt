@@ -14,12 +14,12 @@ use Rattle.format.specs.Bytes.{before}
 use Rattle.format.specs.Reader.{Head, readText, readCount, readSubtrees, readObject, readNode, readNodes}
 use Rattle.format_laws.proofs.Tests.{false-true}
 use Rattle.format_laws.proofs.Readings.{bind-inv}
-use Rattle.cache_tree.specs.declared.node.Node as Code
-use Rattle.cache_tree.specs.declared.node.NodeRead.the-variants as N
-use Rattle.cache_tree.specs.Answers.{isValid, counted, objectLength, nodeOf, nodeAt}
+use Rattle.tree_nodes.specs.declared.node.Node as Code
+use Rattle.tree_nodes.specs.declared.node.NodeRead.the-variants as N
+use Rattle.tree_nodes.specs.Answers.{isValid, counted, objectLength, nodeOf, nodeAt}
 use Rattle.cache_tree.specs.Flat.{placeOf}
-use Rattle.cache_tree.proofs.Readings.{node-took}
-use Rattle.cache_tree.proofs.Nodes.{node-named, object-valid, node-object}
+use Rattle.tree_nodes.proofs.Readings.{node-took}
+use Rattle.tree_nodes.proofs.Nodes.{node-named, object-valid, node-object}
 use Rattle.cache_tree.proofs.Flat.{Shown}
 use Rattle.cache_tree.proofs.Shape.{tree-item, level-is}
 use Rattle.file.specs.declared.Shown.the-variants as S

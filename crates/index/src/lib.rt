@@ -16,9 +16,6 @@ ghost use Rattle.file.specs.declared.Count.the-variants.{Absent, Present};
 ghost use Rattle.file.specs.Answers.{cleared, pick, listed, itemsOf, checkAnswer, entryAnswer, nodeAnswer, undoAnswer};
 ghost use Rattle.file_contents.specs.Contents.{bodyOf};
 ghost use Rattle.index.specs.Calls.{isPresent, numberOf, plainOf, EntryShows, NodeShows, UndoShows};
-use cache_tree::node::Node;
-use cache_tree::node::NodeRead;
-use cache_tree::node::read_node;
 use entries_run::Sought;
 use extensions::TreePlace;
 use extensions::UndoPlace;
@@ -34,6 +31,9 @@ use file::refused_node;
 use file::refused_undo;
 use file_contents::Whole;
 use file_contents::read_cleared;
+use tree_nodes::node::Node;
+use tree_nodes::node::NodeRead;
+use tree_nodes::node::read_node;
 
 // ---- the parts of an accepted file, shown
 

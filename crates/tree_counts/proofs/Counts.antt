@@ -12,9 +12,9 @@ use Rattle.format.specs.Bytes.{lacks}
 use Rattle.format.specs.Records.{Count, valid, invalid, Node, Forest, nil, tree, Tree}
 use Rattle.format.specs.Layout.{bit, distinct, under, inside, files, allValid, sum, okCount, okCounts, okTreeCounts}
 use Rattle.format_laws.proofs.Tests.{false-true, by-test, and-inv, and-inv₃, and-left-comm}
-use Rattle.tree_counts.specs.Judge.{isValid, weight, plain, tidy, positive, reached, covered, counted, hit, judgeEach, judge, matched, countsAll}
+use Rattle.tree_counts.specs.Judge.{isValid, weight, plain, tidy, positive, reached, covered, counted, hit, judgeEach, judge, matched, countsAll, Sound}
 use Rattle.tree_counts.proofs.Tests.{and-when, sums-equal}
-use Rattle.tree_counts.proofs.Siblings.{Sound, sound-name, sound-new, sound-kids, sound-after, unreached, file-unreached}
+use Rattle.tree_counts.proofs.Siblings.{sound-name, sound-new, sound-kids, sound-after, unreached, file-unreached}
 
 -- ---- how many names are under the siblings
 

@@ -13,10 +13,9 @@ use Rattle.format.specs.Records.{Forest, Tree}
 use Rattle.format.specs.Layout.{has, under, inside}
 use Rattle.format_laws.proofs.Tests.{clash, by-test, and-inv}
 use Rattle.format_laws.proofs.Lists.{eqList-true}
-use Rattle.tree_counts.specs.Judge.{isValid, says, weight, child, reached, judge, matched}
+use Rattle.tree_counts.specs.Judge.{isValid, says, weight, child, reached, judge, matched, Sound}
 use Rattle.tree_counts.specs.Runs.{notAbove, sortedFrom, begins, leads, trails, every, never, span, beyond, Run, Boundary, within, enter, runIn, Passed}
 use Rattle.tree_counts.proofs.Names.{under-one}
-use Rattle.tree_counts.proofs.Siblings.{Sound}
 use Rattle.tree_counts.proofs.Walk.{inside-append, inside-never, inside-length, has-reached, child-some, judge-found, matched-found}
 use Rattle.tree_counts.proofs.Order.{under-begins, under-convex, sorted-at, rest-clear, done-clear}
 use Rattle.tree_counts.proofs.Directory.{begins-append, compare-cut, first-least}

@@ -10,15 +10,11 @@ use Rattle.format.specs.Bytes.{eqList, lacks}
 use Rattle.format.specs.Records.{Node, Forest, nil, tree}
 use Rattle.format.specs.Layout.{okNodeName, has, distinct, under}
 use Rattle.format_laws.proofs.Tests.{clash, by-test, and-inv, and-inv₃}
-use Rattle.tree_counts.specs.Judge.{plain, reached}
+use Rattle.tree_counts.specs.Judge.{plain, reached, Sound}
 use Rattle.tree_counts.proofs.Tests.{or-false-inv}
 use Rattle.tree_counts.proofs.Names.{under-slash, under-one}
 
 -- what holds of a list of siblings holds of its parts
-pub record Sound (f : Forest) : Type 0 where
-  pub plainly : plain f ≡ true
-  pub differ : distinct f ≡ true
-
 module _ (n : Node) (kids after : Forest) (h : Sound (tree n kids after)) where
   plain-parts : (okNodeName (n .name) ≡ true) × (plain kids ≡ true) × (plain after ≡ true)
   unfolding plain

@@ -13,11 +13,11 @@ use Rattle.format.specs.Records.{Count, Node, Forest, nil, tree, Tree}
 use Rattle.format.specs.Layout.{has, under, inside}
 use Rattle.format_laws.proofs.Tests.{false-true, clash, by-test, and-inv}
 use Rattle.format_laws.proofs.Lists.{eqList-true}
-use Rattle.tree_counts.specs.Judge.{isValid, says, weight, child, reached, covered, counted, hit, judgeEach, judge, matched}
+use Rattle.tree_counts.specs.Judge.{isValid, says, weight, child, reached, covered, counted, hit, judgeEach, judge, matched, Sound}
 use Rattle.tree_counts.specs.Runs.{every, never, Run}
 use Rattle.tree_counts.proofs.Tests.{or-false-inv}
 use Rattle.tree_counts.proofs.Names.{under-slash, under-one}
-use Rattle.tree_counts.proofs.Siblings.{Sound, sound-name, sound-new, sound-kids, sound-after, unreached, file-unreached}
+use Rattle.tree_counts.proofs.Siblings.{sound-name, sound-new, sound-kids, sound-after, unreached, file-unreached}
 
 -- ---- the names in a directory
 

@@ -1,4 +1,5 @@
 -- What a walk over the entries tests of the counts of a cache tree. Names are those of the entries in a directory, from there on.
+use mathlib.Core.Path.{_≡_}
 use mathlib.Core.List.{List, [], _∷_}
 use mathlib.Core.Bool.{Bool, true, false, cond, _&&_, _||_}
 use mathlib.Core.Option.{Option, none, some}
@@ -7,7 +8,7 @@ use lib.ListN.{length}
 use lib.Dec.{eqb, leb}
 use Rattle.format.specs.Bytes.{eqList, lacks}
 use Rattle.format.specs.Records.{Count, valid, invalid, Forest, nil, tree, Tree}
-use Rattle.format.specs.Layout.{bit, okNodeName, under, inside, allValid}
+use Rattle.format.specs.Layout.{bit, okNodeName, distinct, under, inside, allValid}
 
 -- ---- one count
 
@@ -31,6 +32,11 @@ weight invalid = 0
 unfoldable pub plain : Forest → Bool
 plain nil = true
 plain (tree n kids after) = okNodeName (n .name) && (plain kids && plain after)
+
+-- siblings with such names, no two of them equal, all the way down
+pub record Sound (f : Forest) : Type 0 where
+  pub plainly : plain f ≡ true
+  pub differ : distinct f ≡ true
 
 -- the subtrees of every valid node are valid
 unfoldable pub tidy : Forest → Bool

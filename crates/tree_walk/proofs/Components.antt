@@ -13,7 +13,7 @@ use Rattle.format.specs.Records.{Forest}
 use Rattle.format.specs.Layout.{distinct}
 use Rattle.format_laws.proofs.Tests.{by-test}
 use Rattle.tree_counts.specs.Judge.{child}
-use Rattle.cache_tree.proofs.Flat.{Reads}
+use Rattle.cache_tree.specs.Flat.{Reads}
 use Rattle.tree_walk.specs.declared.child.Child.{Child}
 use Rattle.tree_walk.specs.declared.child.Child.the-variants as C
 use Rattle.tree_walk.specs.declared.look.Look.{Look}

@@ -11,11 +11,10 @@ use borrow.Author.Tests.{leb-true}
 use Rattle.format.specs.Records.{Forest, nil}
 use Rattle.format.specs.Layout.{distinct}
 use Rattle.format_laws.proofs.Tests.{and-inv}
-use Rattle.cache_tree.proofs.Nodes.{node-is}
-use Rattle.cache_tree.proofs.Flat.{Reads, reads-none}
-use Rattle.tree_counts.specs.Judge.{child}
+use Rattle.tree_nodes.proofs.Nodes.{node-is}
+use Rattle.cache_tree.specs.Flat.{Reads, reads-none}
+use Rattle.tree_counts.specs.Judge.{child, Sound}
 use Rattle.tree_counts.specs.Runs.{sortedFrom, begins}
-use Rattle.tree_counts.proofs.Siblings.{Sound}
 use Rattle.tree_counts.proofs.Directory.{first-least}
 use Rattle.tree_walk.specs.declared.front.Front.{Front}
 use Rattle.tree_walk.specs.declared.walk.Tally.{Tally}

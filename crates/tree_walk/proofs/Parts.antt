@@ -11,14 +11,13 @@ use Rattle.format.specs.Records.{Forest}
 use Rattle.format.specs.Layout.{under}
 use Rattle.format.specs.Reader.{readNode}
 use Rattle.format_laws.proofs.Lists.{drop-to}
-use Rattle.cache_tree.specs.declared.node.Node.{Node}
-use Rattle.cache_tree.specs.declared.node.NodeRead.the-variants as R
-use Rattle.cache_tree.specs.Answers.{nodeAt}
-use Rattle.cache_tree.proofs.Flat.{Reads}
+use Rattle.tree_nodes.specs.declared.node.Node.{Node}
+use Rattle.tree_nodes.specs.declared.node.NodeRead.the-variants as R
+use Rattle.tree_nodes.specs.Answers.{nodeAt}
+use Rattle.cache_tree.specs.Flat.{Reads}
 use Rattle.entries_run.specs.Steps.{nameAt}
-use Rattle.tree_counts.specs.Judge.{isValid, says, child}
+use Rattle.tree_counts.specs.Judge.{isValid, says, child, Sound}
 use Rattle.tree_counts.specs.Runs.{sortedFrom, begins, enter, Passed}
-use Rattle.tree_counts.proofs.Siblings.{Sound}
 use Rattle.tree_counts.proofs.Walk.{child-sound}
 use Rattle.tree_counts.proofs.Directory.{component-lacks, component-under}
 use Rattle.tree_walk.specs.declared.front.Front.{Front}

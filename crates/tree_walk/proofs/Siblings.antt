@@ -17,9 +17,9 @@ use Rattle.format_laws.proofs.Tests.{clash, by-test, and-inv₃}
 use Rattle.format_laws.proofs.Lists.{eqList-true}
 use Rattle.tree_counts.specs.Judge.{child}
 use Rattle.tree_counts.proofs.Walk.{child-some}
-use Rattle.cache_tree.specs.Flat.{treesLength, nameOf}
-use Rattle.cache_tree.proofs.Nodes.{node-named}
-use Rattle.cache_tree.proofs.Flat.{Reads, reads-none, reads-more, trees-none, trees-step, reads-length}
+use Rattle.cache_tree.specs.Flat.{treesLength, nameOf, Reads, reads-none, reads-more}
+use Rattle.tree_nodes.proofs.Nodes.{node-named}
+use Rattle.cache_tree.proofs.Flat.{trees-none, trees-step, reads-length}
 use Rattle.tree_walk.specs.Siblings.{Last, FoundAt}
 
 -- ---- the first of some siblings

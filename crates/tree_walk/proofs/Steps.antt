@@ -11,16 +11,16 @@ use lib.Dec.{eqb, leb, ltb}
 use Rattle.format.specs.Records.{Count, valid, invalid, Forest, Tree}
 use Rattle.format.specs.Layout.{bit, under}
 use Rattle.format_laws.proofs.Tests.{by-test, and-inv}
-use Rattle.tree_counts.specs.Judge.{isValid, says, weight, positive, child, reached, judge, matched}
+use Rattle.tree_counts.specs.Judge.{isValid, says, weight, positive, child, reached, judge, matched, Sound}
 use Rattle.tree_counts.specs.Runs.{sortedFrom, begins, leads, every, span, beyond, within, enter, runIn, Passed}
 use Rattle.tree_counts.proofs.Names.{under-slash}
-use Rattle.tree_counts.proofs.Siblings.{Sound, file-unreached}
+use Rattle.tree_counts.proofs.Siblings.{file-unreached}
 use Rattle.tree_counts.proofs.Counts.{matched-most}
 use Rattle.tree_counts.proofs.Walk.{judge-start, matched-start, inside-length, child-free, judge-pass, matched-pass, judge-file, matched-file}
 use Rattle.tree_counts.proofs.Runs.{enter-begins, runIn-every, runIn-inside, passed-name, passed-run, judge-run, matched-run, passed-start, passed-end}
-use Rattle.cache_tree.specs.declared.node.Node.{Node}
-use Rattle.cache_tree.proofs.Readings.{node-took}
-use Rattle.cache_tree.proofs.Flat.{Reads, reads-none, reads-more}
+use Rattle.tree_nodes.specs.declared.node.Node.{Node}
+use Rattle.tree_nodes.proofs.Readings.{node-took}
+use Rattle.cache_tree.specs.Flat.{Reads, reads-none, reads-more}
 use Rattle.tree_walk.specs.declared.walk.Tally.{Tally}
 use Rattle.tree_walk.specs.Ahead.{Ahead, After, Left}
 use Rattle.tree_walk.proofs.Ahead.{stays-is, stays-in}

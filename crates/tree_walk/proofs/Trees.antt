@@ -17,11 +17,12 @@ use Rattle.format_laws.proofs.Tests.{by-test, and-inv}
 use Rattle.format_laws.proofs.Lists.{drop-to}
 use Rattle.tree_counts.specs.Judge.{isValid, says, weight, tidy, positive}
 use Rattle.tree_counts.proofs.Counts.{valid-step}
-use Rattle.cache_tree.specs.declared.node.Node as Code
-use Rattle.cache_tree.specs.declared.node.NodeRead.the-variants as R
-use Rattle.cache_tree.specs.Answers as Answers
-use Rattle.cache_tree.specs.Answers.{nodeOf, nodeAt}
-use Rattle.cache_tree.proofs.Flat.{Reads, reads-none, reads-more, reads-width}
+use Rattle.tree_nodes.specs.declared.node.Node as Code
+use Rattle.tree_nodes.specs.declared.node.NodeRead.the-variants as R
+use Rattle.tree_nodes.specs.Answers as Answers
+use Rattle.tree_nodes.specs.Answers.{nodeOf, nodeAt}
+use Rattle.cache_tree.specs.Flat.{Reads, reads-none, reads-more}
+use Rattle.cache_tree.proofs.Flat.{reads-width}
 use Rattle.tree_walk.specs.declared.survey.Survey.{Survey}
 use Rattle.tree_walk.specs.declared.survey.Survey.the-variants as S
 use Rattle.tree_walk.specs.Trees.{surveyOf}

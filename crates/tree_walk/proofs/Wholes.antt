@@ -16,15 +16,15 @@ use Rattle.format_laws.proofs.Lists.{drop-to}
 use Rattle.format_laws.proofs.Numbers.{bytes-drop}
 use Rattle.format_laws.proofs.Readings.{need-inv, bind-inv, good-inv}
 use Rattle.spelling_entries.proofs.Entries.{entries-read}
-use Rattle.cache_tree.specs.declared.node.Node.{Node}
-use Rattle.cache_tree.specs.declared.node.NodeRead.the-variants as R
-use Rattle.cache_tree.specs.Answers.{nodeAt}
-use Rattle.cache_tree.proofs.Flat.{Reads, forest-reads}
+use Rattle.tree_nodes.specs.declared.node.Node.{Node}
+use Rattle.tree_nodes.specs.declared.node.NodeRead.the-variants as R
+use Rattle.tree_nodes.specs.Answers.{nodeAt}
+use Rattle.cache_tree.specs.Flat.{Reads}
+use Rattle.cache_tree.proofs.Flat.{forest-reads}
 use Rattle.entries_run.specs.Steps.{nameAt, firstCursor, runFrom, Room}
 use Rattle.entries_run.proofs.Steps.{run-first, inside-first}
-use Rattle.tree_counts.specs.Judge.{isValid, says, tidy, positive, judge, matched, countsAll}
+use Rattle.tree_counts.specs.Judge.{isValid, says, tidy, positive, judge, matched, countsAll, Sound}
 use Rattle.tree_counts.specs.Runs.{begins}
-use Rattle.tree_counts.proofs.Siblings.{Sound}
 use Rattle.tree_counts.proofs.Readings.{nodes-plain}
 use Rattle.tree_counts.proofs.Counts.{counts-judged}
 use Rattle.tree_counts.proofs.Walk.{judge-start, matched-start}

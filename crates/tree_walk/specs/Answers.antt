@@ -9,10 +9,9 @@ use Rattle.format.specs.Records.{Entry, start, Forest, Tree}
 use Rattle.format.specs.Layout.{distinct, okTreeCounts, names}
 use Rattle.format.specs.Reading.{good}
 use Rattle.format.specs.Reader.{readEntries, readNodes}
-use Rattle.cache_tree.specs.declared.node.Node.{Node}
-use Rattle.cache_tree.proofs.Flat.{Reads}
-use Rattle.tree_counts.specs.Judge.{judge, matched}
-use Rattle.tree_counts.proofs.Siblings.{Sound}
+use Rattle.tree_nodes.specs.declared.node.Node.{Node}
+use Rattle.cache_tree.specs.Flat.{Reads}
+use Rattle.tree_counts.specs.Judge.{judge, matched, Sound}
 
 -- of the walk over all entries, where met of the nodes below the root have a count of at least 1
 pub record RootWalked (d : List ℕ) (root : Node) (met : ℕ) (b : List ℕ) (v count : ℕ) (work work′ : List ℕ) (r : Bool) : Type 0 where

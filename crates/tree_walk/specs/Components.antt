@@ -9,7 +9,7 @@ use Rattle.format.specs.Bytes.{before, lacks}
 use Rattle.format.specs.Records.{Forest}
 use Rattle.format.specs.Layout.{distinct}
 use Rattle.tree_counts.specs.Judge.{child}
-use Rattle.cache_tree.proofs.Flat.{Reads}
+use Rattle.cache_tree.specs.Flat.{Reads}
 use Rattle.tree_walk.specs.declared.look.Look.{Look}
 use Rattle.tree_walk.specs.declared.look.Look.the-variants as L
 use Rattle.tree_walk.specs.Siblings.{Last, FoundAt}

@@ -10,7 +10,7 @@ use Rattle.format.specs.Layout.{distinct}
 use Rattle.format.specs.Reading.{good}
 use Rattle.format.specs.Reader.{readNode}
 use Rattle.tree_counts.specs.Judge.{child}
-use Rattle.cache_tree.proofs.Flat.{Reads}
+use Rattle.cache_tree.specs.Flat.{Reads}
 use Rattle.tree_walk.specs.declared.child.Child.{Child}
 use Rattle.tree_walk.specs.declared.child.Child.the-variants as C
 

@@ -9,14 +9,13 @@ use lib.Dec.{eqb, leb}
 use Rattle.format.specs.Records.{Forest}
 use Rattle.format.specs.Layout.{bit}
 use Rattle.format.specs.Reader.{readNode}
-use Rattle.cache_tree.specs.declared.node.Node.{Node}
-use Rattle.cache_tree.specs.declared.node.NodeRead.the-variants as R
-use Rattle.cache_tree.specs.Answers.{nodeAt}
-use Rattle.cache_tree.proofs.Flat.{Reads}
+use Rattle.tree_nodes.specs.declared.node.Node.{Node}
+use Rattle.tree_nodes.specs.declared.node.NodeRead.the-variants as R
+use Rattle.tree_nodes.specs.Answers.{nodeAt}
+use Rattle.cache_tree.specs.Flat.{Reads}
 use Rattle.entries_run.specs.Steps.{nameAt}
-use Rattle.tree_counts.specs.Judge.{judge, matched}
+use Rattle.tree_counts.specs.Judge.{judge, matched, Sound}
 use Rattle.tree_counts.specs.Runs.{sortedFrom, begins, within, Passed}
-use Rattle.tree_counts.proofs.Siblings.{Sound}
 use Rattle.tree_walk.specs.declared.front.Front.{Front}
 use Rattle.tree_walk.specs.declared.look.Look.the-variants as L
 use Rattle.tree_walk.specs.declared.walk.Tally.{Tally}

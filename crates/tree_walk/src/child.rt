@@ -9,8 +9,7 @@ ghost use lib.ListN.{length, drop};
 ghost use Rattle.format.specs.Bytes.{eqList};
 ghost use Rattle.format.specs.Records.{Forest};
 ghost use Rattle.format.specs.Layout.{distinct};
-ghost use Rattle.cache_tree.specs.Flat.{nameOf};
-ghost use Rattle.cache_tree.proofs.Flat.{Reads};
+ghost use Rattle.cache_tree.specs.Flat.{nameOf, Reads};
 ghost use Rattle.tree_walk.specs.Siblings.{Last, Sought, placeIn};
 
 // Where the sibling is, and how many there are from it on.

@@ -1,7 +1,7 @@
 // One pass over the nodes of a tree, as they stand one after another: whether the subtrees of valid nodes are valid, and how many nodes are
 // valid with a count of at least 1.
-use cache_tree::node::NodeRead;
-use cache_tree::node::read_node;
+use tree_nodes::node::NodeRead;
+use tree_nodes::node::read_node;
 ghost use mathlib.Core.Path.{_≡_};
 ghost use mathlib.Core.Bool.{cond, not, _&&_};
 ghost use Prim.Native.Nat.{ℕ, _+_, _-_, _≤_, _<_};
@@ -9,7 +9,7 @@ ghost use lib.ListN.{length, drop};
 ghost use lib.Dec.{leb, ltb};
 ghost use Rattle.format.specs.Records.{Forest};
 ghost use Rattle.format.specs.Layout.{bit};
-ghost use Rattle.cache_tree.proofs.Flat.{Reads};
+ghost use Rattle.cache_tree.specs.Flat.{Reads};
 ghost use Rattle.tree_walk.specs.Trees.{surveyOf};
 
 // Whether a node below a valid one is invalid, or how many nodes have a count of at least 1.

@@ -3,7 +3,7 @@ use mathlib.Core.Path.{sym, ap, _∙_}
 use native.Mathlib.Omega.{arith}
 use borrow.Author.Needs.{needs}
 use Rattle.cache_tree.specs.Answers.{rooted}
-use Rattle.cache_tree.proofs.Nodes.{NodeIs, node-is}
+use Rattle.tree_nodes.proofs.Nodes.{NodeIs, node-is}
 use Rattle.cache_tree.proofs.Lists.{list-few, forest-sized}
 use Rattle.cache_tree.proofs.Shape.{nodes-no-root, nodes-named, nodes-rooted}
 use Rattle.cache_tree.proofs.read_nodes.Statement.{statement}

@@ -7,20 +7,23 @@ use Rattle.cache_tree.proofs.Faults.{answered}
 use Rattle.cache_tree.proofs.read_tree.Statement.{statement}
 use Rattle.cache_tree.proofs.read_tree.Tie as tie
 
+nodes-of : (c : tie.After-known-told) → NodesAre (c .before .before .before .before .before .before .args .d .now) (c .before .before .before .before .before .before .args .want) (c .before .read .given .0 .0) (c .before .read .given .0 .1 .0) (c .before .read .given .0 .1 .1 .0)
+nodes-of c = nodes-are _ _ _ _ _ (sym (c .before .read .given .1) ∙ c .before .before .before .read-nodes .ensures)
+
 read-nodes-requires : tie.Need-read-nodes-requires
 read-nodes-requires c κs = search needs
-
-enum-told : tie.Need-enum-told
-enum-told c = search needs
 
 enum-known-read : tie.Need-enum-known-read
 enum-known-read c = search needs
 
-nodes-of : (c : tie.After-known-told) → NodesAre (c .before .before .before .before .before .before .args .d .now) (c .before .before .before .before .before .before .args .want) (c .before .read .given .0 .0) (c .before .read .given .0 .1 .0) (c .before .read .given .0 .1 .1 .0)
-nodes-of c = nodes-are _ _ _ _ _ (sym (c .before .read .given .1) ∙ c .before .before .before .read-nodes .ensures)
+enum-told : tie.Need-enum-told
+enum-told c = search needs
 
 returns : tie.Need-returns
-returns c = (answered _ _ _ (tree-longer _ _ _ _ _ (nodes-of (c .before)) (c .if1 .taken)), refl)
+returns c = (answered _ _ _ (tree-no-nodes _ _ (sym (c .enum-told .given .1) ∙ c .before .before .read-nodes .ensures)), refl)
+
+returns-2 : tie.Need-returns-2
+returns-2 c = (answered _ _ _ (tree-longer _ _ _ _ _ (nodes-of (c .before)) (c .if1 .taken)), refl)
 
 all-differ-requires : tie.Need-all-differ-requires
 all-differ-requires c κs = search needs
@@ -31,21 +34,18 @@ place-of-requires c κs = search needs
 same-length : tie.Need-same-length
 same-length c = search needs
 
-returns-2 : tie.Need-returns-2
-returns-2 c =
+returns-3 : tie.Need-returns-3
+returns-3 c =
     let differs = sym (c .before .before .before .before .before .all-differ .ensures .0) ∙ c .before .before .if2 .taken in
     (answered _ _ _ (tree-shown _ _ _ _ _ (nodes-of (c .before .before .before .before .before .before .before .before)) (omega arith) differs _ (c .place-of .ensures .0) (c .before .if3 .taken)), c .before .before .before .before .before .all-differ .ensures .1)
 
 same-length-2 : tie.Need-same-length-2
 same-length-2 c = search needs
 
-returns-3 : tie.Need-returns-3
-returns-3 c =
+returns-4 : tie.Need-returns-4
+returns-4 c =
     let differs = sym (c .before .before .before .before .all-differ .ensures .0) ∙ c .before .if2 .taken in
     (answered _ _ _ (tree-other _ _ _ _ _ (nodes-of (c .before .before .before .before .before .before .before)) (omega arith) differs (c .if3 .left)), c .before .before .before .before .all-differ .ensures .1)
-
-returns-4 : tie.Need-returns-4
-returns-4 c = (answered _ _ _ (tree-no-nodes _ _ (sym (c .enum-told .given .1) ∙ c .before .before .read-nodes .ensures)), refl)
 
 same-length-3 : tie.Need-same-length-3
 same-length-3 c = search needs
@@ -58,15 +58,15 @@ read-tree-spec =
     tie.close
     (tie.spec
     read-nodes-requires
-    enum-told
     enum-known-read
+    enum-told
     returns
+    returns-2
     all-differ-requires
     place-of-requires
     same-length
-    returns-2
-    same-length-2
     returns-3
+    same-length-2
     returns-4
     same-length-3
     returns-5)

@@ -28,7 +28,7 @@ loop-holds c =
     rw (c .first .ensures) (inside-first (a .b .now) (a .work .now) (st .pre), refl, refl, ([], walked-first (a .v) (a .b .now) (a .work .now), omega arith))
 
 next-entry-requires : tie.Need-next-entry-requires Inv-loop μ-loop
-next-entry-requires c κs = (c .before .loop .inv .0, omega arith)
+next-entry-requires c κs = (c .before .before .loop .inv .0, omega arith)
 
 enum-known-g : tie.Need-enum-known-g Inv-loop μ-loop
 enum-known-g c = search needs
@@ -39,7 +39,7 @@ same-length c = omega arith
 returns : tie.Need-returns Inv-loop μ-loop
 returns c =
     let e = c .before .before .before .before .before in
-    let l = e .before .before in
+    let l = e .before .before .before in
     let a = l .before .before .before .before .args in
     let t = rw (c .before .g .given .1) at (e .next-entry .ensures) in
     let (es, walked, sum) = l .loop .inv .3 in
@@ -47,18 +47,6 @@ returns c =
 
 enum-known-g-2 : tie.Need-enum-known-g-2 Inv-loop μ-loop
 enum-known-g-2 c = search needs
-
-same-length-2 : tie.Need-same-length-2 Inv-loop μ-loop
-same-length-2 c = omega arith
-
-returns-2 : tie.Need-returns-2 Inv-loop μ-loop
-returns-2 c =
-    let e = c .before .before .before .before .before .before in
-    let l = e .before .before in
-    let a = l .before .before .before .before .args in
-    let t = rw (c .before .before .g2 .given .1) at (e .next-entry .ensures) in
-    let (es, walked, sum) = l .loop .inv .3 in
-    sought-good (a .v) (a .b .now) (a .k) es (l .loop .work) (l .loop .c) walked _ _ (t .long ∙ l .loop .inv .1) (t .past ∙ l .loop .inv .2) _ (omega (arith, sum, c .if1 .taken)) t
 
 sub-left : tie.Need-sub-left Inv-loop μ-loop
 sub-left c = omega arith
@@ -68,16 +56,49 @@ loop-less c = omega arith
 
 loop-again : tie.Need-loop-again Inv-loop μ-loop
 loop-again c =
-    let e = c .before .before .before .before .before .before .before in
-    let l = e .before .before in
+    let e = c .before .before .before .before .before .before in
+    let l = e .before .before .before in
     let a = l .before .before .before .before .args in
-    let t = rw (c .before .before .before .g2 .given .1) at (e .next-entry .ensures) in
+    let t = rw (c .before .before .g2 .given .1) at (e .next-entry .ensures) in
     let (es, walked, sum) = l .loop .inv .3 in (
       t .found _ refl .next,
       t .long ∙ l .loop .inv .1,
       t .past ∙ l .loop .inv .2,
-      (_, walked-more (a .v) (a .b .now) es (l .loop .work) (l .loop .c) walked _ _ t, rw length-append (omega (arith, sum, c .before .if1 .left))),
+      (_, walked-more (a .v) (a .b .now) es (l .loop .work) (l .loop .c) walked _ _ t, rw length-append (omega (arith, sum))),
     )
+
+next-entry-requires-2 : tie.Need-next-entry-requires-2 Inv-loop μ-loop
+next-entry-requires-2 c κs = (c .before .before .loop .inv .0, omega arith)
+
+enum-known-last : tie.Need-enum-known-last Inv-loop μ-loop
+enum-known-last c = search needs
+
+enum-known-last-2 : tie.Need-enum-known-last-2 Inv-loop μ-loop
+enum-known-last-2 c = search needs
+
+same-length-2 : tie.Need-same-length-2 Inv-loop μ-loop
+same-length-2 c = omega arith
+
+returns-2 : tie.Need-returns-2 Inv-loop μ-loop
+returns-2 c =
+    let e = c .before .before .before .before .before in
+    let l = e .before .before .before in
+    let a = l .before .before .before .before .args in
+    let t = rw (c .before .last .given .1) at (e .next-entry2 .ensures) in
+    let (es, walked, sum) = l .loop .inv .3 in
+    sought-bad (a .v) (a .b .now) (a .k) es (l .loop .work) (l .loop .c) walked _ _ (t .long ∙ l .loop .inv .1) (t .past ∙ l .loop .inv .2) _ _ (omega (arith, sum)) t
+
+same-length-3 : tie.Need-same-length-3 Inv-loop μ-loop
+same-length-3 c = omega arith
+
+returns-3 : tie.Need-returns-3 Inv-loop μ-loop
+returns-3 c =
+    let e = c .before .before .before .before .before in
+    let l = e .before .before .before in
+    let a = l .before .before .before .before .args in
+    let t = rw (c .before .last2 .given .1) at (e .next-entry2 .ensures) in
+    let (es, walked, sum) = l .loop .inv .3 in
+    sought-good (a .v) (a .b .now) (a .k) es (l .loop .work) (l .loop .c) walked _ _ (t .long ∙ l .loop .inv .1) (t .past ∙ l .loop .inv .2) _ (omega (arith, sum, e .before .before .loop-test .left)) t
 
 pub seek-entry-spec : {M : Type 1} → statement M
 seek-entry-spec =
@@ -92,8 +113,13 @@ seek-entry-spec =
     same-length
     returns
     enum-known-g-2
-    same-length-2
-    returns-2
     sub-left
     loop-less
-    loop-again)
+    loop-again
+    next-entry-requires-2
+    enum-known-last
+    enum-known-last-2
+    same-length-2
+    returns-2
+    same-length-3
+    returns-3)

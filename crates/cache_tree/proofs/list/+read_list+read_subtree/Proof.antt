@@ -6,7 +6,7 @@ use borrow.Author.Needs.{needs}
 use lib.ListN.{length, drop}
 use Rattle.format.specs.Reader.{readForest}
 use Rattle.cache_tree.specs.Answers.{readOne, listAt, rooted}
-use Rattle.cache_tree.proofs.Nodes.{NodeIs, node-is}
+use Rattle.tree_nodes.proofs.Nodes.{NodeIs, node-is}
 use Rattle.cache_tree.proofs.Lists.{plus, plus-none, forest-sized, subtree-sized, ListIs, list-is, list-few, loop-end, loop-bad, loop-more, one-none, one-no-node, one-no-name, one-rooted}
 use Prim.Native.Nat.{ℕ, _+_, _*_, _-_, _≤_, _<_}
 use borrow.Fn.Kinds.{In}
@@ -21,7 +21,7 @@ use Rattle.cache_tree.proofs.list.first.Reads as first-reads
 use Rattle.cache_tree.proofs.list.less.Reads as less-reads
 use Rattle.cache_tree.proofs.list.name_ok.Reads as name-ok-reads
 use Rattle.cache_tree.proofs.list.with_root.Reads as with-root-reads
-use Rattle.cache_tree.proofs.node.read_node.Reads as read-node-reads
+use Rattle.tree_nodes.proofs.node.read_node.Reads as read-node-reads
 use Rattle.cache_tree.proofs.list.+read_list+read_subtree.{statement}
 use Rattle.cache_tree.proofs.list.+read_list+read_subtree.Tie.{close}
 

@@ -5,7 +5,7 @@ use native.Mathlib.Omega.{arith}
 use borrow.Author.Needs.{needs}
 use lib.ListN.{length, drop}
 use Rattle.cache_tree.specs.Flat.{allDiffer}
-use Rattle.cache_tree.proofs.Nodes.{NodeIs, node-is}
+use Rattle.tree_nodes.proofs.Nodes.{NodeIs, node-is}
 use Rattle.cache_tree.proofs.Differ.{all-none, all-stop, all-more, all-not}
 use Rattle.cache_tree.proofs.siblings.all_differ.Statement.{statement}
 use Rattle.cache_tree.proofs.siblings.all_differ.Tie as tie
@@ -16,11 +16,17 @@ Inv-loop d nodes work₀ seed place₀ left₀ work place left = (place ≤ leng
 abbrev μ-loop : tie.MeasureT-loop
 μ-loop d nodes work₀ seed place₀ left₀ work place left = left
 
+node-of : (c : tie.After-known-told Inv-loop μ-loop) → NodeIs (c .before .before .before .before .before .before .before .before .args .d .now) (c .before .before .before .before .before .loop .place) (c .before .read .given .0 .0)
+node-of c = node-is _ _ (c .before .before .before .before .before .loop .inv .0) _ (sym (c .before .read .given .1) ∙ c .before .before .before .read-node .ensures)
+
 loop-holds : tie.Need-loop-holds Inv-loop μ-loop
 loop-holds c = (omega arith, refl, refl, refl)
 
 read-node-requires : tie.Need-read-node-requires Inv-loop μ-loop
 read-node-requires c κs = search needs
+
+enum-known-read : tie.Need-enum-known-read Inv-loop μ-loop
+enum-known-read c = search needs
 
 enum-told : tie.Need-enum-told Inv-loop μ-loop
 enum-told c = search needs
@@ -32,12 +38,6 @@ returns : tie.Need-returns Inv-loop μ-loop
 returns c =
     let l = c .before .before .before .before in
     (sym (l .loop .inv .3 ∙ all-stop _ _ _ (c .before .before .before .loop-test .taken) (sym (c .enum-told .given .1) ∙ c .before .before .read-node .ensures)), l .loop .inv .2)
-
-enum-known-read : tie.Need-enum-known-read Inv-loop μ-loop
-enum-known-read c = search needs
-
-node-of : (c : tie.After-known-told Inv-loop μ-loop) → NodeIs (c .before .before .before .before .before .before .before .before .args .d .now) (c .before .before .before .before .before .loop .place) (c .before .read .given .0 .0)
-node-of c = node-is _ _ (c .before .before .before .before .before .loop .inv .0) _ (sym (c .before .read .given .1) ∙ c .before .before .before .read-node .ensures)
 
 differ-requires : tie.Need-differ-requires Inv-loop μ-loop
 differ-requires c κs =
@@ -80,10 +80,10 @@ all-differ-spec =
     μ-loop
     loop-holds
     read-node-requires
+    enum-known-read
     enum-told
     same-length
     returns
-    enum-known-read
     differ-requires
     sub-left
     loop-less

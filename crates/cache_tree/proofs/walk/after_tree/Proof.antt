@@ -6,7 +6,7 @@ use native.Mathlib.Omega.{arith}
 use borrow.Author.Needs.{needs}
 use lib.ListN.{length, drop}
 use Rattle.cache_tree.specs.Flat.{treesLength}
-use Rattle.cache_tree.proofs.Nodes.{NodeIs, node-is}
+use Rattle.tree_nodes.proofs.Nodes.{NodeIs, node-is}
 use Rattle.cache_tree.proofs.Flat.{trees-end, trees-more, trees-stop}
 use Rattle.cache_tree.proofs.walk.after_tree.Statement.{statement}
 use Rattle.cache_tree.proofs.walk.after_tree.Tie as tie

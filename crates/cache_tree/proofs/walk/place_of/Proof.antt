@@ -5,7 +5,7 @@ use native.Mathlib.Omega.{arith}
 use borrow.Author.Needs.{needs}
 use lib.ListN.{length, drop}
 use Rattle.cache_tree.specs.Flat.{placeOf}
-use Rattle.cache_tree.proofs.Nodes.{node-is}
+use Rattle.tree_nodes.proofs.Nodes.{node-is}
 use Rattle.cache_tree.proofs.Flat.{place-end, place-more, place-stop}
 use Rattle.cache_tree.proofs.walk.place_of.Statement.{statement}
 use Rattle.cache_tree.proofs.walk.place_of.Tie as tie

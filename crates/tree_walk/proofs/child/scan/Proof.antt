@@ -7,7 +7,7 @@ use borrow.Author.Needs.{needs}
 use lib.ListN.{length, drop}
 use Rattle.format.specs.Records.{Forest}
 use Rattle.format.specs.Layout.{distinct}
-use Rattle.cache_tree.proofs.Flat.{Reads}
+use Rattle.cache_tree.specs.Flat.{Reads}
 use Rattle.tree_walk.proofs.Siblings.{Searching, search-start, search-on, search-end, last-here}
 use Rattle.tree_walk.proofs.child.scan.Statement.{statement}
 use Rattle.tree_walk.proofs.child.scan.Tie as tie

@@ -2,7 +2,7 @@
 use mathlib.Core.Path.{refl, sym, _∙_}
 use mathlib.Core.List.{[]}
 use native.Mathlib.Omega.{arith}
-use Rattle.cache_tree.proofs.Nodes.{node-is}
+use Rattle.tree_nodes.proofs.Nodes.{node-is}
 use Rattle.tree_walk.proofs.Wholes.{told-none, told-untidy, told-tidy}
 use borrow.Author.Needs.{needs}
 use Rattle.tree_walk.proofs.counts.counts_ok.Statement.{statement}

@@ -6,8 +6,8 @@ use native.Mathlib.Omega.{arith}
 use borrow.Author.Needs.{needs}
 use lib.ListN.{length, drop}
 use Rattle.format.specs.Records.{Forest}
-use Rattle.cache_tree.proofs.Flat.{Reads}
-use Rattle.cache_tree.proofs.Nodes.{node-is}
+use Rattle.cache_tree.specs.Flat.{Reads}
+use Rattle.tree_nodes.proofs.Nodes.{node-is}
 use Rattle.tree_walk.proofs.Trees.{Surveying, survey-start, survey-end, survey-stop, survey-untidy, survey-on}
 use Rattle.tree_walk.proofs.survey.survey_trees.Statement.{statement}
 use Rattle.tree_walk.proofs.survey.survey_trees.Tie as tie

@@ -2,9 +2,9 @@
 use native.Mathlib.Omega.{arith}
 use mathlib.Core.Path.{sym, _∙_}
 use borrow.Author.Needs.{needs}
-use Rattle.cache_tree.proofs.Nodes.{count-none, count-some}
-use Rattle.cache_tree.proofs.node.read_count.Statement.{statement}
-use Rattle.cache_tree.proofs.node.read_count.Tie as tie
+use Rattle.tree_nodes.proofs.Nodes.{count-none, count-some}
+use Rattle.tree_nodes.proofs.node.read_count.Statement.{statement}
+use Rattle.tree_nodes.proofs.node.read_count.Tie as tie
 
 find-requires : tie.Need-find-requires
 find-requires c κs = search needs

@@ -4,9 +4,9 @@ use Prim.Native.Nat.{_≤_}
 use native.Mathlib.Omega.{arith}
 use borrow.Author.Needs.{needs}
 use borrow.Author.Tests.{le-leb}
-use Rattle.cache_tree.proofs.Nodes.{minusTo, plainTo, count-empty, count-minus, count-plain}
-use Rattle.cache_tree.proofs.node.count_in.Statement.{statement}
-use Rattle.cache_tree.proofs.node.count_in.Tie as tie
+use Rattle.tree_nodes.proofs.Nodes.{minusTo, plainTo, count-empty, count-minus, count-plain}
+use Rattle.tree_nodes.proofs.node.count_in.Statement.{statement}
+use Rattle.tree_nodes.proofs.node.count_in.Tie as tie
 
 returns : tie.Need-returns
 returns c = sym (count-empty _ _ (c .if1 .taken))
@@ -26,6 +26,9 @@ part-u-end c = search needs
 read-number-requires : tie.Need-read-number-requires
 read-number-requires c κs = search needs
 
+enum-known-negative : tie.Need-enum-known-negative
+enum-known-negative c = search needs
+
 enum-told : tie.Need-enum-told
 enum-told c = search needs
 
@@ -33,9 +36,6 @@ returns-2 : tie.Need-returns-2
 returns-2 c =
     let a = c .before .before .before .before .before .before .before .before .args in
     sym (count-minus (a .next) _ (c .before .before .before .before .before .before .if1 .left) (c .before .before .before .before .if2 .taken) ∙ ap (minusTo (a .next)) (sym (c .before .before .read-number .ensures) ∙ c .enum-told .given .1))
-
-enum-known-negative : tie.Need-enum-known-negative
-enum-known-negative c = search needs
 
 returns-3 : tie.Need-returns-3
 returns-3 c =
@@ -80,9 +80,9 @@ count-in-spec =
     part-u-start
     part-u-end
     read-number-requires
+    enum-known-negative
     enum-told
     returns-2
-    enum-known-negative
     returns-3
     returns-4
     read-number-requires-2

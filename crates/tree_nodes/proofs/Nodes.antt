@@ -17,17 +17,17 @@ use Rattle.format.specs.Reader.{readText, countIn, needSome, readCount, readSub
 use Rattle.format_laws.proofs.Lists.{drop-to}
 use Rattle.format_laws.proofs.Texts.{text-none, text-some}
 use Rattle.format_laws.proofs.Readings.{need-inv, bind-inv}
-use Rattle.cache_tree.specs.declared.number.Number.{Number}
-use Rattle.cache_tree.specs.declared.number.Number.the-variants as N
-use Rattle.cache_tree.specs.declared.node.Count.{Count}
-use Rattle.cache_tree.specs.declared.node.Count.the-variants as C
-use Rattle.cache_tree.specs.declared.node.Subtrees.{Subtrees}
-use Rattle.cache_tree.specs.declared.node.Subtrees.the-variants as S
-use Rattle.cache_tree.specs.declared.node.Node.{Node}
-use Rattle.cache_tree.specs.declared.node.NodeRead.{NodeRead}
-use Rattle.cache_tree.specs.declared.node.NodeRead.the-variants as R
-use Rattle.cache_tree.specs.Answers.{numberIn, isValid, counted, objectLength, countTo, countAt, subtreesAt, nodeOf, nodeAt}
-use Rattle.cache_tree.proofs.Readings.{Took, count-took, subtrees-took, node-took}
+use Rattle.tree_nodes.specs.declared.number.Number.{Number}
+use Rattle.tree_nodes.specs.declared.number.Number.the-variants as N
+use Rattle.tree_nodes.specs.declared.node.Count.{Count}
+use Rattle.tree_nodes.specs.declared.node.Count.the-variants as C
+use Rattle.tree_nodes.specs.declared.node.Subtrees.{Subtrees}
+use Rattle.tree_nodes.specs.declared.node.Subtrees.the-variants as S
+use Rattle.tree_nodes.specs.declared.node.Node.{Node}
+use Rattle.tree_nodes.specs.declared.node.NodeRead.{NodeRead}
+use Rattle.tree_nodes.specs.declared.node.NodeRead.the-variants as R
+use Rattle.tree_nodes.specs.Answers.{numberIn, isValid, counted, objectLength, countTo, countAt, subtreesAt, nodeOf, nodeAt}
+use Rattle.tree_nodes.proofs.Readings.{Took, count-took, subtrees-took, node-took}
 
 -- ---- entry counts
 

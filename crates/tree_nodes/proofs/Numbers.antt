@@ -9,8 +9,8 @@ use lib.ListN.{length, getD, drop, drop-of-length-le}
 use lib.Seq.{drop-cons}
 use borrow.Author.Tests.{ne-eqb, le-leb, lt-leb}
 use Rattle.format.specs.Bytes.{digits, decimal, valueFrom, value}
-use Rattle.cache_tree.specs.declared.number.Number.the-variants as N
-use Rattle.cache_tree.specs.Answers.{numberIn, numberFrom}
+use Rattle.tree_nodes.specs.declared.number.Number.the-variants as N
+use Rattle.tree_nodes.specs.Answers.{numberIn, numberFrom}
 
 -- ---- the beginning of a decimal
 

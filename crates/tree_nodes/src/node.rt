@@ -7,7 +7,7 @@ ghost use mathlib.Core.Bool.{cond};
 ghost use Prim.Native.Nat.{_+_, _-_, _≤_, _<_};
 ghost use lib.ListN.{length, drop};
 ghost use Rattle.format.specs.Reader.{countIn, readCount, readSubtrees, readNode};
-ghost use Rattle.cache_tree.specs.Answers.{countTo, countAt, subtreesAt, nodeAt};
+ghost use Rattle.tree_nodes.specs.Answers.{countTo, countAt, subtreesAt, nodeAt};
 
 // An entry count, 0 where it says "invalid", and the place after it.
 pub enum Count {
@@ -51,21 +51,17 @@ fn count_in(t: &[u8], next: usize) -> Count
     if t[0] == 45 {
         let u = &t[1..];
         let negative = read_number(u, 2147483648);
-        match negative {
-            Number::Bad => {
-                return Count::Bad;
-            }
-            Number::Good(n) => {
-                if n == 0 {
-                    return Count::Bad;
-                }
-                return Count::Good {
-                    valid: false,
-                    count: 0,
-                    next: next,
-                };
-            }
+        let Number::Good(n) = negative else {
+            return Count::Bad;
+        };
+        if n == 0 {
+            return Count::Bad;
         }
+        return Count::Good {
+            valid: false,
+            count: 0,
+            next: next,
+        };
     }
     let number = read_number(t, 2147483647);
     match number {
@@ -129,34 +125,32 @@ pub fn read_node(d: &[u8], at: usize) -> NodeRead
         return NodeRead::Bad;
     }
     let counted = read_count(d, nul + 1);
-    match counted {
-        Count::Bad => NodeRead::Bad,
-        Count::Good {
-            valid,
-            count,
-            next: middle,
-        } => {
-            let listed = read_subtrees(d, middle);
-            match listed {
-                Subtrees::Bad => NodeRead::Bad,
-                Subtrees::Good {
-                    subtrees,
-                    next: object,
-                } => {
-                    let n = object_length(valid);
-                    if d.len() - object < n {
-                        return NodeRead::Bad;
-                    }
-                    NodeRead::Good(Node {
-                        nul: nul,
-                        valid: valid,
-                        count: count,
-                        subtrees: subtrees,
-                        object: object,
-                        next: object + n,
-                    })
-                }
-            }
-        }
+    let Count::Good {
+        valid,
+        count,
+        next: middle,
+    } = counted
+    else {
+        return NodeRead::Bad;
+    };
+    let listed = read_subtrees(d, middle);
+    let Subtrees::Good {
+        subtrees,
+        next: object,
+    } = listed
+    else {
+        return NodeRead::Bad;
+    };
+    let n = object_length(valid);
+    if d.len() - object < n {
+        return NodeRead::Bad;
     }
+    NodeRead::Good(Node {
+        nul: nul,
+        valid: valid,
+        count: count,
+        subtrees: subtrees,
+        object: object,
+        next: object + n,
+    })
 }

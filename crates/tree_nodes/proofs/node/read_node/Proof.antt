@@ -3,9 +3,9 @@ use mathlib.Core.Path.{sym, _∙_}
 use Prim.Native.Nat.{_+_}
 use native.Mathlib.Omega.{arith}
 use borrow.Author.Needs.{needs}
-use Rattle.cache_tree.proofs.Nodes.{CountIs, SubtreesIs, count-is, subtrees-is, node-none, node-no-count, node-no-subtrees, node-short, node-good}
-use Rattle.cache_tree.proofs.node.read_node.Statement.{statement}
-use Rattle.cache_tree.proofs.node.read_node.Tie as tie
+use Rattle.tree_nodes.proofs.Nodes.{CountIs, SubtreesIs, count-is, subtrees-is, node-none, node-no-count, node-no-subtrees, node-short, node-good}
+use Rattle.tree_nodes.proofs.node.read_node.Statement.{statement}
+use Rattle.tree_nodes.proofs.node.read_node.Tie as tie
 
 count-of : (c : tie.After-known-told) → CountIs (c .before .before .before .before .before .before .before .args .d .now) (c .before .before .before .before .before .find .result + 1) (c .before .counted .given .0 .0) (c .before .counted .given .0 .1 .0) (c .before .counted .given .0 .1 .1 .0)
 count-of c = count-is _ _ (omega arith) _ _ _ (sym (c .before .counted .given .1) ∙ c .before .before .before .read-count .ensures)
@@ -27,20 +27,26 @@ add-read-count c = search needs
 read-count-requires : tie.Need-read-count-requires
 read-count-requires c κs = search needs
 
+enum-known-counted : tie.Need-enum-known-counted
+enum-known-counted c = search needs
+
 enum-told : tie.Need-enum-told
 enum-told c = search needs
 
-enum-known-counted : tie.Need-enum-known-counted
-enum-known-counted c = search needs
+returns-2 : tie.Need-returns-2
+returns-2 c = sym (node-no-count _ _ _ (c .before .before .before .before .find .ensures .0) (omega arith) (sym (c .enum-told .given .1) ∙ c .before .before .read-count .ensures))
 
 read-subtrees-requires : tie.Need-read-subtrees-requires
 read-subtrees-requires c κs = count-of c .within
 
+enum-known-listed : tie.Need-enum-known-listed
+enum-known-listed c = search needs
+
 enum-told-2 : tie.Need-enum-told-2
 enum-told-2 c = search needs
 
-enum-known-listed : tie.Need-enum-known-listed
-enum-known-listed c = search needs
+returns-3 : tie.Need-returns-3
+returns-3 c = sym (node-no-subtrees _ _ _ (c .before .before .before .before .before .before .before .before .find .ensures .0) (omega arith) _ _ _ (count-of (c .before .before .before)) (sym (c .enum-told2 .given .1) ∙ c .before .before .read-subtrees .ensures))
 
 object-length-requires : tie.Need-object-length-requires
 object-length-requires c κs = search needs
@@ -48,19 +54,13 @@ object-length-requires c κs = search needs
 sub-if2 : tie.Need-sub-if2
 sub-if2 c = subtrees-of (c .before) .within
 
-returns-2 : tie.Need-returns-2
-returns-2 c = sym (node-short _ _ _ (c .before .before .before .before .before .before .before .before .before .before .before .find .ensures .0) (omega arith) _ _ _ (count-of (c .before .before .before .before .before .before)) _ _ (subtrees-of (c .before .before)) _ (c .before .object-length .ensures) (c .if2 .taken))
+returns-4 : tie.Need-returns-4
+returns-4 c = sym (node-short _ _ _ (c .before .before .before .before .before .before .before .before .before .before .before .find .ensures .0) (omega arith) _ _ _ (count-of (c .before .before .before .before .before .before)) _ _ (subtrees-of (c .before .before)) _ (c .before .object-length .ensures) (c .if2 .taken))
 
-add-t16 : tie.Need-add-t16
-add-t16 c =
+add-t12 : tie.Need-add-t12
+add-t12 c =
     let within = subtrees-of (c .before .before) .within in
     omega arith
-
-returns-3 : tie.Need-returns-3
-returns-3 c = sym (node-no-count _ _ _ (c .before .before .before .before .find .ensures .0) (omega arith) (sym (c .enum-told .given .1) ∙ c .before .before .read-count .ensures))
-
-returns-4 : tie.Need-returns-4
-returns-4 c = sym (node-no-subtrees _ _ _ (c .before .before .before .before .before .before .before .before .find .ensures .0) (omega arith) _ _ _ (count-of (c .before .before .before)) (sym (c .enum-told2 .given .1) ∙ c .before .before .read-subtrees .ensures))
 
 returns-5 : tie.Need-returns-5
 returns-5 c = sym (node-good _ _ _ (c .before .before .before .before .before .before .before .before .before .before .before .find .ensures .0) (omega arith) _ _ _ (count-of (c .before .before .before .before .before .before)) _ _ (subtrees-of (c .before .before)) _ (c .before .object-length .ensures) (c .if2 .left))
@@ -73,15 +73,15 @@ read-node-spec =
     returns
     add-read-count
     read-count-requires
-    enum-told
     enum-known-counted
+    enum-told
+    returns-2
     read-subtrees-requires
-    enum-told-2
     enum-known-listed
+    enum-told-2
+    returns-3
     object-length-requires
     sub-if2
-    returns-2
-    add-t16
-    returns-3
     returns-4
+    add-t12
     returns-5)

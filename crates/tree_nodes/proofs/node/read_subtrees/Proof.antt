@@ -3,9 +3,9 @@ use native.Mathlib.Omega.{arith}
 use mathlib.Core.Path.{sym, ap, _∙_}
 use Prim.Native.Nat.{_+_}
 use borrow.Author.Needs.{needs}
-use Rattle.cache_tree.proofs.Nodes.{subtreesTo, subtrees-none, subtrees-some}
-use Rattle.cache_tree.proofs.node.read_subtrees.Statement.{statement}
-use Rattle.cache_tree.proofs.node.read_subtrees.Tie as tie
+use Rattle.tree_nodes.proofs.Nodes.{subtreesTo, subtrees-none, subtrees-some}
+use Rattle.tree_nodes.proofs.node.read_subtrees.Statement.{statement}
+use Rattle.tree_nodes.proofs.node.read_subtrees.Tie as tie
 
 find-requires : tie.Need-find-requires
 find-requires c κs = search needs

@@ -4,10 +4,10 @@ use mathlib.Core.Path.{_≡_, sym, _∙_}
 use Prim.Native.Nat.{_≤_, _-_}
 use lib.ListN.{length, drop}
 use borrow.Author.Needs.{needs}
-use Rattle.cache_tree.specs.Answers.{numberIn, numberFrom}
-use Rattle.cache_tree.proofs.Numbers.{number-none, number-zero, number-zeros, number-digits, over, from-end, from-low, from-high, from-step}
-use Rattle.cache_tree.proofs.number.read_number.Statement.{statement}
-use Rattle.cache_tree.proofs.number.read_number.Tie as tie
+use Rattle.tree_nodes.specs.Answers.{numberIn, numberFrom}
+use Rattle.tree_nodes.proofs.Numbers.{number-none, number-zero, number-zeros, number-digits, over, from-end, from-low, from-high, from-step}
+use Rattle.tree_nodes.proofs.number.read_number.Statement.{statement}
+use Rattle.tree_nodes.proofs.number.read_number.Tie as tie
 
 abbrev Inv-loop : tie.InvT-loop
 Inv-loop t limit v₀ i₀ v i = (i ≤ length t) × (v ≤ limit) × (numberIn limit t ≡ numberFrom limit v (drop i t))

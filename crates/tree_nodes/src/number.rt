@@ -1,14 +1,14 @@
 // Decimal numbers in a text.
 ghost use mathlib.Core.Path.{_≡_};
 ghost use Prim.Native.Nat.{_<_};
-ghost use Rattle.cache_tree.specs.Answers.{numberIn};
+ghost use Rattle.tree_nodes.specs.Answers.{numberIn};
 
 pub enum Number {
     Bad,
     Good(u32),
 }
 
-pub(crate) fn wide(x: u8) -> u64
+pub fn wide(x: u8) -> u64
     ensures { λ r. ⌜ (r ≡ x) × (r < 256) ⌝ }
 {
     x as u64
