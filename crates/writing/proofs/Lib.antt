@@ -1,0 +1,3 @@
+-- What is written: its decimals.
+pub mod Decimals
+pub mod Copies
