@@ -1,0 +1,2 @@
+-- Laws of what is written of a cache tree.
+pub mod Nodes
