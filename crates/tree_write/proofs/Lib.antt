@@ -1,2 +1,3 @@
 -- Laws of what is written of a cache tree.
 pub mod Nodes
+pub mod Trees

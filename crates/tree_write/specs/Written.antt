@@ -6,9 +6,11 @@ use lib.ListN.{length, drop}
 use Rattle.format.specs.Records.{Forest}
 use Rattle.format.specs.Reading.{good}
 use Rattle.format.specs.Reader.{Head, readNode}
+use Rattle.format.specs.Writer.{writeForest}
 use Rattle.cache_tree.specs.declared.node.Node.{Node}
 use Rattle.cache_tree.specs.declared.node.NodeRead.the-variants as R
 use Rattle.cache_tree.specs.Answers.{nodeAt}
+use Rattle.cache_tree.specs.Flat.{treesLength}
 use Rattle.cache_tree.proofs.Flat.{Reads}
 use Rattle.output.specs.Output.{Wrote}
 use Rattle.tree_write.specs.declared.Passed.{Passed}
@@ -29,8 +31,8 @@ pub record NodeWritten (text : Head → List ℕ) (d : List ℕ) (place : ℕ) (
   pub short : r + place ≤ at + node .next
 
 -- n trees were written as they are, up to a place of the data and one of the output
-pub record TreesWritten (text : Forest → List ℕ) (d : List ℕ) (place n : ℕ) (out : List ℕ) (at : ℕ) (out′ : List ℕ) (r : Passed) : Type 0 where
-  pub wrote : (f : Forest) (m : ℕ) → Reads (drop place d) f n m → Wrote out at (text f) out′ (r .at)
-  pub ended : (f : Forest) (m : ℕ) → Reads (drop place d) f n m → r .place ≡ place + m
-  pub inside : r .place ≤ length d
+pub record TreesWritten (d : List ℕ) (place n : ℕ) (out : List ℕ) (at : ℕ) (out′ : List ℕ) (r : Passed) : Type 0 where
+  pub wrote : (f : Forest) (m : ℕ) → Reads (drop place d) f n m → Wrote out at (writeForest f) out′ (r .at)
+  pub ended : r .place ≡ place + treesLength n (drop place d)
+  pub within : r .place ≤ length d
   pub short : r .at + place ≤ at + r .place

@@ -7,11 +7,9 @@ use fields::find;
 use output::put_byte;
 use output::put_bytes;
 ghost use mathlib.Core.Path.{_≡_};
-ghost use mathlib.Core.List.{List};
 ghost use Prim.Native.Nat.{ℕ, _+_, _≤_};
 ghost use lib.ListN.{length, drop};
-ghost use Rattle.format.specs.Records.{Forest};
-ghost use Rattle.format.specs.Writer.{writeNode, writeForest};
+ghost use Rattle.format.specs.Writer.{writeNode};
 ghost use Rattle.format.specs.Requests.{invalidNode};
 ghost use Rattle.tree_write.specs.Written.{Room, NodeHere, NodeWritten, TreesWritten};
 
@@ -50,7 +48,7 @@ fn put_node(d: &[u8], place: usize, node: Node, out: &mut [u8], at: usize) -> us
 // So many trees one after another, each with all below it. Each node adds its subtrees to the trees that are still to write.
 fn put_trees(d: &[u8], start: usize, n: u64, out: &mut [u8], at: usize) -> Passed
     requires { ⌜ Room (now d) start at × (n ≤ 4611686018427387904) ⌝ }
-    ensures { λ r. ⌜ TreesWritten writeForest (now (d .entry)) start n (now (out .entry)) at (now (out .exit)) r ⌝ }
+    ensures { λ r. ⌜ TreesWritten (now (d .entry)) start n (now (out .entry)) at (now (out .exit)) r ⌝ }
 {
     let mut place = start;
     let mut end = at;
@@ -60,7 +58,7 @@ fn put_trees(d: &[u8], start: usize, n: u64, out: &mut [u8], at: usize) -> Passe
         match read {
             NodeRead::Bad => {
                 return Passed {
-                    place: place,
+                    place: d.len(),
                     at: end,
                 };
             }
