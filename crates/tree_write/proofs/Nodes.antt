@@ -142,7 +142,7 @@ module _ (d : List ℕ) (place : ℕ) (inside : place ≤ length d) (node : Code
   pub stands : NodeHere d place node → Stands d place node
   stands here = stands-by (readNode 20 0 (drop place d)) refl (here .read)
 
-head-is : {a b : Head} {m n : ℕ} → good a m ≡ good b n → a ≡ b
+pub head-is : {a b : Head} {m n : ℕ} → good a m ≡ good b n → a ≡ b
 head-is e = cc
 
 -- the head that a reading at the place gives
