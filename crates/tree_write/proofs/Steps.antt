@@ -233,15 +233,15 @@ pub record Going (d name out₀ : List ℕ) (at : ℕ) (s out : List ℕ) (w : W
   pub still : ToWrite d name w left
   pub rest : (out′ : List ℕ) (r : ℕ) → Wrote out (w .at) left out′ r → Wrote out₀ at s out′ r
 
-module _ (d name out₀ : List ℕ) (at : ℕ) (s out : List ℕ) (w : Way) where
-  pub going-start : ToWrite d name w s → Going d name out (w .at) s out w
-  going-start x = record { left = s; still = x; rest = λ out′ r wrote. wrote }
+pub going-start : (d name s out : List ℕ) (w : Way) → ToWrite d name w s → Going d name out (w .at) s out w
+going-start d name s out w x = record { left = s; still = x; rest = λ out′ r wrote. wrote }
 
-  pub going-on : Going d name out₀ at s out w → (out₁ : List ℕ) (r : Way) → Stepped d name out w out₁ r → Going d name out₀ at s out₁ r
-  going-on x out₁ r step =
-      let y = step .wrote (x .left) (x .still) in
-      record {
-        left = y .rest;
-        still = y .left;
-        rest = λ out′ e wrote. x .rest out′ e (rw (y .whole) (wrote-then _ _ _ _ _ _ _ _ (y .wrote) wrote));
-      }
+pub going-on : (d name out₀ : List ℕ) (at : ℕ) (s out : List ℕ) (w : Way) → Going d name out₀ at s out w → (out₁ : List ℕ) (r : Way) → Stepped d name out w out₁ r
+    → Going d name out₀ at s out₁ r
+going-on d name out₀ at s out w x out₁ r step =
+    let y = step .wrote (x .left) (x .still) in
+    record {
+      left = y .rest;
+      still = y .left;
+      rest = λ out′ e wrote. x .rest out′ e (rw (y .whole) (wrote-then _ _ _ _ _ _ _ _ (y .wrote) wrote));
+    }
