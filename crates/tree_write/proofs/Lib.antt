@@ -3,3 +3,4 @@ pub mod Nodes
 pub mod Trees
 pub mod Names
 pub mod Steps
+pub mod Wholes

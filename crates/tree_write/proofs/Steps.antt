@@ -43,7 +43,7 @@ way-stays name (tree n kids after) e =
     let i = or-false-inv (under (n .name) name) (reached name after) e in
     rw (i .0, way-stays name after (i .1))
 
-way-width : (name : List ℕ) (f : Forest) → width (invalidWay 20 name f) ≡ width f
+pub way-width : (name : List ℕ) (f : Forest) → width (invalidWay 20 name f) ≡ width f
 unfolding invalidWay width
 way-width name nil = refl
 way-width name (tree n kids after) =

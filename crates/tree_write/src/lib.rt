@@ -8,12 +8,15 @@ use fields::find;
 use output::put_byte;
 use output::put_bytes;
 ghost use mathlib.Core.Path.{_≡_};
+ghost use mathlib.Core.Bool.{true, cond};
 ghost use Prim.Native.Nat.{ℕ, _+_, _-_, _≤_, _<_};
 ghost use lib.ListN.{length, take, drop};
-ghost use Rattle.format.specs.Records.{Forest};
-ghost use Rattle.format.specs.Layout.{under};
-ghost use Rattle.format.specs.Writer.{writeNode, writeForest};
-ghost use Rattle.format.specs.Requests.{invalidNode, invalidWay};
+ghost use Rattle.format.specs.Records.{Forest, Tree};
+ghost use Rattle.format.specs.Layout.{distinct, under};
+ghost use Rattle.format.specs.Reading.{good};
+ghost use Rattle.format.specs.Reader.{readNodes};
+ghost use Rattle.format.specs.Writer.{writeNode, writeForest, writeTree};
+ghost use Rattle.format.specs.Requests.{invalidNode, invalidWay, invalidTree};
 ghost use Rattle.tree_counts.proofs.Siblings.{Sound};
 ghost use Rattle.cache_tree.proofs.Flat.{Reads};
 ghost use Rattle.output.specs.Output.{Wrote};
@@ -161,5 +164,32 @@ fn put_way(d: &[u8], start: usize, k: u32, name: &[u8], out: &mut [u8], at: usiz
         w = step(d, name, &mut *out, w);
     }
     let passed = put_trees(d, w.place, w.later, out, w.at);
+    passed.at
+}
+
+// The whole data, of which the root and the nodes on the way to a name's directory are made invalid.
+fn put_invalid_tree(d: &[u8], name: &[u8], out: &mut [u8], at: usize) -> usize
+    requires { ⌜ Room (now d) 0 at ⌝ }
+    ensures { λ r. ⌜ ((t : Tree) (m : ℕ) → readNodes 20 0 (now (d .entry)) ≡ good t m → distinct (t .subtrees) ≡ true → Wrote (now (out .entry)) at (writeTree (invalidTree 20 (now (name .entry)) t)) (now (out .exit)) r) × (r ≤ at + length (now (d .entry))) ⌝ }
+{
+    let read = read_node(d, 0);
+    match read {
+        NodeRead::Bad => at,
+        NodeRead::Good(root) => {
+            let end = put_invalid(d, 0, root, &mut *out, at);
+            put_way(d, root.next, root.subtrees, name, out, end)
+        }
+    }
+}
+
+// The whole data of a tree that was read, as it is or made invalid on the way to a name's directory.
+pub fn put_tree(d: &[u8], way: bool, name: &[u8], out: &mut [u8], at: usize) -> usize
+    requires { ⌜ (length (now d) ≤ 16777216) × (at ≤ 562949953421312) ⌝ }
+    ensures { λ r. ⌜ ((t : Tree) (m : ℕ) → readNodes 20 0 (now (d .entry)) ≡ good t m → distinct (t .subtrees) ≡ true → Wrote (now (out .entry)) at (writeTree (cond way (invalidTree 20 (now (name .entry)) t) t)) (now (out .exit)) r) × (r ≤ at + length (now (d .entry))) ⌝ }
+{
+    if way {
+        return put_invalid_tree(d, name, out, at);
+    }
+    let passed = put_trees(d, 0, 1, out, at);
     passed.at
 }
