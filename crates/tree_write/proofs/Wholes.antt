@@ -1,13 +1,13 @@
 -- The whole data of a cache tree.
-use mathlib.Core.Path.{_≡_, refl, sym, ap, _∙_}
-use mathlib.Core.List.{List, [], _∷_, _++_, append-nil}
+use mathlib.Core.Path.{_≡_, sym}
+use mathlib.Core.List.{List, _++_, append-nil}
 use mathlib.Core.Bool.{true}
-use Prim.Native.Nat.{ℕ, _+_}
+use Prim.Native.Nat.{ℕ}
 use lib.ListN.{drop}
-use Rattle.format.specs.Records.{Forest, nil, tree, Tree, width}
+use Rattle.format.specs.Records.{nil, tree, Tree, width}
 use Rattle.format.specs.Layout.{distinct}
 use Rattle.format.specs.Reading.{good}
-use Rattle.format.specs.Reader.{Head, readNode, readNodes}
+use Rattle.format.specs.Reader.{readNode, readNodes}
 use Rattle.format.specs.Writer.{writeNode, writeForest, writeTree}
 use Rattle.format.specs.Requests.{invalidNode, invalidWay, invalidTree}
 use Rattle.tree_counts.proofs.Siblings.{Sound}
@@ -16,14 +16,14 @@ use Rattle.cache_tree.specs.declared.node.Node as Code
 use Rattle.cache_tree.specs.declared.node.NodeRead.the-variants as R
 use Rattle.cache_tree.specs.Answers.{nodeAt}
 use Rattle.cache_tree.proofs.Readings.{drop-to}
-use Rattle.cache_tree.proofs.Flat.{Reads, reads-none, reads-more, reads-width}
+use Rattle.cache_tree.proofs.Flat.{reads-none, reads-more, reads-width}
 use Rattle.tree_walk.specs.Siblings.{TreeAt}
 use Rattle.tree_walk.proofs.Trees.{reads-at, NodeAt, node-at, no-bad}
 use Rattle.tree_walk.proofs.Wholes.{tree-at}
 use Rattle.output.specs.Output.{Wrote}
 use Rattle.output.proofs.Laws.{wrote-then}
 use Rattle.tree_write.specs.declared.Passed.{Passed}
-use Rattle.tree_write.specs.Written.{NodeHere, NodeWritten, TreesWritten}
+use Rattle.tree_write.specs.Written.{NodeHere, NodeWritten, TreesWritten, WayWritten}
 use Rattle.tree_write.proofs.Steps.{way-width}
 
 -- a tree is a list of one node
@@ -40,9 +40,6 @@ module _ (d : List ℕ) (t : Tree) (m : ℕ) (q : readNodes 20 0 d ≡ good t m)
   stands-at : TreeAt d 0 t
   stands-at = tree-at d t m q
 
-  head-of : Head
-  head-of = record { node = t .root; subtrees = stands-at .subtrees }
-
   pub whole-copied : (out out′ : List ℕ) (at : ℕ) (passed : Passed) → TreesWritten d 0 1 out at out′ passed → Wrote out at (writeTree t) out′ (passed .at)
   whole-copied out out′ at passed written =
       rw (tree-text t) at (written .wrote (tree (t .root) (t .subtrees) nil) _ (reads-more (stands-at .node) (stands-at .kids) reads-none))
@@ -56,11 +53,11 @@ module _ (d : List ℕ) (t : Tree) (m : ℕ) (q : readNodes 20 0 d ≡ good t m)
 
     pub whole-invalid : (out out₁ out′ : List ℕ) (at end r : ℕ)
         → NodeWritten (λ h. writeNode (invalidNode 20 (h .node)) (h .subtrees)) d 0 node out at out₁ end
-        → ((f : Forest) (n : ℕ) → Sound f → Reads (drop (node .next) d) f (node .subtrees) n → Wrote out₁ end (writeForest (invalidWay 20 name f)) out′ r)
+        → WayWritten name d (node .next) (node .subtrees) out₁ end out′ r
         → Wrote out at (writeTree (invalidTree 20 name t)) out′ r
     whole-invalid out out₁ out′ at end r root rest =
         let sound : Sound (t .subtrees) = record { plainly = nodes-plain 20 0 d t m q; differ = differ } in
         let next = drop-to d 0 (stands-at .own) (node .next) (node-here .next) in
         let kids = reads-at _ _ _ _ _ _ (stands-at .kids) next (sym (node-here .subtrees)) in
         let text = invalid-text name t (stands-at .subtrees) (reads-width _ _ _ _ (stands-at .kids)) in
-        rw text (wrote-then _ _ _ _ _ _ _ _ (root .wrote _ _ (stands-at .node)) (rest (t .subtrees) _ sound kids))
+        rw text (wrote-then _ _ _ _ _ _ _ _ (root .wrote _ _ (stands-at .node)) (rest .wrote (t .subtrees) _ sound kids))

@@ -1,12 +1,16 @@
 -- What is written of nodes that stand in the data d of a cache tree, from a place on.
 use mathlib.Core.Path.{_≡_}
 use mathlib.Core.List.{List}
+use mathlib.Core.Bool.{true}
 use Prim.Native.Nat.{ℕ, _+_, _≤_}
 use lib.ListN.{length, drop}
-use Rattle.format.specs.Records.{Forest}
+use Rattle.format.specs.Records.{Forest, Tree}
+use Rattle.format.specs.Layout.{distinct}
 use Rattle.format.specs.Reading.{good}
-use Rattle.format.specs.Reader.{Head, readNode}
+use Rattle.format.specs.Reader.{Head, readNode, readNodes}
 use Rattle.format.specs.Writer.{writeForest}
+use Rattle.format.specs.Requests.{invalidWay}
+use Rattle.tree_counts.proofs.Siblings.{Sound}
 use Rattle.cache_tree.specs.declared.node.Node.{Node}
 use Rattle.cache_tree.specs.declared.node.NodeRead.the-variants as R
 use Rattle.cache_tree.specs.Answers.{nodeAt}
@@ -36,3 +40,13 @@ pub record TreesWritten (d : List ℕ) (place n : ℕ) (out : List ℕ) (at : �
   pub ended : r .place ≡ place + treesLength n (drop place d)
   pub within : r .place ≤ length d
   pub short : r .at + place ≤ at + r .place
+
+-- k siblings were written, those on the way to a name's directory made invalid
+pub record WayWritten (name d : List ℕ) (place k : ℕ) (out : List ℕ) (at : ℕ) (out′ : List ℕ) (r : ℕ) : Type 0 where
+  pub wrote : (f : Forest) (m : ℕ) → Sound f → Reads (drop place d) f k m → Wrote out at (writeForest (invalidWay 20 name f)) out′ r
+  pub short : r + place ≤ at + length d
+
+-- a text of the tree that the whole data say was written
+pub record WholeWritten (text : Tree → List ℕ) (d out : List ℕ) (at : ℕ) (out′ : List ℕ) (r : ℕ) : Type 0 where
+  pub wrote : (t : Tree) (m : ℕ) → readNodes 20 0 d ≡ good t m → distinct (t .subtrees) ≡ true → Wrote out at (text t) out′ r
+  pub short : r ≤ at + length d

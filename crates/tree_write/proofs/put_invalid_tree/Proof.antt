@@ -35,7 +35,7 @@ put-way-requires c κs =
 returns : tie.Need-returns
 returns c =
     let none = sym (c .enum-told .given .1) ∙ c .before .before .read-node .ensures in
-    ((λ t m q differ. whole-none _ t m q none), omega arith)
+    record { wrote = λ t m q differ. whole-none _ t m q none; short = omega arith }
 
 same-length : tie.Need-same-length
 same-length c = search needs
@@ -46,8 +46,12 @@ returns-2 c =
     let put = way .before .before .before .before in
     let k = put .before .before in
     let short = put .put-invalid .ensures .short in
-    let rest = way .put-way .ensures .1 in
-    ((λ t m q differ. whole-invalid _ t m q _ (here-of k) differ _ _ _ _ _ _ _ (put .put-invalid .ensures) (way .put-way .ensures .0)), omega arith)
+    let rest = way .put-way .ensures in
+    let further = rest .short in
+    record {
+      wrote = λ t m q differ. whole-invalid _ t m q _ (here-of k) differ _ _ _ _ _ _ _ (put .put-invalid .ensures) rest;
+      short = omega arith;
+    }
 
 pub put-invalid-tree-spec : {M : Type 1} → statement M
 put-invalid-tree-spec =

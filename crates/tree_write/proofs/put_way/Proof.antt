@@ -58,9 +58,10 @@ returns c =
     let short = t .short in
     let within = t .within in
     let before = l .loop .inv .1 in
-    ((λ f m sound r.
-    let x = l .loop .inv .3 f m sound r in
-    x .rest _ _ (way-end _ _ _ _ (x .still) (no .if1 .left) _ _ _ t)), omega arith)
+    record {
+      wrote = λ f m sound r. let x = l .loop .inv .3 f m sound r in x .rest _ _ (way-end _ _ _ _ (x .still) (no .if1 .left) _ _ _ t);
+      short = omega arith;
+    }
 
 pub put-way-spec : {M : Type 1} → statement M
 put-way-spec =
