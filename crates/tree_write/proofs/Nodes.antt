@@ -1,14 +1,14 @@
 -- What is written of one node, in parts of the bytes that it was read from.
 use mathlib.Core.Path.{_≡_, refl, sym, ap, subst, _∙_}
 use mathlib.Core.List.{List, [], _∷_, _++_, append-assoc}
-use mathlib.Core.Bool.{Bool, true, false, true≢false}
-use Prim.Native.Nat.{ℕ, suc, _+_, _-_, _≤_, _<_}
+use mathlib.Core.Bool.{true, false, true≢false}
+use Prim.Native.Nat.{ℕ, suc, _+_, _-_, _≤_}
 use native.Mathlib.Omega.{arith}
-use lib.ListN.{length, take, drop, replicate, length-append, length-drop, take-append-drop}
+use lib.ListN.{length, take, drop, length-append, length-drop, take-append-drop}
 use lib.Seq.{drop-drop, drop-append-seam, take-at, length-take-le}
-use Rattle.format.specs.Bytes.{before, decimal, value}
+use Rattle.format.specs.Bytes.{before, decimal}
 use Rattle.format.specs.Records.{Count, valid, invalid, Node}
-use Rattle.format.specs.Layout.{CountText, ObjectBytes, IsNode}
+use Rattle.format.specs.Layout.{CountText, ObjectBytes}
 use Rattle.format.specs.Reading.{Read, bad, good}
 use Rattle.format.specs.Reader.{Head, readNode}
 use Rattle.format.specs.Writer.{decimalOf, writeCount, writeObject, writeNode}
@@ -244,7 +244,7 @@ module _ (d : List ℕ) (place : ℕ) (node : Code.Node) (x : Stands d place nod
         let count : x .head .node .count ≡ invalid = by-count (x .head .node .count) (λ n is. absurd (true≢false (sym (ap isValid is) ∙ sym (x .valid) ∙ v))) (λ is. is) in
         record {
           wrote = λ h m q.
-            let is : h .node .count ≡ invalid = ap (λ (i : Head). i .node .count) (sym (stands-head d place node x h m q)) ∙ count in
-            rw (invalid-same (h .node) (h .subtrees) is) at (w .wrote h m q);
+              let is : h .node .count ≡ invalid = ap (λ (i : Head). i .node .count) (sym (stands-head d place node x h m q)) ∙ count in
+              rw (invalid-same (h .node) (h .subtrees) is) at (w .wrote h m q);
           short = w .short;
         }

@@ -1,6 +1,6 @@
 -- One step along siblings of which those on the way to a name's directory are made invalid.
 use mathlib.Core.Path.{_≡_, refl, sym, ap, subst, _∙_}
-use mathlib.Core.List.{List, [], _∷_, _++_, append-assoc, append-nil}
+use mathlib.Core.List.{List, _++_, append-assoc, append-nil}
 use mathlib.Core.Bool.{true, false}
 use Prim.Native.Nat.{ℕ, suc, _+_, _-_, _≤_, _<_}
 use native.Mathlib.Omega.{arith}
@@ -8,7 +8,6 @@ use lib.ListN.{length, take, drop, length-drop}
 use lib.Seq.{drop-drop, length-take-le}
 use Rattle.format.specs.Records.{Node, Forest, nil, tree, width}
 use Rattle.format.specs.Layout.{under}
-use Rattle.format.specs.Reading.{good}
 use Rattle.format.specs.Reader.{Head, readNode}
 use Rattle.format.specs.Writer.{writeNode, writeForest}
 use Rattle.format.specs.Requests.{invalidNode, invalidWay}
@@ -157,8 +156,8 @@ module _ (d name : List ℕ) (w : Way) (s : List ℕ) (x : ToWrite d name w s) w
               part = writeNode (invalidNode 20 n) (first-of .head .subtrees);
               rest = writeForest (invalidWay 20 (drop k (drop (w .from) name)) (first-of .kids)) ++ writeForest (chain (first-of .after) (x .trees));
               whole =
-                text-is
-                ∙ enter-text (drop (w .from) name) n (first-of .kids) (first-of .after) (x .trees) (first-of .head .subtrees) in-dir sound-of (reads-width _ _ _ _ (first-of .reads-kids));
+                  text-is
+                  ∙ enter-text (drop (w .from) name) n (first-of .kids) (first-of .after) (x .trees) (first-of .head .subtrees) in-dir sound-of (reads-width _ _ _ _ (first-of .reads-kids));
               wrote = written .wrote (first-of .head) (first-of .own) (first-of .node);
               left = record {
                 siblings = first-of .kids;

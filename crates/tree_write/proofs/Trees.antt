@@ -1,12 +1,11 @@
 -- Trees that are written one after another. Those that are still to write are one list of siblings.
-use mathlib.Core.Path.{_≡_, refl, sym, ap, subst, _∙_}
-use mathlib.Core.List.{List, [], _∷_, _++_, append-assoc}
-use Prim.Native.Nat.{ℕ, suc, _+_, _-_, _≤_, _<_}
+use mathlib.Core.Path.{_≡_, refl, ap, _∙_}
+use mathlib.Core.List.{List, [], _++_, append-assoc}
+use Prim.Native.Nat.{ℕ, _+_, _-_, _≤_, _<_}
 use native.Mathlib.Omega.{arith}
 use lib.ListN.{drop}
 use Rattle.format.specs.Records.{Node, Forest, nil, tree, width}
-use Rattle.format.specs.Reading.{good}
-use Rattle.format.specs.Reader.{Head, readNode}
+use Rattle.format.specs.Reader.{readNode}
 use Rattle.format.specs.Writer.{writeNode, writeForest}
 use Rattle.cache_tree.specs.declared.node.Node as Code
 use Rattle.cache_tree.specs.declared.node.NodeRead.the-variants as R

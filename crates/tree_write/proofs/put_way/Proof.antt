@@ -22,9 +22,12 @@ abbrev μ-loop : tie.MeasureT-loop
 μ-loop d start k name out₀ at w₀ out w = (length d - w .place) * 4294967296 + w .left
 
 loop-holds : tie.Need-loop-holds Inv-loop μ-loop
-loop-holds c =
-    (record { room = c .before .before .before .pre; named = omega arith; few = omega arith }, omega arith, refl,
-    λ f m sound r. going-start _ _ _ _ _ (way-start _ _ _ _ _ f m sound r))
+loop-holds c = (
+  record { room = c .before .before .before .pre; named = omega arith; few = omega arith },
+  omega arith,
+  refl,
+  λ f m sound r. going-start _ _ _ _ _ (way-start _ _ _ _ _ f m sound r),
+)
 
 step-requires : tie.Need-step-requires Inv-loop μ-loop
 step-requires c κs = (c .before .before .before .loop .inv .0, c .before .if1 .taken)

@@ -1,5 +1,5 @@
 -- The proof that `step` meets its contract: the sibling is made invalid, or it is written with all below it.
-use mathlib.Core.Path.{_≡_, refl, sym, _∙_}
+use mathlib.Core.Path.{refl, sym, _∙_}
 use Prim.Native.Nat.{_+_, _-_, _≤_}
 use native.Mathlib.Omega.{arith}
 use borrow.Author.Needs.{needs}
@@ -11,19 +11,24 @@ use Rattle.tree_write.proofs.Steps.{step-stop, step-enters, step-passes
 use Rattle.tree_write.proofs.step.Statement.{statement}
 use Rattle.tree_write.proofs.step.Tie as tie
 
-here-of : (c : tie.After-known-told) → NodeHere (c .before .before .before .before .before .before .before .args .d .now) (c .before .before .before .before .before .before .before .args .w .place) (c .before .read .given .0 .0)
+abbrev start-of : tie.After-known-told → tie.Start
+start-of c = c .before .before .before .before .before .before .before
+
+here-of : (c : tie.After-known-told) → NodeHere (start-of c .args .d .now) (start-of c .args .w .place) (c .before .read .given .0 .0)
 here-of c = record { read = sym (c .before .read .given .1) ∙ c .before .before .before .read-node .ensures }
 
-node-of : (c : tie.After-known-told) → NodeIs (c .before .before .before .before .before .before .before .args .d .now) (c .before .before .before .before .before .before .before .args .w .place) (c .before .read .given .0 .0)
-node-of c = node-is _ _ (c .before .before .before .before .before .before .before .pre .0 .room .inside) _ (here-of c .read)
+node-of : (c : tie.After-known-told) → NodeIs (start-of c .args .d .now) (start-of c .args .w .place) (c .before .read .given .0 .0)
+node-of c = node-is _ _ (start-of c .pre .0 .room .inside) _ (here-of c .read)
 
 -- the name goes on after the node's name and a "/"
-after-of : (c : tie.Then1) → c .before .before .before .before .before .before .before .before .before .args .w .from + (c .before .before .before .read .given .0 .0 .nul - c .before .before .before .before .before .before .before .before .before .args .w .place) + 1 ≤ length (c .before .before .before .before .before .before .before .before .before .args .name .now)
+after-of : (c : tie.Then1) → let st = start-of (c .before .before) in
+    st .args .w .from + (c .before .before .before .read .given .0 .0 .nul - st .args .w .place) + 1 ≤ length (st .args .name .now)
 after-of c =
-    let is = node-of (c .before .before) in
+    let k = c .before .before in
+    let is = node-of k in
     let ended = is .ended in
     let within = is .within in
-    name-after _ _ _ _ _ (is .named) (omega arith) (c .before .before .before .before .before .before .before .before .before .pre .0 .named) (sym (c .before .is-under .ensures) ∙ c .if1 .taken)
+    name-after _ _ _ _ _ (is .named) (omega arith) (start-of k .pre .0 .named) (sym (c .before .is-under .ensures) ∙ c .if1 .taken)
 
 read-node-requires : tie.Need-read-node-requires
 read-node-requires c κs = search needs
@@ -39,12 +44,12 @@ is-under-requires c κs =
     let is = node-of c in
     let ended = is .ended in
     let within = is .within in
-    (is .named, omega arith, c .before .before .before .before .before .before .before .pre .0 .named)
+    (is .named, omega arith, start-of c .pre .0 .named)
 
 put-invalid-requires : tie.Need-put-invalid-requires
 put-invalid-requires c κs =
     let k = c .before .before .before in
-    (k .before .before .before .before .before .before .before .pre .0 .room, here-of k)
+    (start-of k .pre .0 .room, here-of k)
 
 sub-t13 : tie.Need-sub-t13
 sub-t13 c = search needs
@@ -62,13 +67,13 @@ add-t17 : tie.Need-add-t17
 add-t17 c =
     let yes = c .before .before .before .before .before .before .before .before .before in
     let after = after-of yes in
-    omega (arith, yes .before .before .before .before .before .before .before .before .before)
+    omega (arith, start-of (yes .before .before))
 
 add-t18 : tie.Need-add-t18
 add-t18 c =
     let yes = c .before .before .before .before .before .before .before .before .before in
     let after = after-of yes in
-    omega (arith, yes .before .before .before .before .before .before .before .before .before)
+    omega (arith, start-of (yes .before .before))
 
 same-length : tie.Need-same-length
 same-length c = search needs
@@ -78,7 +83,7 @@ returns c =
     let put = c .before .before .before .before .before .before .before in
     let yes = put .before .before in
     let k = yes .before .before in
-    let st = k .before .before .before .before .before .before .before in
+    let st = start-of k in
     let is = node-of k in
     let named = is .named in
     let ended = is .ended in
@@ -94,7 +99,7 @@ returns c =
       less = omega (arith, c .before .before .struct-known3 .given);
       short = short;
       wrote = λ s x.
-        step-enters _ _ _ s x (st .pre .1) (st .pre .0 .room .inside) _ (here-of k) _ _ _ (sym (yes .before .is-under .ensures) ∙ yes .if1 .taken) (put .put-invalid .ensures);
+          step-enters _ _ _ s x (st .pre .1) (st .pre .0 .room .inside) _ (here-of k) _ _ _ (sym (yes .before .is-under .ensures) ∙ yes .if1 .taken) (put .put-invalid .ensures);
     }
 
 put-trees-requires : tie.Need-put-trees-requires
@@ -123,7 +128,7 @@ returns-3 c =
     let put = c .before .before .before in
     let no = put .before .before in
     let k = no .before .before in
-    let st = k .before .before .before .before .before .before .before in
+    let st = start-of k in
     let t = put .put-trees .ensures in
     let within = t .within in
     let short = t .short in
@@ -138,7 +143,7 @@ returns-3 c =
       less = omega arith;
       short = short;
       wrote = λ s x.
-        step-passes _ _ _ s x (st .pre .1) (st .pre .0 .room .inside) _ (here-of k) _ _ _ (sym (no .before .is-under .ensures) ∙ no .if1 .left) t;
+          step-passes _ _ _ s x (st .pre .1) (st .pre .0 .room .inside) _ (here-of k) _ _ _ (sym (no .before .is-under .ensures) ∙ no .if1 .left) t;
     }
 
 pub step-spec : {M : Type 1} → statement M
