@@ -1,19 +1,17 @@
 -- One step along siblings of which those on the way to a name's directory are made invalid.
 use mathlib.Core.Path.{_≡_, refl, sym, ap, subst, _∙_}
-use mathlib.Core.List.{List, _++_, append-assoc, append-nil}
+use mathlib.Core.List.{List, _++_, append-nil}
 use mathlib.Core.Bool.{true, false}
 use Prim.Native.Nat.{ℕ, suc, _+_, _-_, _≤_, _<_}
 use native.Mathlib.Omega.{arith}
 use lib.ListN.{length, take, drop, length-drop}
 use lib.Seq.{drop-drop, length-take-le}
-use Rattle.format.specs.Records.{Node, Forest, nil, tree, width}
+use Rattle.format.specs.Records.{Forest, nil, tree}
 use Rattle.format.specs.Layout.{under}
 use Rattle.format.specs.Reader.{Head, readNode}
-use Rattle.format.specs.Writer.{writeNode, writeForest}
-use Rattle.format.specs.Requests.{invalidNode, invalidWay}
-use Rattle.tree_counts.specs.Judge.{reached}
-use Rattle.tree_counts.proofs.Tests.{by-test, or-false-inv}
-use Rattle.tree_counts.proofs.Siblings.{Sound, sound-name, sound-new, sound-kids, sound-after, unreached}
+use Rattle.format.specs.Writer.{writeForest}
+use Rattle.format.specs.Requests.{invalidWay}
+use Rattle.tree_counts.proofs.Siblings.{Sound, sound-kids, sound-after}
 use Rattle.cache_tree.specs.declared.node.Node as Code
 use Rattle.cache_tree.specs.declared.node.NodeRead.the-variants as R
 use Rattle.cache_tree.specs.Answers.{nodeAt}
@@ -27,43 +25,11 @@ use Rattle.output.specs.Output.{Wrote}
 use Rattle.output.proofs.Laws.{wrote-then}
 use Rattle.tree_write.specs.declared.Way.{Way}
 use Rattle.tree_write.specs.declared.Passed.{Passed}
-use Rattle.tree_write.specs.Written.{NodeHere, NodeWritten, TreesWritten}
+use Rattle.tree_write.specs.Written.{NodeHere, madeInvalid, NodeWritten, TreesWritten}
 use Rattle.tree_write.specs.Steps.{ToWrite, Part, Stepped}
 use Rattle.tree_write.proofs.Nodes.{head-is}
-use Rattle.tree_write.proofs.Trees.{write-nil, write-tree, write-chain}
-
--- ---- siblings on the way to a name's directory
-
--- where the name is in no directory of theirs they stay
-way-stays : (name : List ℕ) (f : Forest) → reached name f ≡ false → invalidWay 20 name f ≡ f
-unfolding reached invalidWay
-way-stays name nil e = refl
-way-stays name (tree n kids after) e =
-    let i = or-false-inv (under (n .name) name) (reached name after) e in
-    rw (i .0, way-stays name after (i .1))
-
-pub way-width : (name : List ℕ) (f : Forest) → width (invalidWay 20 name f) ≡ width f
-unfolding invalidWay width
-way-width name nil = refl
-way-width name (tree n kids after) =
-    by-test (under (n .name) name) (λ e. rw e (ap suc (way-width name after))) (λ e. rw e (ap suc (way-width name after)))
-
-module _ (name : List ℕ) (n : Node) (kids after : Forest) where
-  -- the siblings after one whose directory the name is in stay
-  pub way-enters : under (n .name) name ≡ true → Sound (tree n kids after)
-      → invalidWay 20 name (tree n kids after) ≡ tree (invalidNode 20 n) (invalidWay 20 (drop (length (n .name) + 1) name) kids) after
-  unfolding invalidWay
-  way-enters e h =
-      let free = unreached (n .name) name after (sound-name n kids after h) e (sound-after n kids after h) (sound-new n kids after h) in
-      rw (e, way-stays name after free)
-
-  pub way-passes : under (n .name) name ≡ false → invalidWay 20 name (tree n kids after) ≡ tree n kids (invalidWay 20 name after)
-  unfolding invalidWay
-  way-passes e = rw e
-
-pub way-none : (name : List ℕ) → invalidWay 20 name nil ≡ nil
-unfolding invalidWay
-way-none name = refl
+use Rattle.tree_write.proofs.Trees.{write-nil}
+use Rattle.tree_write.proofs.Ways.{way-enters, way-passes, way-none}
 
 -- ---- where siblings end
 
@@ -81,22 +47,6 @@ first-total s f k m r some x =
     reads-total s f k m r ∙ ap (λ (n : ℕ). treesLength n s) (sym k-is) ∙ sym (reads-total s _ _ _ more)
 
 -- ---- what is written of a sibling, and what is left
-
-module _ (name : List ℕ) (n : Node) (kids after trees : Forest) where
-  enter-text : (k : ℕ) → under (n .name) name ≡ true → Sound (tree n kids after) → width kids ≡ k
-      → writeForest (invalidWay 20 name (tree n kids after)) ++ writeForest trees
-      ≡ writeNode (invalidNode 20 n) k ++ (writeForest (invalidWay 20 (drop (length (n .name) + 1) name) kids) ++ writeForest (chain after trees))
-  enter-text k e h l =
-      let rest : Forest = invalidWay 20 (drop (length (n .name) + 1) name) kids in
-      rw (way-enters name n kids after e h, write-tree (invalidNode 20 n) rest after, way-width (drop (length (n .name) + 1) name) kids, l, write-chain after trees)
-      (simp append-assoc)
-
-  pass-text : under (n .name) name ≡ false
-      → writeForest (invalidWay 20 name (tree n kids after)) ++ writeForest trees
-      ≡ writeForest (tree n kids nil) ++ (writeForest (invalidWay 20 name after) ++ writeForest trees)
-  pass-text e =
-      rw (way-passes name n kids after e, write-tree n kids (invalidWay 20 name after), write-tree n kids nil, write-nil, append-nil (writeForest kids))
-      (simp append-assoc)
 
 module _ (d name : List ℕ) (w : Way) (s : List ℕ) (x : ToWrite d name w s) where
   module _ (some : 0 < w .left) where
@@ -141,7 +91,7 @@ module _ (d name : List ℕ) (w : Way) (s : List ℕ) (x : ToWrite d name w s) w
 
       module _ (out out′ : List ℕ) where
         pub step-enters : (at : ℕ) → under (take (node .nul - w .place) (drop (w .place) d)) (drop (w .from) name) ≡ true
-            → NodeWritten (λ h. writeNode (invalidNode 20 (h .node)) (h .subtrees)) d (w .place) node out (w .at) out′ at
+            → NodeWritten (madeInvalid 20) d (w .place) node out (w .at) out′ at
             → Part d name out w s out′
             (record { place = node .next; at = at; left = node .subtrees; later = w .later + (w .left - 1); from = w .from + (node .nul - w .place) + 1 })
         step-enters at e written =
@@ -153,11 +103,11 @@ module _ (d name : List ℕ) (w : Way) (s : List ℕ) (x : ToWrite d name w s) w
             let count : w .left - 1 + w .later ≡ w .later + (w .left - 1) = omega arith in
             let next : drop (first-of .own) (drop (w .place) d) ≡ drop (node .next) d = drop-to d (w .place) (first-of .own) (node .next) (node-here .next) in
             record {
-              part = writeNode (invalidNode 20 n) (first-of .head .subtrees);
+              part = madeInvalid 20 (first-of .head);
               rest = writeForest (invalidWay 20 (drop k (drop (w .from) name)) (first-of .kids)) ++ writeForest (chain (first-of .after) (x .trees));
               whole =
                   text-is
-                  ∙ enter-text (drop (w .from) name) n (first-of .kids) (first-of .after) (x .trees) (first-of .head .subtrees) in-dir sound-of (reads-width _ _ _ _ (first-of .reads-kids));
+                  ∙ way-enters 20 (drop (w .from) name) n (first-of .kids) (first-of .after) (x .trees) (first-of .head .subtrees) in-dir sound-of (reads-width _ _ _ _ (first-of .reads-kids));
               wrote = written .wrote (first-of .head) (first-of .own) (first-of .node);
               left = record {
                 siblings = first-of .kids;
@@ -184,7 +134,7 @@ module _ (d name : List ℕ) (w : Way) (s : List ℕ) (x : ToWrite d name w s) w
             record {
               part = writeForest (tree n (first-of .kids) nil);
               rest = writeForest (invalidWay 20 (drop (w .from) name) (first-of .after)) ++ writeForest (x .trees);
-              whole = text-is ∙ pass-text (drop (w .from) name) n (first-of .kids) (first-of .after) (x .trees) out-dir;
+              whole = text-is ∙ way-passes 20 (drop (w .from) name) n (first-of .kids) (first-of .after) (x .trees) out-dir;
               wrote = written .wrote (tree n (first-of .kids) nil) _ (reads-more (first-of .node) (first-of .reads-kids) reads-none);
               left = record {
                 siblings = first-of .after;
@@ -208,7 +158,7 @@ module _ (d name : List ℕ) (w : Way) (s : List ℕ) (x : ToWrite d name w s) w
       let text : s ≡ writeForest (x .trees) =
       x .is
       ∙ ap (λ (f : Forest). writeForest (invalidWay 20 (drop (w .from) name) f) ++ writeForest (x .trees)) none
-      ∙ rw (way-none (drop (w .from) name), write-nil) in
+      ∙ way-none 20 (drop (w .from) name) (x .trees) in
       rw text (written .wrote (x .trees) (x .more) (rw taken at (x .follow)))
 
 -- ---- all siblings

@@ -23,18 +23,18 @@ use Rattle.tree_walk.proofs.Wholes.{tree-at}
 use Rattle.output.specs.Output.{Wrote}
 use Rattle.output.proofs.Laws.{wrote-then}
 use Rattle.tree_write.specs.declared.Passed.{Passed}
-use Rattle.tree_write.specs.Written.{NodeHere, NodeWritten, TreesWritten, WayWritten}
-use Rattle.tree_write.proofs.Steps.{way-width}
+use Rattle.tree_write.specs.Written.{NodeHere, madeInvalid, NodeWritten, TreesWritten, WayWritten}
+use Rattle.tree_write.proofs.Ways.{way-width}
 
 -- a tree is a list of one node
 tree-text : (t : Tree) → writeForest (tree (t .root) (t .subtrees) nil) ≡ writeTree t
 unfolding writeTree writeForest
 tree-text t = rw (append-nil (writeForest (t .subtrees)))
 
-invalid-text : (name : List ℕ) (t : Tree) (k : ℕ) → width (t .subtrees) ≡ k
-    → writeTree (invalidTree 20 name t) ≡ writeNode (invalidNode 20 (t .root)) k ++ writeForest (invalidWay 20 name (t .subtrees))
+invalid-text : (w : ℕ) (name : List ℕ) (t : Tree) (k : ℕ) → width (t .subtrees) ≡ k
+    → writeTree (invalidTree w name t) ≡ writeNode (invalidNode w (t .root)) k ++ writeForest (invalidWay w name (t .subtrees))
 unfolding writeTree invalidTree
-invalid-text name t k e = rw (way-width name (t .subtrees), e)
+invalid-text w name t k e = rw (way-width w name (t .subtrees), e)
 
 module _ (d : List ℕ) (t : Tree) (m : ℕ) (q : readNodes 20 0 d ≡ good t m) where
   stands-at : TreeAt d 0 t
@@ -52,12 +52,12 @@ module _ (d : List ℕ) (t : Tree) (m : ℕ) (q : readNodes 20 0 d ≡ good t m)
     node-here = node-at node 0 (stands-at .own) _ _ (stands-at .node) (here .read)
 
     pub whole-invalid : (out out₁ out′ : List ℕ) (at end r : ℕ)
-        → NodeWritten (λ h. writeNode (invalidNode 20 (h .node)) (h .subtrees)) d 0 node out at out₁ end
+        → NodeWritten (madeInvalid 20) d 0 node out at out₁ end
         → WayWritten name d (node .next) (node .subtrees) out₁ end out′ r
         → Wrote out at (writeTree (invalidTree 20 name t)) out′ r
     whole-invalid out out₁ out′ at end r root rest =
         let sound : Sound (t .subtrees) = record { plainly = nodes-plain 20 0 d t m q; differ = differ } in
         let next = drop-to d 0 (stands-at .own) (node .next) (node-here .next) in
         let kids = reads-at _ _ _ _ _ _ (stands-at .kids) next (sym (node-here .subtrees)) in
-        let text = invalid-text name t (stands-at .subtrees) (reads-width _ _ _ _ (stands-at .kids)) in
+        let text = invalid-text 20 name t (stands-at .subtrees) (reads-width _ _ _ _ (stands-at .kids)) in
         rw text (wrote-then _ _ _ _ _ _ _ _ (root .wrote _ _ (stands-at .node)) (rest .wrote (t .subtrees) _ sound kids))

@@ -8,8 +8,8 @@ use Rattle.format.specs.Records.{Forest, Tree}
 use Rattle.format.specs.Layout.{distinct}
 use Rattle.format.specs.Reading.{good}
 use Rattle.format.specs.Reader.{Head, readNode, readNodes}
-use Rattle.format.specs.Writer.{writeForest}
-use Rattle.format.specs.Requests.{invalidWay}
+use Rattle.format.specs.Writer.{writeNode, writeForest}
+use Rattle.format.specs.Requests.{invalidNode, invalidWay}
 use Rattle.tree_counts.proofs.Siblings.{Sound}
 use Rattle.cache_tree.specs.declared.node.Node.{Node}
 use Rattle.cache_tree.specs.declared.node.NodeRead.the-variants as R
@@ -29,7 +29,14 @@ pub record Room (d : List ℕ) (place at : ℕ) : Type 0 where
 pub record NodeHere (d : List ℕ) (place : ℕ) (node : Node) : Type 0 where
   pub read : R.Good node ≡ nodeAt place (readNode 20 0 (drop place d))
 
--- a text of it was written; what is written of a node is not longer than the node
+-- what is written of a node, as it is or made invalid
+abbrev pub asIs : Head → List ℕ
+asIs h = writeNode (h .node) (h .subtrees)
+
+abbrev pub madeInvalid : ℕ → Head → List ℕ
+madeInvalid w h = writeNode (invalidNode w (h .node)) (h .subtrees)
+
+-- one of the two was written; it is not longer than the node
 pub record NodeWritten (text : Head → List ℕ) (d : List ℕ) (place : ℕ) (node : Node) (out : List ℕ) (at : ℕ) (out′ : List ℕ) (r : ℕ) : Type 0 where
   pub wrote : (h : Head) (m : ℕ) → readNode 20 0 (drop place d) ≡ good h m → Wrote out at (text h) out′ r
   pub short : r + place ≤ at + node .next

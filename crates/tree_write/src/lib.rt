@@ -12,9 +12,9 @@ ghost use mathlib.Core.Bool.{cond};
 ghost use Prim.Native.Nat.{_-_, _≤_, _<_};
 ghost use lib.ListN.{length, take, drop};
 ghost use Rattle.format.specs.Layout.{under};
-ghost use Rattle.format.specs.Writer.{writeNode, writeTree};
-ghost use Rattle.format.specs.Requests.{invalidNode, invalidTree};
-ghost use Rattle.tree_write.specs.Written.{Room, NodeHere, NodeWritten, TreesWritten, WayWritten, WholeWritten};
+ghost use Rattle.format.specs.Writer.{writeTree};
+ghost use Rattle.format.specs.Requests.{invalidTree};
+ghost use Rattle.tree_write.specs.Written.{Room, NodeHere, asIs, madeInvalid, NodeWritten, TreesWritten, WayWritten, WholeWritten};
 ghost use Rattle.tree_write.specs.Steps.{Ready, Stepped};
 
 // A place of the data and one of the output, after some trees.
@@ -23,10 +23,10 @@ struct Passed {
     at: usize,
 }
 
-// A node made invalid: its name and NUL, "-1", and what stands from the space up to its LF.
+// A node made invalid: its name and NUL, "-1", and what stands from the space up to the LF.
 fn put_invalid(d: &[u8], place: usize, node: Node, out: &mut [u8], at: usize) -> usize
     requires { ⌜ Room (now d) place at × NodeHere (now d) place node ⌝ }
-    ensures { λ r. ⌜ NodeWritten (λ h. writeNode (invalidNode 20 (h .node)) (h .subtrees)) (now (d .entry)) place node (now (out .entry)) at (now (out .exit)) r ⌝ }
+    ensures { λ r. ⌜ NodeWritten (madeInvalid 20) (now (d .entry)) place node (now (out .entry)) at (now (out .exit)) r ⌝ }
 {
     let count = node.nul + 1;
     let object = node.object;
@@ -37,10 +37,10 @@ fn put_invalid(d: &[u8], place: usize, node: Node, out: &mut [u8], at: usize) ->
     put_bytes(out, one, &d[space..object])
 }
 
-// A node.
+// A node as it is: copied where it is valid.
 fn put_node(d: &[u8], place: usize, node: Node, out: &mut [u8], at: usize) -> usize
     requires { ⌜ Room (now d) place at × NodeHere (now d) place node ⌝ }
-    ensures { λ r. ⌜ NodeWritten (λ h. writeNode (h .node) (h .subtrees)) (now (d .entry)) place node (now (out .entry)) at (now (out .exit)) r ⌝ }
+    ensures { λ r. ⌜ NodeWritten asIs (now (d .entry)) place node (now (out .entry)) at (now (out .exit)) r ⌝ }
 {
     if node.valid {
         let next = node.next;
