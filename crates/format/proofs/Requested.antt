@@ -66,9 +66,10 @@ refusals :
     × (putRequest 20 hash 3 (entryOf 0 true a) 0 records ≡ bad 20 0)
     × (removeRequest 20 hash 1 (record { name = []; stage = 9 }) 0 records ≡ bad 4 0)
     × (removeRequest 20 hash 4 (record { name = []; stage = 9 }) 0 records ≡ bad 18 0)
+    × (removeRequest 20 hash 4 (record { name = a; stage = 1 }) 0 records ≡ bad 18 0)
     × (removeRequest 20 hash 4 (record { name = a; stage = 0 }) 0 records ≡ bad 20 0)
 unfolding records hash put16 put32 put32s putN eqList lacks componentsFrom components okComponent okComponents okName lengthField compare common modeOf okMode fixedLength entryLength flagsOf wordOf need needsWord writePlain writePacked writeName writeRest writeEntry writeEntries writeCacheTree writeResolveUndo writeExtensions writeHeader writeBody writeFile goesBefore sameKey putEntry removeEntry holds invalidCacheTree putRecord removeRecord anyWord okAsked versionFor fitting writing putRequest removeRequest
-refusals = (refl, refl, refl, refl, refl, refl, refl, refl, refl)
+refusals = (refl, refl, refl, refl, refl, refl, refl, refl, refl, refl)
 
 -- the version of the result: 2, or 3 where an entry needs the extended word
 versions :
