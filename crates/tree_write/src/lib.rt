@@ -1,12 +1,12 @@
 // Writing the data of a cache tree from the data of one that was read. A number has one decimal text, so a valid node is copied as it stands; an
 // invalid one is written with "-1" and no object name. Each function answers the place after what it wrote; with an output too short it measures.
-use tree_nodes::node::Node;
-use tree_nodes::node::NodeRead;
-use tree_nodes::node::read_node;
 use fields::common;
 use fields::find;
 use output::put_byte;
 use output::put_bytes;
+use tree_nodes::node::Node;
+use tree_nodes::node::NodeRead;
+use tree_nodes::node::read_node;
 ghost use mathlib.Core.Path.{_≡_};
 ghost use mathlib.Core.Bool.{cond};
 ghost use Prim.Native.Nat.{_-_, _≤_, _<_};
