@@ -79,7 +79,7 @@ def told(answer: tuple, other: tuple) -> str:
     if answer[0] != "done":
         return str(answer)
     text = f"done, {len(answer[1])} bytes"
-    if other[0] != "done":
+    if other[0] != "done" or other == answer:
         return text
     at = next((at for at, (a, b) in enumerate(zip(answer[1], other[1])) if a != b), len(answer[1]))
     return f"{text}, from byte {at} on {answer[1][at : at + 16].hex()}"
