@@ -25,7 +25,7 @@ import tempfile
 from typing import BinaryIO, NamedTuple, Optional
 
 from index_reader import Entry
-from report import SECONDS, ProgramFailed
+from report import SECONDS, ProgramFailed, Report
 
 WORK = 8_192 + 100  # a workspace with bytes that stay untouched
 
@@ -79,8 +79,10 @@ def decode(stream: BinaryIO) -> Optional[Request]:
     bits = [bool(number()) for _ in range(3)] if call == "put" else []
     work = int(next(row, WORK))
     data, name = stream.read(size), stream.read(length)
-    entry = Entry(*fields, object_name, bits[0], stage, *bits[1:], name) if call == "put" else None
-    return Request(call, data, asked, room, entry, name, stage, work)
+    if call == "put":
+        entry = Entry(*fields, object_name, bits[0], stage, *bits[1:], name)
+        return Request(call, data, asked, room, entry, work=work)
+    return Request(call, data, asked, room, None, name, stage, work)
 
 
 # ---- the bytes of an answer
@@ -142,21 +144,23 @@ class Session:
             self.child.stdin.close()
         except OSError:
             pass  # what was not written is of no use
-        self.errors.seek(0)
-        return f"standard error {self.errors.read()!r}"
+        return f"standard error {self.told()!r}"
 
-    def finish(self) -> None:
-        """Ends the input. The program is to end well, with no further answer and nothing on standard error."""
+    def told(self) -> bytes:
+        self.errors.seek(0)
+        return self.errors.read()
+
+    def finish(self, report: Report) -> None:
+        """Ends the input: the program is to end well, with no further answer and nothing on standard error."""
         if self.failed:
             return
         try:
             rest, _ = self.child.communicate(timeout=SECONDS)
-        except (subprocess.TimeoutExpired, OSError) as failure:
-            raise ProgramFailed(f"{failure}; {self.end()}") from None
-        self.errors.seek(0)
-        told = self.errors.read()
-        if self.child.returncode != 0 or rest or told:
-            raise ProgramFailed(f"exit status {self.child.returncode}, {len(rest)} bytes more, standard error {told!r}")
+        except (subprocess.TimeoutExpired, OSError):
+            self.end()
+            rest = b""
+        ended = (self.child.returncode, rest, self.told())
+        report.same("the program's end: status, further output, standard error", (0, b"", b""), ended)
 
 
 def too_long(*_) -> None:

@@ -7,16 +7,22 @@ out of the changed parts, or the refusal.
     cases()      the cases of document 01, limits and the order of refusals, without chance
     large()      results at the limit of a file's size and above it
     drawn(seed)  requests on files drawn by chance, with names near those of the file
+
+As a program it lists the names of these requests, or writes the named one, as edit_requests spells it:
+
+    make_edits.py [--seeds A-B] [NAME]
 """
 
+import argparse
 import itertools
 import random
+import sys
 from dataclasses import replace
 from typing import NamedTuple, Optional
 
 import make_cases
 import make_files
-from edit_requests import Request
+from edit_requests import Request, encode
 from index_reader import Entry
 from layout import (
     EXECUTABLE,
@@ -226,7 +232,8 @@ def number_cases():
     for spare in (0, 1, 3, 10_000):
         plan = Plan(4, [Record(name, spare=spare) for name in names])
         changes = [rewriting(plan)] + [removing(plan, name, 0) for name in names]
-        changes += [putting(plan, Record(name)) for name in (b"a", b"ab/cd/ef0", b"ab/cd/eg/g", b"ab/ce", b"ab/cf", b"c")]
+        new = (b"a", b"ab/cd/ef0", b"ab/cd/eg/g", b"ab/ce", b"ab/cf", b"c")
+        changes += [putting(plan, Record(name)) for name in new]
         yield from in_versions(f"number/spare-{spare}", plan, changes, (3, 4))
 
 
@@ -236,17 +243,17 @@ def word_cases():
     for version in (3, 4):
         for skip, intent in flags:
             for assume, stage in ((False, 0), (True, 0), (True, 3)):
-                record = Record(b"w", stage, assume_valid=assume, skip_worktree=skip, intent_to_add=intent, zero_word=True)
+                plain = Record(b"w", stage, assume_valid=assume, zero_word=True)
+                record = replace(plain, skip_worktree=skip, intent_to_add=intent)
                 plan = Plan(version, [Record(b"v"), record, Record(b"x")])
                 label = f"word/{skip:d}{intent:d}{assume:d}{stage}-version-{version}"
-                plain = replace(record, skip_worktree=False, intent_to_add=False)
                 changes = [rewriting(plan), removing(plan, b"w", stage), putting(plan, plain)]
                 changes += [putting(plan, replace(plain, name=b"y", intent_to_add=True)), removing(plan, b"v", 0)]
                 yield from in_versions(label, plan, changes)
     largest = Record(b"m", 3, MODES[3], b"\xff" * 20, (2**32 - 1,) * 9, True, True, True)
     plain = Plan(2, [Record(b"a")])
-    rows = [replace(largest, mode=mode, skip_worktree=skip, intent_to_add=intent) for mode in MODES for skip, intent in flags]
-    for k, record in enumerate(rows):
+    for k, (mode, (skip, intent)) in enumerate(itertools.product(MODES, flags)):
+        record = replace(largest, mode=mode, skip_worktree=skip, intent_to_add=intent)
         yield from in_versions(f"word/largest-{k}", plain, [putting(plain, record)])
 
 
@@ -430,7 +437,7 @@ def near_name(rng: random.Random, plan: Plan) -> bytes:
 
 
 def drawn(seed: int, count: int = 12):
-    """Requests on the file of one seed: every version, `count` puts and removes; then one on each of its damaged files."""
+    """Requests on the file of one seed: every version, `count` puts and removes; then one on each damaged file."""
     rng = random.Random(f"edits {seed}")
     plan = make_files.draw_plan(rng)
     group = f"drawn-{seed}"
@@ -455,3 +462,25 @@ def drawn(seed: int, count: int = 12):
         request = request_of(made.data, rng.choice(ASKED), rng.choice(changes))
         known = made.answer is not None and made.answer[0] == "refused"
         yield Case(f"{group}/{made.name}", request, made.answer if known else None)
+
+
+# ---- as a program
+
+
+def main() -> int:
+    parser = argparse.ArgumentParser(description="List the made requests, or write the named one to standard output.")
+    parser.add_argument("--seeds", type=make_files.seed_range, default=make_files.seed_range("0-59"), help="seeds A-B")
+    parser.add_argument("name", nargs="?", help="the request to write")
+    options = parser.parse_args()
+    for case in itertools.chain(cases(), large(), *map(drawn, options.seeds)):
+        if options.name is None:
+            print(case.name)
+        elif case.name == options.name:
+            request = case.request
+            sys.stdout.buffer.write(encode(request if request.room is not None else request._replace(room=LIMIT)))
+            return 0
+    return 0 if options.name is None else 1
+
+
+if __name__ == "__main__":
+    sys.exit(main())

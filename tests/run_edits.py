@@ -20,6 +20,7 @@ import make_files
 import run_listing
 import serve_edits
 from edit_requests import Request, Session
+from layout import Record
 from make_edits import Case
 from report import Program, ProgramFailed, Report
 
@@ -58,12 +59,16 @@ def sent(cases, all_lengths: bool):
 
 
 def files():
-    """The vectors and the made files without chance: each is checked, and rewritten in one version, in turn."""
+    """The vectors and the made files without chance: each is checked, rewritten and edited in one version, in turn."""
+    entry = make_edits.entry_of(Record(b"a/new"))
     rows = [(case.name, case.data, case.answer) for case in run_listing.vectors()]
     rows += [(file.name, file.data, file.answer) for file in make_cases.cases()]
     for k, (name, data, answer) in enumerate(rows):
+        asked = make_edits.ASKED[k % 4]
         yield Case(f"{name}, check", Request("check", data, room=0), answer)
-        yield Case(f"{name}, rewrite", Request("rewrite", data, make_edits.ASKED[k % 4]))
+        yield Case(f"{name}, rewrite", Request("rewrite", data, asked))
+        yield Case(f"{name}, put", Request("put", data, asked, entry=entry))
+        yield Case(f"{name}, remove", Request("remove", data, asked, name=b"a"))
 
 
 def drawn(seeds: range, count: int):
@@ -146,10 +151,7 @@ def main() -> int:
                 compare(one, session, report)
             tests, seconds = report.passed + report.failed - before, time.monotonic() - start
             print(f"{name}: {tests} tests in {seconds:.1f} s", flush=True)
-    try:
-        session.finish()
-    except ProgramFailed as failure:
-        report.test("the program ends well", False, failure)
+    session.finish(report)
     return report.finish()
 
 
