@@ -290,7 +290,11 @@ def tree_cases():
         changes += [removing(plan, name, 0, nodes) for name, nodes in rows if name in names]
         yield from in_versions(f"tree/{order}-version-{version}", plan, changes, (version,))
 
+
+def part_tree_cases():
+    """Trees that lack nodes, and trees of many levels."""
     # Without the node of a directory on the way, those below it are not on the way.
+    names = [b"a-b", b"a/b", b"a/c", b"a/d/e", b"b/c", b"b/d/a/d/e", b"file"]
     part = Tree(b"", -7, [Tree(b"b", -2, [Tree(b"a", -(2**31), [Tree(b"d", 0)])]), Tree(b"d", 0)])
     plan = Plan(2, [Record(name) for name in names], part)
     changes = [rewriting(plan), putting(plan, Record(b"b/a/d/e"), (b"", b"b", b"b/a", b"b/a/d"))]
@@ -319,7 +323,7 @@ def extension_cases():
         yield from in_versions(label, plan, changes, (version,))
 
 
-def refusal_cases():
+def order_cases():
     """The order of refusals: of any set of faults the first one in the order is told."""
     extended = Plan(3, [Record(b"a", skip_worktree=True), Record(b"b")])
     data = file_of(extended)
@@ -329,7 +333,7 @@ def refusal_cases():
         for size in range(1, len(order) + 1):
             for faults in itertools.combinations(order, size):
                 asked = 5 if 4 in faults else 2 if 21 in faults else 4
-                fields = {"room": 0 if 20 in faults else LIMIT >> 8}
+                fields = {"room": 0 if 20 in faults else 1000}
                 if 19 in faults:
                     fields["work"] = 8191
                 entry = entry_of(Record(b"" if 9 in faults else b"c", mode=0 if 7 in faults else REGULAR))
@@ -340,8 +344,17 @@ def refusal_cases():
                 request = Request(call, broken if 5 in faults else data, asked, **fields)
                 place = len(data) - 20 if faults[0] == 5 else 0
                 label = "-".join(map(str, faults))
-                yield Case(f"refusal/{call}-{label}", request, ("refused", faults[0], place))
+                yield Case(f"order/{call}-{label}", request, ("refused", faults[0], place))
+    # Every fault of a file comes before those of the request.
+    for seed in range(8):
+        for made in make_files.drawn(seed, 0):
+            if made.answer[0] == "refused":
+                wrong = Request("remove", made.data, 1, room=0, name=b"", stage=9)
+                yield Case(f"order/file-{made.name}", wrong, made.answer)
 
+
+def refusal_cases():
+    """Refusals of the request at their limits."""
     plan = Plan(2, [Record(b"a"), Record(b"b")])
     data = file_of(plan)
     changes = [rewriting(plan), putting(plan, Record(b"c")), removing(plan, b"b", 0)]
@@ -359,35 +372,30 @@ def refusal_cases():
         for change in changes:
             request = request_of(data, 0, change, work=work)
             yield Case(f"work/{work}-{change.label}", request, expected(change.after, 0))
-    # Every fault of a file comes before those of the request.
-    for seed in range(8):
-        for made in make_files.drawn(seed, 0):
-            if made.answer[0] == "refused":
-                wrong = Request("remove", made.data, 1, room=0, name=b"", stage=9)
-                yield Case(f"refusal/file-{made.name}", wrong, made.answer)
 
 
 def cases():
-    groups = (document_cases, place_cases, name_cases, number_cases, word_cases, tree_cases, extension_cases)
-    for group in groups + (refusal_cases,):
+    groups = (document_cases, place_cases, name_cases, number_cases, word_cases, tree_cases, part_tree_cases)
+    for group in groups + (extension_cases, order_cases, refusal_cases):
         yield from group()
 
 
 # ---- results of 16 MiB
 
 
-def filled(version: int, records: list, total: int, **fields) -> Plan:
-    """A file of `total` bytes: the name of a node, which has no limit, fills it."""
-    empty = Plan(version, records, Tree(b"", -1, [Tree(b"", -1)]), **fields)
+def filled(records: list, total: int, valid: bool = False) -> Plan:
+    """A file of version 2 and `total` bytes: the name of a node, which has no limit, fills it."""
+    counts = (len(records), 0) if valid else (-1, -1)
+    empty = Plan(2, records, Tree(b"", counts[0], [Tree(b"", counts[1])]))
     fill = b"x" * (total - len(file_of(empty)))
-    return replace(empty, tree=Tree(b"", -1, [Tree(fill, -1)]))
+    return replace(empty, tree=Tree(b"", counts[0], [Tree(fill, counts[1])]))
 
 
 def large():
     """Results at the limit and one byte longer. In version 4 an entry of the name a is one byte longer than in 2."""
     a, b, word = Record(b"a"), Record(b"b"), Record(b"b", intent_to_add=True)
     over = ("refused", 2, 0)
-    full = filled(2, [a], LIMIT)
+    full = filled([a], LIMIT)
     yield from in_versions("large/full", full, [rewriting(full), putting(full, a), removing(full, b"a", 0)], (2,))
     data = file_of(full)
     for room in (0, LIMIT, LIMIT + 1):
@@ -395,23 +403,23 @@ def large():
         yield from refusals(f"large/full-room-{room}", data, 2, [putting(full, b)], 2, room=room)
     yield from refusals("large/full", data, 2, [putting(full, word)], 21)
     yield from refusals("large/full", data, 4, [removing(full, b"c", 0)], 18, room=0)
-    nearly = filled(2, [a], LIMIT - 1)
+    nearly = filled([a], LIMIT - 1)
     yield from in_versions("large/one-less", nearly, [rewriting(nearly)], (4,))
-    # An entry of the name b has 64 bytes in version 2.
-    for total in (LIMIT - 64, LIMIT - 63):
-        plan = filled(2, [a], total)
+    # An entry of the name b has 64 bytes in version 2. A root that becomes invalid loses its 20 bytes, and 1 is -1.
+    for valid, total, answer in ((False, LIMIT - 64, None), (False, LIMIT - 63, over), (True, LIMIT - 45, None),
+                                 (True, LIMIT - 44, over)):
+        plan = filled([a], total, valid)
         change = putting(plan, b)
-        answer = expected(change.after, 2) if total == LIMIT - 64 else over
-        yield Case(f"large/put-{total}", request_of(file_of(plan), 2, change), answer)
+        yield Case(f"large/put-{total}", request_of(file_of(plan), 2, change), answer or expected(change.after, 2))
     # Names that share their beginning are short in version 4 alone.
     records = [Record(b"p" * 8000 + b"%03d" % k) for k in range(40)]
     for total in (LIMIT, LIMIT + 1):
-        plan = replace(filled(2, records, total), version=4)
+        plan = replace(filled(records, total), version=4)
         answer = expected(plan, 2) if total == LIMIT else over
         yield Case(f"large/from-version-4-{total}", Request("rewrite", file_of(plan), 2), answer)
     dropped = Plan(2, [a], others=((0, Extension(b"FILL", bytes(LIMIT - 104))),))
     yield from in_versions("large/dropped", dropped, [rewriting(dropped), putting(dropped, b)], (0, 4))
-    long = file_of(filled(2, [a], LIMIT + 1))
+    long = file_of(filled([a], LIMIT + 1))
     yield from refusals("large/longer", long, 5, [rewriting(full), removing(full, b"a", 0)], 2, room=0)
 
 
@@ -422,7 +430,7 @@ def near_name(rng: random.Random, plan: Plan) -> bytes:
     """A name at or near one of the file's names."""
     base = rng.choice([record.name for record in plan.records] + [b"a/b"])
     folder = base[: base.rfind(b"/") + 1]
-    how = rng.randrange(7)
+    how = rng.randrange(8)
     if how == 0:
         return base + rng.choice((b"/x", b"-", b"0", b"~", b"\x01", b"/x/y", b"/a"))
     if how == 1:
@@ -433,6 +441,8 @@ def near_name(rng: random.Random, plan: Plan) -> bytes:
         return folder + make_files.draw_component(rng)
     if how == 4:
         return folder + make_files.draw_component(rng) + b"/" + make_files.draw_component(rng)
+    if how == 5 and base[:-1] and not base[:-1].endswith((b"/", b".", b".git")):
+        return base[:-1]
     return base
 
 
