@@ -10,6 +10,7 @@ of the other fields. For a file that is refused, the refusal is the one named he
 Git runs with a HOME of its own, no user configuration and fixed dates, in a folder below TMPDIR that is removed.
 """
 
+import copy
 import os
 import random
 import re
@@ -33,6 +34,7 @@ class Snapshot(NamedTuple):
     debug: bytes = b""  # git ls-files --debug -z
     undo: bytes = b""  # git ls-files --resolve-undo -z
     extensions: tuple = ()  # signatures that the file must have
+    repository: Optional["Repository"] = None
 
 
 # ---- Git
@@ -68,10 +70,21 @@ class Repository:
         # One thread: else Git adds extensions by the number of processors.
         self.git("config", "index.threads", "1")
 
-    def git(self, *arguments, given: bytes = b"", may_fail: bool = False) -> bytes:
-        done = subprocess.run(
+    def copy(self, path: str) -> "Repository":
+        """A copy in another folder, the working tree included."""
+        shutil.copytree(self.path, path, symlinks=True)
+        other = copy.copy(self)
+        other.path = path
+        other.environment = dict(self.environment)
+        return other
+
+    def run(self, *arguments, given: bytes = b"") -> subprocess.CompletedProcess:
+        return subprocess.run(
             ["git", *arguments], cwd=self.path, env=self.environment, input=given, capture_output=True, check=False
         )
+
+    def git(self, *arguments, given: bytes = b"", may_fail: bool = False) -> bytes:
+        done = self.run(*arguments, given=given)
         if done.returncode != 0 and not may_fail:
             raise RuntimeError(f"git {arguments} in {self.name}: {done.stderr.decode(errors='replace')}")
         return done.stdout
@@ -108,17 +121,21 @@ class Repository:
         with open(os.path.join(self.path, ".git", "index"), "rb") as stream:
             return stream.read()
 
+    def install(self, index: bytes) -> None:
+        with open(os.path.join(self.path, ".git", "index"), "wb") as stream:
+            stream.write(index)
+
     def snapshot(self, name: str, refusal: Optional[int] = None, extensions: tuple = ()) -> Snapshot:
         data = self.index()
         title = f"{self.name}/{name}"
         if refusal is not None:
-            return Snapshot(title, data, refusal, extensions=extensions)
+            return Snapshot(title, data, refusal, extensions=extensions, repository=self)
         stage = self.git("ls-files", "--stage", "-z")
         debug = self.git("ls-files", "--cached", "--debug", "-z")
         undo = self.git("ls-files", "--resolve-undo", "-z")
         if self.index() != data:
             raise RuntimeError(f"{title}: looking at the index changed it")
-        return Snapshot(title, data, None, stage, debug, undo, extensions)
+        return Snapshot(title, data, None, stage, debug, undo, extensions, self)
 
 
 # ---- the scenes
@@ -379,9 +396,9 @@ def walks(root: str, version: int):
 SCENES = (everyday, conflicts, stages, names, links, trees, extensions, refused_kinds, walks)
 
 
-def snapshots(root: str):
-    for version in (2, 3, 4):
-        for scene in SCENES:
+def snapshots(root: str, versions: tuple = (2, 3, 4), scenes: tuple = SCENES):
+    for version in versions:
+        for scene in scenes:
             yield from scene(root, version)
 
 

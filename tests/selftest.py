@@ -1,31 +1,42 @@
-"""A test of the tests: it needs no listing program.
+"""A test of the tests: it needs no program of the library.
 
 It holds index_reader against the stored vectors, against the answers known from the making of files, against
-bytes written out by hand and against Git. Then it sees that the tests notice what they should: a row of wrong
-readings, each made from index_reader by one edit, and stand-in programs that are right, wrong or fail. The last
-line is 'N passed, M failed', and the exit status is 0 only where M is 0.
+bytes written out by hand and against Git; and index_writer against the answers known from the making of requests,
+against index_reader and against Git. Then it sees that the tests notice what they should: a row of wrong readings and
+writings, each made from index_reader or index_writer by one edit, and stand-in programs that are right, wrong or
+fail. The last line is 'N passed, M failed', and the exit status is 0 only where M is 0.
 """
 
 import hashlib
+import io
 import os
 import shlex
 import shutil
+import struct
 import subprocess
 import sys
 import tempfile
 import time
 import types
 
+import edit_requests
+import git_edits
 import git_files
 import index_reader
+import index_writer
 import layout
 import make_cases
+import make_edits
 import make_files
+import run_edits
 import run_listing
+import serve_edits
 from report import Report
+from wrong_edits import READER_EDITS, WRITER_EDITS
 
 HERE = os.path.dirname(os.path.abspath(__file__))
 SEEDS = range(0, 60)
+SCENES = (git_files.everyday, git_files.conflicts, git_files.stages, git_files.trees)  # that are edited
 
 
 # ---- the reader against what is known
@@ -124,144 +135,90 @@ def hand_written(report: Report) -> None:
         report.same(f"all fields of an entry, version {version}", [fields], [tuple(e) for e in read])
 
 
+# ---- the writer against what is known
+
+
+def edits(report: Report) -> None:
+    """The made requests: their answers, names and refusals. Those on large files are left to the runner."""
+    names, numbers = [], set()
+    for case in list(make_edits.cases()) + list(run_edits.drawn(range(0, 30), 12)):
+        request = case.request if case.request.room is not None else case.request._replace(room=run_edits.LONG)
+        answer = serve_edits.answer(request)
+        if case.answer is not None:
+            known = answer == case.answer
+            report.test(case.name, known, run_edits.told(case.answer, answer), run_edits.told(answer, case.answer))
+        names.append(case.name)
+        numbers.add(answer[1] if answer[0] == "refused" else 0)
+        sent = edit_requests.decode(io.BytesIO(edit_requests.encode(request)))
+        report.same(f"{case.name}: as it is spelled", request, sent)
+        spelled = edit_requests.decode_answer(io.BytesIO(edit_requests.encode_answer(answer)))
+        report.same(f"{case.name}: its answer as it is spelled", answer, spelled)
+    report.same("every request has a name of its own", len(names), len(set(names)))
+    report.same("every refusal occurs", set(range(22)) - {2}, numbers)
+
+
+def round_trips(report: Report) -> None:
+    """What is written of any records is read as these records, and is written again as it is."""
+    for file in make_files.every(range(0, 10)):
+        if index_reader.check(file.data)[0] == "refused":
+            continue
+        index = index_reader.read(file.data)
+        for version in (2, 3, 4):
+            if version == 2 and any(map(index_writer.needs_word, index.entries)):
+                continue
+            written = index_writer.write(version, index.entries, index.nodes, index.undo)
+            again = index_reader.read(written)
+            expected = index._replace(version=version, places=again.places, end=again.end, others=[])
+            report.same(f"{file.name}: records of version {version}", expected, again)
+            same = index_writer.rewrite(written, version, len(written))
+            report.same(f"{file.name}: version {version} again", ("done", written), same)
+
+
+def hand_written_edits(report: Report) -> None:
+    """The example of document 01 and one more, from bytes that are written out here."""
+
+    def seal(body: bytes) -> bytes:
+        return body + hashlib.sha1(body).digest()
+
+    def fixed(mode: str, object_name: bytes, flags: str) -> bytes:
+        return bytes(24) + bytes.fromhex(mode) + bytes(12) + object_name + bytes.fromhex(flags)
+
+    head = bytes.fromhex("44495243 00000002 00000003")
+    rows = [fixed("000081a4", b"\x11" * 20, "0003") + name + bytes(7) for name in (b"a-b", b"a/b", b"a/c")]
+    tree = b"TREE\0\0\0\x33\x003 1\n" + b"\x33" * 20 + b"a\x002 0\n" + b"\x34" * 20
+    file = seal(head + b"".join(rows) + tree)
+    report.same("rewrite, its own bytes", ("done", file), index_writer.rewrite(file, 0, len(file)))
+    entry = index_reader.entries(file)[2]
+    after = seal(head + b"".join(rows) + b"TREE\0\0\0\x0d\x00-1 1\na\x00-1 0\n")
+    report.same("put a/c", ("done", after), index_writer.put(file, 0, entry, len(after)))
+    report.same("put a/c, one byte short", ("refused", 20, 0), index_writer.put(file, 0, entry, len(after) - 1))
+    less = bytes.fromhex("44495243 00000002 00000002") + rows[1] + rows[2]
+    removed = seal(less + b"TREE\0\0\0\x20\x00-1 1\na\x002 0\n" + b"\x34" * 20)
+    report.same("remove a-b", ("done", removed), index_writer.remove(file, 2, b"a-b", 0, len(removed)))
+    packed = fixed("000081a4", b"\x11" * 20, "0003") + b"\0a-b\0"
+    packed += fixed("000081a4", b"\x11" * 20, "0003") + b"\x02/b\0"
+    packed += fixed("000081ed", b"\x22" * 20, "7003 4000") + b"\x01c\0"
+    word = entry._replace(mode=0o100755, object=b"\x22" * 20, stage=3, skip_worktree=True)
+    plain = seal(head[:11] + b"\2" + rows[0] + rows[1])
+    written = seal(bytes.fromhex("44495243 00000004 00000003") + packed)
+    report.same("put in version 4", ("done", written), index_writer.put(plain, 4, word, len(written)))
+    report.same("put in version 2", ("refused", 21, 0), index_writer.put(plain, 2, word, len(written)))
+
+
 # ---- wrong readings that the cases must notice
 
-# Each row edits index_reader in one place: what is wrong, the text that is there, the text in its place.
-EDITS = (
-    # document 01, "Easy errors"
-    ("padding of 0 to 7 bytes", "8 * ((at - place + len(name)) // 8) + 8", "8 * ((at - place + len(name) + 7) // 8)"),
-    ("the plain base-128 number for N", "(first - 128 + 1) * 128", "(first - 128) * 128"),
-    ("order by components", "(previous.name, previous.stage) >= (entry.name, entry.stage)",
-     "(previous.name.split(b'/'), previous.stage) >= (entry.name.split(b'/'), entry.stage)"),
-    ("the checksum serves as entry bytes", "read_entries(body, version", "read_entries(data, version"),
-    ("an object name after a negative count", "None, subtrees, ZERO_OBJECT", "None, subtrees, cursor.take(OBJECT)"),
-    # sizes
-    ("files of 31 bytes", "len(data) < HEADER + CHECKSUM", "len(data) < HEADER + CHECKSUM - 1"),
-    ("listing limit one less", "LISTING_LIMIT = 65_536", "LISTING_LIMIT = 65_535"),
-    ("listing limit one more", "LISTING_LIMIT = 65_536", "LISTING_LIMIT = 65_537"),
-    ("name limit one less", "NAME_LIMIT = 8_192", "NAME_LIMIT = 8_191"),
-    ("name limit one more", "NAME_LIMIT = 8_192", "NAME_LIMIT = 8_193"),
-    ("level limit one less", "LEVEL_LIMIT = 128", "LEVEL_LIMIT = 127"),
-    ("level limit one more", "LEVEL_LIMIT = 128", "LEVEL_LIMIT = 129"),
-    # the file
-    ("any signature", 'data[:4] != b"DIRC"', 'data[:3] != b"DIR"'),
-    ("version 1", "version not in (2, 3, 4)", "version not in (1, 2, 3, 4)"),
-    ("version 5", "version not in (2, 3, 4)", "version not in (2, 3, 4, 5)"),
-    ("checksum not looked at", "hashlib.sha1(body).digest() != data[-CHECKSUM:]", "False"),
-    ("place of 5 at the end", "Refused(5, len(body))", "Refused(5, len(data))"),
-    # entries
-    ("fixed part of 61 bytes", "place + FIXED > len(body)", "place + FIXED > len(body) + 1"),
-    ("mode 100664", "MODES = (0o100644, ", "MODES = (0o100664, 0o100644, "),
-    ("mode by its low 16 bits", "numbers[6] not in MODES", "numbers[6] & 0xffff not in MODES"),
-    ("extended bit in version 2", "if extended and version == 2", "if False"),
-    ("extended word may be missing", "if at + 2 > len(body):\n            raise Refused(6, place)\n        word",
-     "if at + 1 > len(body):\n            raise Refused(6, place)\n        word"),
-    ("reserved bit of the word", "word & 0x9FFF", "word & 0x1FFF"),
-    ("unused bits of the word", "word & 0x9FFF", "word & 0x9FFE"),
-    ("zero word refused", "if word & 0x9FFF:", "if word & 0x9FFF or not word:"),
-    ("length field not compared", " or length_field != min(len(name), LENGTH_MAX)", ""),
-    ("length field of 4094", "LENGTH_MAX = 4095", "LENGTH_MAX = 4094"),
-    ("one byte after the name not needed", "if stop + 1 > len(body)", "if stop > len(body)"),
-    ("a wrong length field is 8", "        raise Refused(9, place)\n\n    if version == 4",
-     "        raise Refused(8 if name_is_good(name) else 9, place)\n\n    if version == 4"),
-    ("names with NUL", ' or b"\\0" in name', ""),
-    ("empty components", '(b"", b".", b"..", b".git")', '(b".", b"..", b".git")'),
-    ("component .", '(b"", b".", b"..", b".git")', '(b"", b"..", b".git")'),
-    ("component ..", '(b"", b".", b"..", b".git")', '(b"", b".", b".git")'),
-    ("component .git", '(b"", b".", b"..", b".git")', '(b"", b".", b"..")'),
-    ("component .GIT refused", "component in (b", "component.lower() in (b"),
-    ("padding may be cut", "if after > len(body):\n            raise Refused(6, place)", "if False:\n            pass"),
-    ("padding not looked at", "any(body[stop:after])", "False"),
-    ("only the first byte of padding", "any(body[stop:after])", "body[stop]"),
-    ("N of three bytes", "if second >= 128:", "if False:"),
-    ("N above the previous length", "remove > previous_length", "remove > previous_length + 1"),
-    ("N of the previous length refused", "remove > previous_length", "remove >= previous_length > 0"),
-    ("equal entries", "previous.stage) >= (", "previous.stage) > ("),
-    ("order by name alone", "(previous.name, previous.stage) >= (entry.name, entry.stage)",
-     "previous.name >= entry.name"),
-    ("order by name, stages free", "(previous.name, previous.stage) >= (entry.name, entry.stage)",
-     "previous.name > entry.name"),
-    # extensions
-    ("extension one byte past the body", "if at > len(body)", "if at > len(body) + 1"),
-    ("13 before 12", "if at > len(body)", "if at > len(body) and 65 <= signature[0] <= 90"),
-    ("signature from @", 'ord("A") <= signature', 'ord("@") <= signature'),
-    ("signature up to [", '<= ord("Z")', '<= ord("[")'),
-    ("optional by all four bytes", 'not ord("A") <= signature[0] <= ord("Z")', "not signature.isalpha()"),
-    ("second TREE", "if tree is not None", "if False"),
-    ("second REUC", "if undo_records is not None", "if False"),
-    ("only neighbours are second", "others.append((signature, place))",
-     "others.append((signature, place)); tree = None"),
-    # the cache tree
-    ("bytes after the nodes", " or not cursor.finished()", ""),
-    ("any name of the root", 'found[0].name != b"" or ', ""),
-    ("empty node names", 'name == b"" or b"/" in name', 'b"/" in name'),
-    ("node names with /", 'name == b"" or b"/" in name', 'name == b""'),
-    ("node names up to a limit", 'name == b"" or b"/" in name', 'not 1 <= len(name) <= NAME_LIMIT or b"/" in name'),
-    ("node names under the rules on names", 'name == b"" or b"/" in name', 'not name_is_good(name) or b"/" in name'),
-    ("equal siblings", "if child in siblings", "if False"),
-    ("equal neighbours only", "siblings.add(child)", "siblings = {child}"),
-    ("equal siblings are 16", "if child in siblings:\n            raise cursor.refusal",
-     "if child in siblings:\n            raise Refused(16, cursor.refusal.place)"),
-    ("leading zeros", 'if digits[:1] == b"0" and text != b"0"', "if False"),
-    ("-0 allowed", 'and text != b"0"', 'and text not in (b"0", b"-0")'),
-    ("entry count one below its least", "-(2**31), 2**31 - 1", "-(2**31) - 1, 2**31 - 1"),
-    ("entry count from -1", "-(2**31), 2**31 - 1", "-1, 2**31 - 1"),
-    ("entry count of 2147483648", "-(2**31), 2**31 - 1", "-(2**31), 2**31"),
-    ("counts not compared with the entries", "node.count != len(below) or ", ""),
-    ("counts not compared with the sum", " or node.count != direct + in_subtrees", ""),
-    ("invalid under valid",
-     "if child.count is None:\n                    raise refusal\n                in_subtrees += child.count",
-     "in_subtrees += child.count or 0"),
-    ("counts below an invalid node not looked at", "after = judge(after, prefix",
-     "after = (judge if node.count is not None else skip)(after, prefix"),
-    ("counts of stage 0 only", "[entry.name for entry in found]",
-     "[entry.name for entry in found if entry.stage == 0]"),
-    ("counts of distinct names", "[entry.name for entry in found]", "sorted({entry.name for entry in found})"),
-    ("valid node without entries refused", "if node.count != len(below)",
-     "if k and not node.count or node.count != len(below)"),
-    ("counts by the beginning alone",
-     'names[bisect.bisect_left(names, prefix) : bisect.bisect_left(names, prefix[:-1] + b"0")]',
-     "[name for name in names if name.startswith(prefix[:-1])]"),
-    # resolve undo
-    ("record without a stage", "if modes == (0, 0, 0)", "if False"),
-    ("equal paths", "found[-1].path >= path", "found[-1].path > path"),
-    ("paths in any order", "found[-1].path >= path", "found[-1].path == path"),
-    ("paths of any kind", "if not name_is_good(path)", "if not path"),
-    ("modes with leading zeros", 'text == b"%o" % mode',
-     'text and set(text) <= set(b"01246") and int(text, 8) == mode'),
-    ("mode of a directory", "for mode in (0,) + MODES:\n        if text",
-     "for mode in (0, 0o40000) + MODES:\n        if text"),
-    ("object name for a missing stage", "cursor.take(OBJECT) if mode else ZERO_OBJECT", "cursor.take(OBJECT)"),
-    ("no records refused", "while not cursor.finished():\n        path",
-     "while not found or not cursor.finished():\n        path"),
-    # the listing
-    ("byte 127 not escaped", "byte > 126", "byte > 127"),
-    ("byte 126 escaped", "byte > 126", "byte > 125"),
-    ("byte 31 not escaped", "byte < 32", "byte < 31"),
-    ("byte 32 escaped", "byte < 32", "byte < 33"),
-    ("backslash not escaped", " or byte == 92", ""),
-    ("short escapes", "\\\\%03o", "\\\\%o"),
-    ("no LF after a refusal", 'b"refused %d at %d\\n"', 'b"refused %d at %d"'),
-    ("no LF at the end", 'b"resolve-undo none\\n"', 'b"resolve-undo none"'),
-    ("1 node", 'b"cache tree %d nodes\\n" % len(index.nodes)',
-     '(b"cache tree 1 node\\n" if len(index.nodes) == 1 else b"cache tree %d nodes\\n" % len(index.nodes))'),
-    ("no paths is none", "if index.undo is None:\n        lines", "if not index.undo:\n        lines"),
-    ("assume-valid as part of the stage", "stage = flags >> 12 & 3", "stage = flags >> 12 & 11"),
-    ("object names in capitals", "entry.object.hex().encode()", "entry.object.hex().upper().encode()"),
-)
 
-
-def edited_reader(old: str, new: str):
-    """The listing of index_reader with one edit."""
-    with open(os.path.join(HERE, "index_reader.py"), encoding="utf-8") as stream:
+def edited(name: str, old: str, new: str):
+    """The module of this name with one edit."""
+    with open(os.path.join(HERE, f"{name}.py"), encoding="utf-8") as stream:
         source = stream.read()
     if source.count(old) != 1:
-        raise ValueError(f"the text stands {source.count(old)} times in index_reader")
-    module = types.ModuleType("edited_reader")
+        raise ValueError(f"the text stands {source.count(old)} times in {name}")
+    module = types.ModuleType(f"edited_{name}")
     # Nodes below an invalid one are passed over by one of the edits.
     module.skip = lambda k, prefix: k + 1
-    exec(compile(source.replace(old, new), "edited_reader", "exec"), module.__dict__)
-    return module.listing
+    exec(compile(source.replace(old, new), f"edited_{name}", "exec"), module.__dict__)
+    return module
 
 
 def wrong_readings(report: Report) -> None:
@@ -276,14 +233,40 @@ def wrong_readings(report: Report) -> None:
         except (ValueError, IndexError, TypeError):
             return True
 
-    for what, old, new in EDITS:
+    for what, old, new in READER_EDITS:
         try:
-            listing_of = edited_reader(old, new)
+            listing_of = edited("index_reader", old, new).listing
         except ValueError as error:
             report.test(f"wrong reading: {what}", False, error)
             continue
         noticed = any(differs(listing_of, data, expected) for data, expected in cases)
         report.test(f"wrong reading is noticed: {what}", noticed)
+
+
+# ---- wrong writings that the requests must notice
+
+
+def wrong_writings(report: Report) -> None:
+    rows = list(run_edits.sent(make_edits.cases(), True))
+    rows += list(run_edits.sent(run_edits.drawn(range(0, 6), 12), False))
+    rows.sort(key=lambda one: len(one.request.data))
+
+    def differs(writer, one) -> bool:
+        try:
+            return serve_edits.answer(one.request, writer) != one.expected
+        except (ValueError, IndexError, TypeError, struct.error):
+            return True
+
+    for what, old, new in WRITER_EDITS:
+        try:
+            writer = edited("index_writer", old, new)
+        except ValueError as error:
+            report.test(f"wrong writing: {what}", False, error)
+            continue
+        noticed = any(differs(writer, one) for one in rows)
+        # Few of them need a result of 16 MiB.
+        noticed = noticed or any(differs(writer, one) for one in run_edits.sent(make_edits.large(), True))
+        report.test(f"wrong writing is noticed: {what}", noticed)
 
 
 # ---- stand-in programs
@@ -315,6 +298,39 @@ def stand_ins(report: Report) -> None:
         shutil.rmtree(folder)
 
 
+def edit_stand_ins(report: Report) -> None:
+    """Runs run_edits.py and git_edits.py on programs of a few lines: a right one passes, the others are noticed."""
+    folder = tempfile.mkdtemp(prefix="stand-in-")
+    serve = "serve_edits.main()"
+    drawn, few = ("--only", "drawn"), ("--only", "drawn", "--seeds", "0")
+    rows = (
+        ("right", serve, ("--only", "drawn", "--seeds", "0-9"), True),
+        ("one-answer", f"serve_edits.answer = lambda request: ('refused', 5, 12); {serve}", drawn, False),
+        ("input-bytes", f"serve_edits.answer = lambda request: ('done', request.data); {serve}", drawn, False),
+        ("wrong-check", f"index_reader.check = lambda data: ('refused', 5, 12); {serve}", drawn, False),
+        ("wrong-status", f"{serve}; sys.exit(3)", few, False),
+        ("wrong-error-output", f"{serve}; print('warning', file=sys.stderr)", few, False),
+        ("one-answer-too-many", f"{serve}; print('refused 1 0')", few, False),
+        ("one-request", "serve_edits.decode(sys.stdin.buffer); sys.exit(1)", drawn, False),
+        ("silent", "pass", drawn, False),
+    )
+    scenes = (("right", "links", True), ("input-bytes", "links", False), ("silent", "links", False))
+    try:
+        for name, line, options, good in rows:
+            path = os.path.join(folder, name)
+            code = f"import sys; sys.path.insert(0, {HERE!r}); import index_reader, serve_edits; {line}"
+            with open(path, "w", encoding="utf-8") as stream:
+                stream.write(f"#!/bin/sh\nexec {shlex.quote(sys.executable)} -B -c {shlex.quote(code)}\n")
+            os.chmod(path, 0o755)
+            judge(report, f"{name}, edits", ["run_edits.py", path, *options], good)
+        for name, scene, good in scenes:
+            judge(report, f"{name}, Git and edits", ["git_edits.py", os.path.join(folder, name), "--only", scene], good)
+        for runner in ("run_edits.py", "git_edits.py"):
+            judge(report, f"missing program, {runner}", [runner, os.path.join(folder, "missing")], False)
+    finally:
+        shutil.rmtree(folder)
+
+
 def judge(report: Report, name: str, arguments: list, good: bool) -> None:
     command = [sys.executable, "-B", os.path.join(HERE, arguments[0]), *arguments[1:]]
     done = subprocess.run(command, stdin=subprocess.DEVNULL, capture_output=True, text=True, check=False)
@@ -335,6 +351,12 @@ def main() -> int:
         ("Git", lambda counted: git_files.run(index_reader.listing, counted)),
         ("wrong readings", wrong_readings),
         ("stand-in programs", stand_ins),
+        ("made requests", edits),
+        ("round trips", round_trips),
+        ("hand-written bytes of edits", hand_written_edits),
+        ("Git and edits", lambda counted: git_edits.run(serve_edits.answer, counted, (4,), SCENES)),
+        ("wrong writings", wrong_writings),
+        ("stand-in programs of edits", edit_stand_ins),
     )
     for name, group in groups:
         before, start = report.passed + report.failed, time.monotonic()

@@ -22,6 +22,36 @@ pub struct CheckAnswer {
     pub has_undo: bool,
 }
 
+/// The answer of a call that writes: a refusal's number, 0 for none, and its place; or the number of bytes written.
+#[repr(C)]
+#[derive(Clone, Copy, Debug, PartialEq, Eq)]
+pub struct WriteAnswer {
+    pub refusal: u32,
+    pub place: usize,
+    pub length: usize,
+}
+
+/// The fields of an entry but its name.
+#[repr(C)]
+#[derive(Clone, Copy, Debug, Default, PartialEq, Eq)]
+pub struct Fields {
+    pub ctime_seconds: u32,
+    pub ctime_nanoseconds: u32,
+    pub mtime_seconds: u32,
+    pub mtime_nanoseconds: u32,
+    pub dev: u32,
+    pub ino: u32,
+    pub mode: u32,
+    pub uid: u32,
+    pub gid: u32,
+    pub size: u32,
+    pub object: [u8; DIGEST],
+    pub assume_valid: bool,
+    pub stage: u32,
+    pub skip_worktree: bool,
+    pub intent_to_add: bool,
+}
+
 extern "C" {
     /// Checks the `length` bytes at `file`; `work` is a workspace of `room` bytes, which must not overlap the file.
     pub fn nerupazhil_check(
@@ -30,6 +60,46 @@ extern "C" {
         work: *mut u8,
         room: usize,
     ) -> CheckAnswer;
+
+    /// Writes the file's records in the version asked for to `out`, which has `out_length` bytes. None of what is lent
+    /// to a call that writes may overlap another part of it.
+    pub fn nerupazhil_rewrite(
+        file: *const u8,
+        length: usize,
+        work: *mut u8,
+        room: usize,
+        out: *mut u8,
+        out_length: usize,
+        asked: u32,
+    ) -> WriteAnswer;
+
+    /// The same with one entry in place of the one of its name and stage, or added.
+    pub fn nerupazhil_put(
+        file: *const u8,
+        length: usize,
+        work: *mut u8,
+        room: usize,
+        out: *mut u8,
+        out_length: usize,
+        asked: u32,
+        name: *const u8,
+        name_length: usize,
+        fields: Fields,
+    ) -> WriteAnswer;
+
+    /// The same without the entry of a name and stage.
+    pub fn nerupazhil_remove(
+        file: *const u8,
+        length: usize,
+        work: *mut u8,
+        room: usize,
+        out: *mut u8,
+        out_length: usize,
+        asked: u32,
+        name: *const u8,
+        name_length: usize,
+        stage: u32,
+    ) -> WriteAnswer;
 
     /// Writes the SHA-1 digest of the `length` bytes at `bytes` to `out`. `bytes` may be null where `length` is 0.
     pub fn nerupazhil_sha1(bytes: *const u8, length: usize, out: *mut [u8; DIGEST]);
