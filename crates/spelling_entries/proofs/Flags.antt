@@ -13,7 +13,7 @@ use Rattle.format.specs.Reader.{isSet, okWord}
 use Rattle.format_laws.proofs.Tests.{and-inv, and-both, by-test}
 use Rattle.format_laws.proofs.Numbers.{bit-below}
 
-bit-isSet : (b x : ℕ) → bit (isSet b x) ≡ x / b % 2
+pub bit-isSet : (b x : ℕ) → bit (isSet b x) ≡ x / b % 2
 unfolding isSet
 bit-isSet b x =
     by-test (eqb (x / b % 2) 1)

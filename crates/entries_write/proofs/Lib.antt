@@ -1,0 +1,5 @@
+-- Laws of entries that are written.
+pub mod Names
+pub mod Words
+pub mod Lists
+pub mod Runs

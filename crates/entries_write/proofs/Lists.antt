@@ -1,0 +1,58 @@
+-- Laws of entries that are written: those in front, then the others.
+use mathlib.Core.Path.{_≡_, refl, sym, ap, _∙_}
+use mathlib.Core.List.{List, [], _∷_, _++_, append-assoc, append-nil}
+use mathlib.Core.Bool.{Bool, true, false, cond, _||_}
+use Prim.Native.Nat.{ℕ}
+use lib.Dec.{eqb}
+use Rattle.format.specs.Records.{Entry}
+use Rattle.format.specs.Writer.{needsWord, writeName, writeRest, writeEntry, writeEntries}
+use Rattle.format.specs.Requests.{anyWord}
+use Rattle.entries_write.specs.Parts.{lastName}
+
+pub entries-append :
+    (w v : ℕ) (p : List ℕ) (xs ys : List Entry) → writeEntries w v p (xs ++ ys) ≡ writeEntries w v p xs ++ writeEntries w v (lastName p xs) ys
+unfolding writeEntries lastName
+entries-append w v p [] ys = refl
+entries-append w v p (x ∷ xs) ys =
+    ap (λ (s : List ℕ). writeEntry w v p x ++ s) (entries-append w v (x .name) xs ys) ∙ sym (append-assoc (writeEntry w v p x) (writeEntries w v (x .name) xs) _)
+
+pub entries-one : (w v : ℕ) (p : List ℕ) (x : Entry) → writeEntries w v p (x ∷ []) ≡ writeEntry w v p x
+unfolding writeEntries
+entries-one w v p x = append-nil (writeEntry w v p x)
+
+or-assoc : (a b c : Bool) → (a || (b || c)) ≡ ((a || b) || c)
+or-assoc true b c = refl
+or-assoc false b c = refl
+
+or-false : (a : Bool) → (a || false) ≡ a
+or-false true = refl
+or-false false = refl
+
+pub anyWord-append : (xs ys : List Entry) → anyWord (xs ++ ys) ≡ (anyWord xs || anyWord ys)
+unfolding anyWord
+anyWord-append [] ys = refl
+anyWord-append (x ∷ xs) ys = ap (λ (t : Bool). needsWord x || t) (anyWord-append xs ys) ∙ or-assoc (needsWord x) (anyWord xs) (anyWord ys)
+
+pub anyWord-one : (x : Entry) → anyWord (x ∷ []) ≡ needsWord x
+unfolding anyWord
+anyWord-one x = or-false (needsWord x)
+
+pub lastName-append : (p : List ℕ) (xs ys : List Entry) → lastName p (xs ++ ys) ≡ lastName (lastName p xs) ys
+unfolding lastName
+lastName-append p [] ys = refl
+lastName-append p (x ∷ xs) ys = lastName-append (x .name) xs ys
+
+pub lastName-one : (p : List ℕ) (x : Entry) → lastName p (x ∷ []) ≡ x .name
+unfolding lastName
+lastName-one p x = refl
+
+-- versions 2 and 3 write the same
+module _ (w v v′ : ℕ) (same : eqb v 4 ≡ eqb v′ 4) where
+  entry-version : (p : List ℕ) (e : Entry) → writeEntry w v p e ≡ writeEntry w v′ p e
+  unfolding writeEntry writeRest writeName
+  entry-version p e = rw same
+
+  pub entries-version : (p : List ℕ) (es : List Entry) → writeEntries w v p es ≡ writeEntries w v′ p es
+  unfolding writeEntries
+  entries-version p [] = refl
+  entries-version p (e ∷ es) = rw (entry-version p e, entries-version (e .name) es)

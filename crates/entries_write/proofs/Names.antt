@@ -1,0 +1,99 @@
+-- Laws of names that are written: the number N, padding, the rest of a name.
+use mathlib.Core.Path.{_≡_, refl, sym, ap, _∙_}
+use mathlib.Core.List.{List, [], _∷_, _++_}
+use mathlib.Core.Bool.{Bool, true, false, cond}
+use Prim.Native.Nat.{ℕ, suc, _+_, _-_, _/_, _%_, _≤_, _<_}
+use native.Mathlib.Omega.{arith}
+use lib.ListN.{length, take, drop, replicate, length-append, length-drop, length-replicate}
+use lib.Seq.{length-take-le, take-all}
+use lib.Dec.{eqb}
+use borrow.Author.Tests.{eq-eqb, ne-eqb}
+use Rattle.format.specs.Bytes.{putN}
+use Rattle.format.specs.Names.{common}
+use Rattle.format.specs.Layout.{entryLength}
+use Rattle.format.specs.Writer.{writePlain, writePacked, writeName}
+use Rattle.spelling_entries.proofs.Bytes.{putN-one, putN-two}
+use Rattle.format_laws.proofs.Tests.{by-cond}
+use Rattle.output.specs.Output.{Wrote}
+use Rattle.output.proofs.Laws.{wrote-then}
+use Rattle.entries_run.specs.declared.Cursor.{Cursor}
+use Rattle.entries_run.specs.Steps.{nameAt, Inside}
+use Rattle.entries_write.specs.Parts.{Kept, Beside, NameWritten}
+
+-- ---- the common beginning of two names, and a name at its place
+
+common-by : (s t : List ℕ) (b : Bool) (n : ℕ) → n ≤ length s → n ≤ length t → (cond b (suc n) 0 ≤ suc (length s)) × (cond b (suc n) 0 ≤ suc (length t))
+common-by s t true n h l = omega arith
+common-by s t false n h l = omega arith
+
+pub common-le : (s t : List ℕ) → (common s t ≤ length s) × (common s t ≤ length t)
+unfolding common
+common-le [] t = omega arith
+common-le (x ∷ s) [] = omega arith
+common-le (x ∷ s) (y ∷ t) = let (h, l) = common-le s t in common-by s t (eqb x y) (common s t) h l
+
+pub nameAt-length : (v : ℕ) (b work : List ℕ) (c : Cursor) → Inside b c → 8192 ≤ length work → length (nameAt v b work (c .start) (c .len)) ≡ c .len
+unfolding nameAt
+nameAt-length v b work c h room =
+    by-cond
+    (λ s. length s ≡ c .len)
+    (eqb v 4)
+    (take (c .len) work)
+    (take (c .len) (drop (c .start) b))
+    (λ packed. length-take-le (c .len) work (omega arith))
+    (λ plain. let more : c .len ≤ length (drop (c .start) b) = simp length-drop (omega arith) in length-take-le (c .len) (drop (c .start) b) more)
+
+-- ---- the number N
+
+pub number-one : (out out′ : List ℕ) (at n r : ℕ) → n < 128 → Wrote out at (n ∷ []) out′ r → Wrote out at (putN n) out′ r × (r ≤ at + 2)
+number-one out out′ at n r h x = let e = x .end in (rw (putN-one n h) x, omega arith)
+
+pub number-two :
+    (out out′ out″ : List ℕ) (at n p r : ℕ) → 128 ≤ n → Wrote out at ((128 + n / 128 - 1) ∷ []) out′ p → Wrote out′ p (n % 128 ∷ []) out″ r →
+    Wrote out at (putN n) out″ r × (r ≤ at + 2)
+number-two out out′ out″ at n p r h x y =
+    let e = x .end in
+    let f = y .end in
+    (rw (putN-two n h) (wrote-then out ((128 + n / 128 - 1) ∷ []) (n % 128 ∷ []) out′ out″ at p r x y), omega arith)
+
+-- ---- the name
+
+pub plain-wrote :
+    (out name out′ out″ : List ℕ) (at f all p r : ℕ) → all ≡ entryLength f (length name) → all ≤ f + length name + 8 → length name ≤ 8192 →
+    Wrote out at name out′ p → Wrote out′ p (replicate (all - (f + length name)) 0) out″ r → Wrote out at (writePlain f name) out″ r × (r ≤ at + 8200)
+unfolding writePlain
+plain-wrote out name out′ out″ at f all p r is padded short x y =
+    let pad : List ℕ = replicate (all - (f + length name)) 0 in
+    let long : length pad ≡ all - (f + length name) = length-replicate (all - (f + length name)) 0 in
+    let e = x .end in
+    let g : r ≡ p + length pad = y .end in
+    (rw (sym is) (wrote-then out name pad out′ out″ at p r x y), omega arith)
+
+pub packed-wrote :
+    (out out′ out″ out‴ name : List ℕ) (at previous kept p q r : ℕ) → Kept name previous kept →
+    Wrote out at (putN (previous - kept)) out′ p × (p ≤ at + 2) → Wrote out′ p (take (length name - kept) (drop kept name)) out″ q → Wrote out″ q (0 ∷ []) out‴ r →
+    NameWritten out at name previous kept (λ s. writePacked s name) out‴ r
+unfolding writePacked
+packed-wrote out out′ out″ out‴ name at previous kept p q r h (x, few) y z =
+    let long : length (drop kept name) ≡ length name - kept = length-drop kept name in
+    let all : length (drop kept name) ≤ length name - kept = omega arith in
+    let end : Wrote out′ p (drop kept name) out″ q = rw (take-all (length name - kept) (drop kept name) all) at y in
+    let rest : Wrote out′ p (drop kept name ++ (0 ∷ [])) out‴ r = wrote-then out′ (drop kept name) (0 ∷ []) out″ out‴ p q r end z in
+    let e = end .end in
+    let f = z .end in
+    let short = h .short in
+    record {
+      wrote = λ s beside. rw (beside .long, beside .shared) (wrote-then out (putN (previous - kept)) (drop kept name ++ (0 ∷ [])) out′ out‴ at p r x rest);
+      near = omega arith;
+    }
+
+module _ (out out′ name : List ℕ) (at version f previous kept r : ℕ) where
+  pub name-packed : version ≡ 4 → NameWritten out at name previous kept (λ s. writePacked s name) out′ r
+      → NameWritten out at name previous kept (λ s. writeName version f s name) out′ r
+  unfolding writeName
+  name-packed e h = rw (eq-eqb version 4 e) h
+
+  pub name-plain : (version ≡ 4 → ⊥) → Wrote out at (writePlain f name) out′ r × (r ≤ at + 8200)
+      → NameWritten out at name previous kept (λ s. writeName version f s name) out′ r
+  unfolding writeName
+  name-plain e (h, few) = rw (ne-eqb version 4 e) (record { wrote = λ s beside. h; near = few })

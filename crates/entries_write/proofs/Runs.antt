@@ -1,0 +1,1 @@
+-- Laws of entries from a cursor on, one step after another, each written.

@@ -1,0 +1,126 @@
+-- Laws of the flags, of the extended word, and of the bytes before them.
+use mathlib.Core.Path.{_≡_, refl, sym, ap, _∙_}
+use mathlib.Core.List.{List, [], _∷_, _++_, append-assoc}
+use mathlib.Core.Bool.{Bool, true, false, cond, _||_}
+use Prim.Native.Nat.{ℕ, _+_, _-_, _*_, _/_, _%_, _≤_, _<_}
+use native.Mathlib.Omega.{arith}
+use lib.ListN.{length, take, drop, length-append, length-drop}
+use lib.Seq.{take-add, drop-drop, length-take-le}
+use Rattle.format.specs.Bytes.{Bytes, be32s, put16, put32s}
+use Rattle.format.specs.Names.{lengthField}
+use Rattle.format.specs.Records.{Entry}
+use Rattle.format.specs.Layout.{bit, fixedLength, flagsOf, wordOf}
+use Rattle.format.specs.Reader.{isSet, entryOf}
+use Rattle.format.specs.Writer.{needsWord, writeName, writeRest, writeEntry}
+use Rattle.format_laws.proofs.Numbers.{length-put16, bytes-drop}
+use Rattle.spelling_entries.proofs.Bytes.{put32s-be32s}
+use Rattle.spelling_entries.proofs.Flags.{bit-isSet}
+use Rattle.output.specs.Output.{Wrote}
+use Rattle.output.proofs.Laws.{wrote-then}
+use Rattle.entries_run.specs.declared.Step.{Step}
+use Rattle.entries_run.specs.Steps.{nameAt, entryAt, Placed}
+use Rattle.entries_run.proofs.Steps.{entryAt-name}
+use Rattle.entries_write.specs.Parts.{Kept, Beside, Told, NameWritten, RestWritten, EntryWritten}
+
+-- ---- the extended word is there where it is not zero
+
+word-by : (s t : Bool) → bit s * 16384 + bit t * 8192 ≡ 0 → (s || t) ≡ false
+word-by true t h = absurd (omega arith)
+word-by false true h = absurd (omega arith)
+word-by false false h = refl
+
+word-or : (s t : Bool) → (bit s * 16384 + bit t * 8192 ≡ 0 → ⊥) → (s || t) ≡ true
+word-or true t h = refl
+word-or false true h = refl
+word-or false false h = absurd (h refl)
+
+pub needs-none : (e : Entry) → wordOf e ≡ 0 → needsWord e ≡ false
+unfolding wordOf needsWord
+needs-none e h = word-by (e .skipWorktree) (e .intentToAdd) h
+
+pub needs-one : (e : Entry) → (wordOf e ≡ 0 → ⊥) → needsWord e ≡ true
+unfolding wordOf needsWord
+needs-one e h = word-or (e .skipWorktree) (e .intentToAdd) h
+
+-- ---- what follows the object name
+
+module _ (e : Entry) (base word : ℕ) (name : List ℕ) (told : Told e base word name) where
+  flags-without : flagsOf false e ≡ base + lengthField (length name)
+  unfolding flagsOf
+  flags-without = let is = told .flags in rw (told .name-is) (omega arith)
+
+  flags-with : flagsOf true e ≡ base + lengthField (length name) + 16384
+  unfolding flagsOf
+  flags-with = let is = told .flags in rw (told .name-is) (omega arith)
+
+module _ (out name : List ℕ) (at version base word previous kept : ℕ) (out′ : List ℕ) (p : ℕ) where
+  pub rest-short : (out″ : List ℕ) (r : ℕ) → word ≡ 0 → Wrote out at (put16 (base + lengthField (length name))) out′ p
+      → NameWritten out′ p name previous kept (λ s. writeName version 62 s name) out″ r
+      → RestWritten out at version base word name previous kept out″ r
+  unfolding writeRest fixedLength
+  rest-short out″ r zero x y =
+      let e : p ≡ at + 2 = x .end ∙ rw length-put16 refl in
+      let near = y .near in
+      record {
+        wrote = λ entry s told beside.
+          let none : needsWord entry ≡ false = needs-none entry (told .word-is ∙ zero) in
+          rw (none, flags-without entry base word name told, told .name-is) (wrote-then out (put16 (base + lengthField (length name))) _ out′ out″ at p r x (y .wrote s beside));
+        near = omega arith;
+      }
+
+  pub rest-long : (out″ out‴ : List ℕ) (q r : ℕ) → (word ≡ 0 → ⊥) → Wrote out at (put16 (base + lengthField (length name) + 16384)) out′ p
+      → Wrote out′ p (put16 word) out″ q
+      → NameWritten out″ q name previous kept (λ s. writeName version 64 s name) out‴ r
+      → RestWritten out at version base word name previous kept out‴ r
+  unfolding writeRest fixedLength
+  rest-long out″ out‴ q r other x y z =
+      let e : p ≡ at + 2 = x .end ∙ rw length-put16 refl in
+      let f : q ≡ p + 2 = y .end ∙ rw length-put16 refl in
+      let near = z .near in
+      record {
+        wrote = λ entry s told beside.
+          let one : needsWord entry ≡ true = needs-one entry (λ none. other (sym (told .word-is) ∙ none)) in
+          rw
+          (one, flags-with entry base word name told, told .word-is, told .name-is)
+          (wrote-then out (put16 (base + lengthField (length name) + 16384)) _ out′ out‴ at p r x
+          (wrote-then out′ (put16 word) _ out″ out‴ p q r y (z .wrote s beside)));
+        near = omega arith;
+      }
+
+-- ---- an entry that a step read
+
+-- the first 60 bytes of an entry are its numbers and its object name
+fixed-bytes : (s : List ℕ) → Bytes s → 60 ≤ length s → take 60 s ≡ put32s (be32s s 0 10) ++ take 20 (drop 40 s)
+fixed-bytes s bytes long = take-add 40 20 s ∙ rw (put32s-be32s s 0 10 bytes (omega arith)) refl
+
+pub entry-told : (v : ℕ) (b work : List ℕ) (from : ℕ) (st : Step) (name : List ℕ) → nameAt v b work (st .next .start) (st .next .len) ≡ name
+    → Told (entryAt v b work from st) (st .flags / 32768 % 2 * 32768 + st .flags / 4096 % 4 * 4096) (st .word / 8192 % 4 * 8192) name
+unfolding entryOf wordOf
+entry-told v b work from st name is =
+    record {
+      flags = rw (bit-isSet 32768 (st .flags)) refl;
+      word-is = rw (bit-isSet 16384 (st .word), bit-isSet 8192 (st .word)) (omega arith);
+      name-is = is;
+    }
+
+module _ (v : ℕ) (b work : List ℕ) (from : ℕ) (st : Step) (version previous kept : ℕ) (out out′ out″ : List ℕ) (at p r : ℕ) where
+  pub entry-wrote : (name : List ℕ) → nameAt v b work (st .next .start) (st .next .len) ≡ name → Bytes b → from + 62 ≤ length b
+      → Wrote out at (take 60 (drop from b)) out′ p
+      → RestWritten out′ p version (st .flags / 32768 % 2 * 32768 + st .flags / 4096 % 4 * 4096) (st .word / 8192 % 4 * 8192) name previous kept out″ r
+      → EntryWritten out at version (entryAt v b work from st) previous kept out″ r
+  unfolding writeEntry entryOf
+  entry-wrote name is bytes there x y =
+      let s : List ℕ = drop from b in
+      let long : length s ≡ length b - from = length-drop from b in
+      let enough : 60 ≤ length s = omega arith in
+      let size : length (take 60 s) ≡ 60 = length-take-le 60 s enough in
+      let e = x .end in
+      let near = y .near in
+      let told = entry-told v b work from st name is in
+      let parts : take 60 s ≡ put32s (be32s s 0 10) ++ take 20 (drop 40 s) = fixed-bytes s (bytes-drop from b bytes) enough in
+      record {
+        wrote = λ q beside.
+          let rest = y .wrote (entryAt v b work from st) q told (rw is at beside) in
+          rw (← append-assoc (put32s (be32s s 0 10)) (take 20 (drop 40 s)) _, ← parts) (wrote-then out (take 60 s) _ out′ out″ at p r x rest);
+        near = omega arith;
+      }

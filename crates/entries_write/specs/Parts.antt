@@ -1,0 +1,77 @@
+-- What functions that write entries are told, and what they leave behind.
+use mathlib.Core.Path.{_≡_}
+use mathlib.Core.List.{List, [], _∷_}
+use Prim.Native.Nat.{ℕ, _+_, _*_, _≤_}
+use lib.ListN.{length, take, drop}
+use Rattle.format.specs.Names.{common}
+use Rattle.format.specs.Records.{Entry}
+use Rattle.format.specs.Layout.{bit, wordOf}
+use Rattle.format.specs.Reading.{good}
+use Rattle.format.specs.Writer.{needsWord, writeRest, writeEntry, writeEntries}
+use Rattle.format.specs.Requests.{anyWord}
+use Rattle.output.specs.Output.{Wrote}
+use Rattle.entries_run.specs.declared.Cursor.{Cursor}
+use Rattle.entries_run.specs.Steps.{keyAt, Inside, runFrom}
+use Rattle.entries_write.specs.declared.Progress.{Progress}
+
+-- ---- one entry
+
+-- a name after one of so many bytes, of which it keeps the first
+pub record Kept (name : List ℕ) (previous kept : ℕ) : Type 0 where
+  pub short : length name ≤ 8192
+  pub before-short : previous ≤ 8192
+  pub fits : kept ≤ previous
+  pub within : kept ≤ length name
+
+-- the name before has so many bytes, and so many in common with the name
+pub record Beside (p name : List ℕ) (previous kept : ℕ) : Type 0 where
+  pub long : length p ≡ previous
+  pub shared : common p name ≡ kept
+
+-- an entry by its flags without the extended bit and the length field, its extended word, and its name
+pub record Told (e : Entry) (base word : ℕ) (name : List ℕ) : Type 0 where
+  pub flags : bit (e .assumeValid) * 32768 + e .stage * 4096 ≡ base
+  pub word-is : wordOf e ≡ word
+  pub name-is : e .name ≡ name
+
+-- the bytes of a name were written, after any name before that is so beside it
+pub record NameWritten (out : List ℕ) (at : ℕ) (name : List ℕ) (previous kept : ℕ) (bytes : List ℕ → List ℕ) (out′ : List ℕ) (r : ℕ) : Type 0 where
+  pub wrote : (p : List ℕ) → Beside p name previous kept → Wrote out at (bytes p) out′ r
+  pub near : r ≤ at + 8200
+
+-- what follows the object name of any entry that is so told was written
+pub record RestWritten (out : List ℕ) (at version base word : ℕ) (name : List ℕ) (previous kept : ℕ) (out′ : List ℕ) (r : ℕ) : Type 0 where
+  pub wrote : (e : Entry) (p : List ℕ) → Told e base word name → Beside p name previous kept → Wrote out at (writeRest 20 version p (needsWord e) e) out′ r
+  pub near : r ≤ at + 8204
+
+-- the entry e was written
+pub record EntryWritten (out : List ℕ) (at version : ℕ) (e : Entry) (previous kept : ℕ) (out′ : List ℕ) (r : ℕ) : Type 0 where
+  pub wrote : (p : List ℕ) → Beside p (e .name) previous kept → Wrote out at (writeEntry 20 version p e) out′ r
+  pub near : r ≤ at + 8264
+
+-- ---- entries
+
+-- the name after which the next entry stands: that of the last of es, or p where there is none
+unfoldable pub lastName : List ℕ → List Entry → List ℕ
+lastName p [] = p
+lastName p (e ∷ es) = lastName (e .name) es
+
+-- the entries es, from a cursor on, were written, and rest follow
+pub record Passed
+    (v : ℕ) (b work : List ℕ) (c : Cursor) (version : ℕ) (out : List ℕ) (at j : ℕ) (es rest : List Entry) (work′ out′ : List ℕ) (r : Progress)
+    : Type 0 where
+  pub wrote : Wrote out at (writeEntries 20 version (keyAt v b work c .name) es) out′ (r .at)
+  pub extended : r .extended ≡ anyWord es
+  pub last : keyAt v b work′ (r .cursor) .name ≡ lastName (keyAt v b work c .name) es
+  pub taken : ℕ
+  pub left : runFrom v j b work′ (r .cursor) ≡ good rest taken
+
+-- what the writing of n entries leaves behind
+pub record EntriesWritten (v : ℕ) (b work : List ℕ) (c : Cursor) (n version : ℕ) (out : List ℕ) (at : ℕ) (work′ out′ : List ℕ) (r : Progress) : Type 0 where
+  pub passed : (j : ℕ) (es : List Entry) (m : ℕ) → runFrom v (n + j) b work c ≡ good es m
+      → Passed v b work c version out at j (take n es) (drop n es) work′ out′ r
+  pub inside : Inside b (r .cursor)
+  pub near : r .at ≤ at + n * 8264
+  pub long : length work′ ≡ length work
+  pub past : drop 8192 work′ ≡ drop 8192 work
+  pub out-long : length out′ ≡ length out

@@ -1,0 +1,145 @@
+// Entries of a body, written in a version: the name, what follows the object name, an entry that a step read, entries one after another.
+ghost use mathlib.Core.Path.{_≡_};
+ghost use mathlib.Core.Bool.{_||_};
+ghost use Prim.Native.Nat.{_+_, _*_, _≤_, _<_};
+ghost use lib.ListN.{length};
+ghost use Rattle.format.specs.Bytes.{putN};
+ghost use Rattle.format.specs.Reader.{isSet};
+ghost use Rattle.format.specs.Writer.{writePlain, writePacked, writeName};
+ghost use Rattle.output.specs.Output.{Wrote};
+ghost use Rattle.entries_run.specs.Steps.{entryAt, Inside, Placed};
+ghost use Rattle.entries_write.specs.Parts.{Kept, NameWritten, RestWritten, EntryWritten, EntriesWritten};
+use entries_run::Cursor;
+use entries_run::Next;
+use entries_run::Step;
+
+// Where writing stands: the cursor in the body, the place in the output, and whether an entry so far needs the extended word.
+pub struct Progress {
+    pub cursor: Cursor,
+    pub at: usize,
+    pub extended: bool,
+}
+
+// The number N of version 4.
+pub fn put_number(out: &mut [u8], at: usize, n: usize) -> usize
+    requires { ⌜ (at < 1125899906842624) × (n ≤ 8192) ⌝ }
+    ensures { λ r. ⌜ Wrote (now (out .entry)) at (putN n) (now (out .exit)) r × (r ≤ at + 2) ⌝ }
+{
+    if n < 128 {
+        return output::put_byte(out, at, n as u8);
+    }
+    let middle = output::put_byte(&mut *out, at, (128 + n / 128 - 1) as u8);
+    output::put_byte(out, middle, (n % 128) as u8)
+}
+
+// A name of versions 2 and 3, of an entry with f bytes before it: 1 to 8 NULs follow.
+pub fn put_plain(out: &mut [u8], at: usize, f: usize, name: &[u8]) -> usize
+    requires { ⌜ (at + 8200 ≤ 1125899906842624) × (f ≤ 64) × (length (now name) ≤ 8192) ⌝ }
+    ensures { λ r. ⌜ Wrote (now (out .entry)) at (writePlain f (now (name .entry))) (now (out .exit)) r × (r ≤ at + 8200) ⌝ }
+{
+    let n = name.len();
+    let all = entries::entry_length(f, n);
+    let end = output::put_bytes(&mut *out, at, name);
+    output::put_nuls(out, end, all - (f + n))
+}
+
+// A name of version 4, after one of so many bytes, of which it keeps the first.
+pub fn put_packed(out: &mut [u8], at: usize, previous: usize, kept: usize, name: &[u8]) -> usize
+    requires { ⌜ (at + 8200 ≤ 1125899906842624) × Kept (now name) previous kept ⌝ }
+    ensures { λ r. ⌜ NameWritten (now (out .entry)) at (now (name .entry)) previous kept (λ p. writePacked p (now (name .entry))) (now (out .exit)) r ⌝ }
+{
+    let middle = put_number(&mut *out, at, previous - kept);
+    let end = output::put_bytes(&mut *out, middle, &name[kept..]);
+    output::put_byte(out, end, 0)
+}
+
+// A name of a version, of an entry with f bytes before it.
+fn put_name(out: &mut [u8], at: usize, version: u32, f: usize, name: &[u8], previous: usize, kept: usize) -> usize
+    requires { ⌜ (at + 8200 ≤ 1125899906842624) × (f ≤ 64) × Kept (now name) previous kept ⌝ }
+    ensures { λ r. ⌜ NameWritten (now (out .entry)) at (now (name .entry)) previous kept (λ p. writeName version f p (now (name .entry))) (now (out .exit)) r ⌝ }
+{
+    if version == 4 {
+        return put_packed(out, at, previous, kept, name);
+    }
+    put_plain(out, at, f, name)
+}
+
+// What follows the object name: the flags, the extended word where one of its bits is set, and the name.
+pub fn put_rest(out: &mut [u8], at: usize, version: u32, base: u32, word: u32, name: &[u8], previous: usize, kept: usize) -> usize
+    requires { ⌜ (at + 8204 ≤ 1125899906842624) × (base < 65536) × Kept (now name) previous kept ⌝ }
+    ensures { λ r. ⌜ RestWritten (now (out .entry)) at version base word (now (name .entry)) previous kept (now (out .exit)) r ⌝ }
+{
+    let flags = base + fields::length_field(name.len());
+    if word == 0 {
+        let end = output::put_16(&mut *out, at, flags);
+        return put_name(out, end, version, 62, name, previous, kept);
+    }
+    let middle = output::put_16(&mut *out, at, flags + 16384);
+    let end = output::put_16(&mut *out, middle, word);
+    put_name(out, end, version, 64, name, previous, kept)
+}
+
+// The entry at a place of the body, of which a step told the flags, the extended word and where its name stands.
+pub fn put_step(b: &[u8], v: u32, work: &[u8], from: usize, st: Step, version: u32, previous: usize, kept: usize, out: &mut [u8], at: usize) -> usize
+    requires { ⌜ (at + 8264 ≤ 1125899906842624) × Placed (now b) from st × (8192 ≤ length (now work)) × Kept (entryAt v (now b) (now work) from st .name) previous kept ⌝ }
+    ensures { λ r. ⌜ EntryWritten (now (out .entry)) at version (entryAt v (now (b .entry)) (now (work .entry)) from st) previous kept (now (out .exit)) r ⌝ }
+{
+    let fixed = from + 60;
+    let middle = output::put_bytes(&mut *out, at, &b[from..fixed]);
+    let base = st.flags / 32768 % 2 * 32768 + st.flags / 4096 % 4 * 4096;
+    let word = st.word / 8192 % 4 * 8192;
+    let start = st.next.start;
+    let len = st.next.len;
+    if v == 4 {
+        return put_rest(out, middle, version, base, word, &work[..len], previous, kept);
+    }
+    let end = start + len;
+    put_rest(out, middle, version, base, word, &b[start..end], previous, kept)
+}
+
+// Whether an entry with this extended word, or 0 without one, needs it, or one before did.
+fn either(extended: bool, word: u32) -> bool
+    ensures { λ r. ⌜ r ≡ (extended || (isSet 16384 word || isSet 8192 word)) ⌝ }
+{
+    if extended {
+        return true;
+    }
+    if word / 16384 % 2 == 1 {
+        return true;
+    }
+    word / 8192 % 2 == 1
+}
+
+// n entries from a cursor on. One that is refused ends them.
+pub fn put_entries(b: &[u8], v: u32, work: &mut [u8], c: Cursor, n: u32, version: u32, out: &mut [u8], at: usize) -> Progress
+    requires { ⌜ Inside (now b) c × (8192 ≤ length (now work)) × (at + n * 8264 ≤ 1125899906842624) ⌝ }
+    ensures { λ r. ⌜ EntriesWritten v (now (b .entry)) (now (work .entry)) c n version (now (out .entry)) at (now (work .exit)) (now (out .exit)) r ⌝ }
+{
+    let mut cursor = c;
+    let mut end = at;
+    let mut extended = false;
+    let mut left = n;
+    while 0 < left {
+        let g = entries_run::next_entry(b, v, &mut *work, cursor);
+        match g {
+            Next::Bad(_) => {
+                return Progress {
+                    cursor: cursor,
+                    at: end,
+                    extended: extended,
+                };
+            }
+            Next::Good(st) => {
+                end = put_step(b, v, &*work, cursor.at, st, version, cursor.len, st.common, &mut *out, end);
+                extended = either(extended, st.word);
+                cursor = st.next;
+            }
+        }
+        left -= 1;
+    }
+    Progress {
+        cursor: cursor,
+        at: end,
+        extended: extended,
+    }
+}

@@ -1,0 +1,2 @@
+-- Laws of outputs.
+pub mod Laws

@@ -1,0 +1,2 @@
+-- What a part that is written leaves in an output.
+pub mod Output
