@@ -54,7 +54,15 @@ pub fn put_packed(out: &mut [u8], at: usize, previous: usize, kept: usize, name:
 }
 
 // A name of a version, of an entry with f bytes before it.
-fn put_name(out: &mut [u8], at: usize, version: u32, f: usize, name: &[u8], previous: usize, kept: usize) -> usize
+fn put_name(
+    out: &mut [u8],
+    at: usize,
+    version: u32,
+    f: usize,
+    name: &[u8],
+    previous: usize,
+    kept: usize,
+) -> usize
     requires { ⌜ (at + 8200 ≤ 1125899906842624) × (f ≤ 64) × Kept (now name) previous kept ⌝ }
     ensures { λ r. ⌜ NameWritten (now (out .entry)) at (now (name .entry)) previous kept (λ p. writeName version f p (now (name .entry))) (now (out .exit)) r ⌝ }
 {
@@ -65,7 +73,16 @@ fn put_name(out: &mut [u8], at: usize, version: u32, f: usize, name: &[u8], prev
 }
 
 // What follows the object name: the flags, the extended word where one of its bits is set, and the name.
-pub fn put_rest(out: &mut [u8], at: usize, version: u32, base: u32, word: u32, name: &[u8], previous: usize, kept: usize) -> usize
+pub fn put_rest(
+    out: &mut [u8],
+    at: usize,
+    version: u32,
+    base: u32,
+    word: u32,
+    name: &[u8],
+    previous: usize,
+    kept: usize,
+) -> usize
     requires { ⌜ (at + 8204 ≤ 1125899906842624) × (base < 65536) × Kept (now name) previous kept ⌝ }
     ensures { λ r. ⌜ RestWritten (now (out .entry)) at version base word (now (name .entry)) previous kept (now (out .exit)) r ⌝ }
 {
@@ -80,7 +97,18 @@ pub fn put_rest(out: &mut [u8], at: usize, version: u32, base: u32, word: u32, n
 }
 
 // The entry at a place of the body, of which a step told the flags, the extended word and where its name stands.
-pub fn put_step(b: &[u8], v: u32, work: &[u8], from: usize, st: Step, version: u32, previous: usize, kept: usize, out: &mut [u8], at: usize) -> usize
+pub fn put_step(
+    b: &[u8],
+    v: u32,
+    work: &[u8],
+    from: usize,
+    st: Step,
+    version: u32,
+    previous: usize,
+    kept: usize,
+    out: &mut [u8],
+    at: usize,
+) -> usize
     requires { ⌜ (at + 8264 ≤ 1125899906842624) × Placed (now b) from st × (8192 ≤ length (now work)) × Kept (entryAt v (now b) (now work) from st .name) previous kept ⌝ }
     ensures { λ r. ⌜ EntryWritten (now (out .entry)) at version (entryAt v (now (b .entry)) (now (work .entry)) from st) previous kept (now (out .exit)) r ⌝ }
 {
@@ -91,10 +119,28 @@ pub fn put_step(b: &[u8], v: u32, work: &[u8], from: usize, st: Step, version: u
     let start = st.next.start;
     let len = st.next.len;
     if v == 4 {
-        return put_rest(out, middle, version, base, word, &work[..len], previous, kept);
+        return put_rest(
+            out,
+            middle,
+            version,
+            base,
+            word,
+            &work[..len],
+            previous,
+            kept,
+        );
     }
     let end = start + len;
-    put_rest(out, middle, version, base, word, &b[start..end], previous, kept)
+    put_rest(
+        out,
+        middle,
+        version,
+        base,
+        word,
+        &b[start..end],
+        previous,
+        kept,
+    )
 }
 
 // Whether an entry with this extended word, or 0 without one, needs it, or one before did.
@@ -111,7 +157,16 @@ fn either(extended: bool, word: u32) -> bool
 }
 
 // n entries from a cursor on. One that is refused ends them.
-pub fn put_entries(b: &[u8], v: u32, work: &mut [u8], c: Cursor, n: u32, version: u32, out: &mut [u8], at: usize) -> Progress
+pub fn put_entries(
+    b: &[u8],
+    v: u32,
+    work: &mut [u8],
+    c: Cursor,
+    n: u32,
+    version: u32,
+    out: &mut [u8],
+    at: usize,
+) -> Progress
     requires { ⌜ Inside (now b) c × (8192 ≤ length (now work)) × (at + n * 8264 ≤ 1125899906842624) ⌝ }
     ensures { λ r. ⌜ EntriesWritten v (now (b .entry)) (now (work .entry)) c n version (now (out .entry)) at (now (work .exit)) (now (out .exit)) r ⌝ }
 {
@@ -130,7 +185,18 @@ pub fn put_entries(b: &[u8], v: u32, work: &mut [u8], c: Cursor, n: u32, version
                 };
             }
             Next::Good(st) => {
-                end = put_step(b, v, &*work, cursor.at, st, version, cursor.len, st.common, &mut *out, end);
+                end = put_step(
+                    b,
+                    v,
+                    &*work,
+                    cursor.at,
+                    st,
+                    version,
+                    cursor.len,
+                    st.common,
+                    &mut *out,
+                    end,
+                );
                 extended = either(extended, st.word);
                 cursor = st.next;
             }
