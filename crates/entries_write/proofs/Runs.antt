@@ -13,14 +13,14 @@ use Rattle.format.specs.Reading.{Read, bad, good}
 use Rattle.format.specs.Reader.{isSet, entryOf}
 use Rattle.format.specs.Writer.{needsWord, writeEntry, writeEntries}
 use Rattle.format.specs.Requests.{anyWord}
-use Rattle.spelling_entries.proofs.Reading.{bad-good}
+use Rattle.format_laws.proofs.Readings.{bad-good, inFront, front-inv}
 use Rattle.output.specs.Output.{Wrote}
 use Rattle.output.proofs.Laws.{wrote-nothing, wrote-then}
 use Rattle.entries_run.specs.declared.Cursor.{Cursor}
 use Rattle.entries_run.specs.declared.Step.{Step}
 use Rattle.entries_run.specs.declared.Next.the-variants as N
 use Rattle.entries_run.specs.Steps.{nameAt, keyAt, entryAt, Inside, Found, Stepped, Placed, runFrom}
-use Rattle.entries_run.proofs.Steps.{inFront, front-inv, entries-bad, entries-good, entryAt-name}
+use Rattle.entries_run.proofs.Steps.{entries-bad, entries-good, entryAt-name}
 use Rattle.entries_write.specs.declared.Progress.{Progress}
 use Rattle.entries_write.specs.Parts.{Kept, Beside, EntryWritten, lastName, Passed, EntriesWritten}
 use Rattle.entries_write.proofs.Names.{common-le, nameAt-length}
