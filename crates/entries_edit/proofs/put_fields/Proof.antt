@@ -1,0 +1,42 @@
+use borrow.Author.Needs.{needs}
+use Rattle.entries_edit.proofs.put_fields.Statement.{statement}
+use Rattle.entries_edit.proofs.put_fields.Tie as tie
+use Rattle.entries_edit.proofs.put_fields.Reads as reads
+use Rattle.entries_edit.proofs.put_fields.Lts as lts
+use Rattle.entries_edit.proofs.put_five.Reads as put-five-reads
+use Rattle.output.proofs.put_bytes.Reads as put-bytes-reads
+
+-- src/lib.rt:58:9
+put-five-requires : tie.Need-put-five-requires
+put-five-requires c κs = search needs
+
+-- src/lib.rt:59:9
+put-five-requires-2 : tie.Need-put-five-requires-2
+put-five-requires-2 c κs = search needs
+
+-- src/lib.rt:61:33
+slice-aggregate-put-bytes : tie.Need-slice-aggregate-put-bytes
+slice-aggregate-put-bytes c = search needs
+
+-- src/lib.rt:61:5
+put-bytes-requires : tie.Need-put-bytes-requires
+put-bytes-requires c κs = search needs
+
+-- src/lib.rt:54:1
+same-length : tie.Need-same-length
+same-length c = search needs
+
+-- src/lib.rt:54:1
+returns : tie.Need-returns
+returns c = ?
+
+pub put-fields-spec : {M : Type 1} → statement M
+put-fields-spec =
+    tie.close
+    (tie.spec
+    put-five-requires
+    put-five-requires-2
+    slice-aggregate-put-bytes
+    put-bytes-requires
+    same-length
+    returns)

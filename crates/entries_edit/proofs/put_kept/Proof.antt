@@ -1,0 +1,31 @@
+use borrow.Author.Needs.{needs}
+use Rattle.entries_edit.proofs.put_kept.Statement.{statement}
+use Rattle.entries_edit.proofs.put_kept.Tie as tie
+use Rattle.entries_edit.proofs.put_kept.Reads as reads
+use Rattle.entries_edit.proofs.put_kept.Lts as lts
+use Rattle.entries_run.proofs.first.Reads as first-reads
+use Rattle.entries_write.proofs.put_entries.Reads as put-entries-reads
+
+-- src/lib.rt:235:54
+first-requires : tie.Need-first-requires
+first-requires c κs = search needs
+
+-- src/lib.rt:235:9
+put-entries-requires : tie.Need-put-entries-requires
+put-entries-requires c κs = ?
+
+-- src/lib.rt:231:1
+same-length : tie.Need-same-length
+same-length c = search needs
+
+-- src/lib.rt:231:1
+same-length-2 : tie.Need-same-length-2
+same-length-2 c = search needs
+
+-- src/lib.rt:231:1
+returns : tie.Need-returns
+returns c = ?
+
+pub put-kept-spec : {M : Type 1} → statement M
+put-kept-spec =
+    tie.close (tie.spec first-requires put-entries-requires same-length same-length-2 returns)

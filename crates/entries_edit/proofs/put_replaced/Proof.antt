@@ -1,0 +1,62 @@
+use borrow.Author.Needs.{needs}
+use Rattle.entries_edit.proofs.put_replaced.Statement.{statement}
+use Rattle.entries_edit.proofs.put_replaced.Tie as tie
+use Rattle.entries_edit.proofs.put_replaced.Reads as reads
+use Rattle.entries_edit.proofs.put_replaced.Lts as lts
+use Rattle.entries_run.proofs.next_entry.Reads as next-entry-reads
+use Rattle.entries_write.proofs.put_entries.Reads as put-entries-reads
+
+-- src/lib.rt:165:9
+next-entry-requires : tie.Need-next-entry-requires
+next-entry-requires c κs = search needs
+
+-- src/lib.rt:167:25
+enum-told : tie.Need-enum-told
+enum-told c = search needs
+
+-- src/lib.rt:171:20
+enum-known-g : tie.Need-enum-known-g
+enum-known-g c = search needs
+
+-- src/lib.rt:172:72
+sub-put-entries : tie.Need-sub-put-entries
+sub-put-entries c = search needs
+
+-- src/lib.rt:172:17
+put-entries-requires : tie.Need-put-entries-requires
+put-entries-requires c κs = ?
+
+-- src/lib.rt:161:1
+same-length : tie.Need-same-length
+same-length c = search needs
+
+-- src/lib.rt:161:1
+returns : tie.Need-returns
+returns c = ?
+
+-- src/lib.rt:161:1
+same-length-2 : tie.Need-same-length-2
+same-length-2 c = search needs
+
+-- src/lib.rt:161:1
+same-length-3 : tie.Need-same-length-3
+same-length-3 c = search needs
+
+-- src/lib.rt:161:1
+returns-2 : tie.Need-returns-2
+returns-2 c = ?
+
+pub put-replaced-spec : {M : Type 1} → statement M
+put-replaced-spec =
+    tie.close
+    (tie.spec
+    next-entry-requires
+    enum-told
+    enum-known-g
+    sub-put-entries
+    put-entries-requires
+    same-length
+    returns
+    same-length-2
+    same-length-3
+    returns-2)

@@ -1,0 +1,76 @@
+use borrow.Author.Needs.{needs}
+use Rattle.entries_edit.proofs.put_with.Statement.{statement}
+use Rattle.entries_edit.proofs.put_with.Tie as tie
+use Rattle.entries_edit.proofs.put_with.Reads as reads
+use Rattle.entries_edit.proofs.put_with.Lts as lts
+use Rattle.entries_edit.proofs.common_at.Reads as common-at-reads
+use Rattle.entries_edit.proofs.or.Reads as or-reads
+use Rattle.entries_edit.proofs.put_others.Reads as put-others-reads
+use Rattle.entries_edit.proofs.put_record.Reads as put-record-reads
+use Rattle.entries_run.proofs.first.Reads as first-reads
+use Rattle.entries_write.proofs.put_entries.Reads as put-entries-reads
+
+-- src/lib.rt:247:62
+first-requires : tie.Need-first-requires
+first-requires c κs = search needs
+
+-- src/lib.rt:247:9
+put-entries-requires : tie.Need-put-entries-requires
+put-entries-requires c κs = ?
+
+-- src/lib.rt:248:9
+common-at-requires : tie.Need-common-at-requires
+common-at-requires c κs = search needs
+
+-- src/lib.rt:249:9
+put-record-requires : tie.Need-put-record-requires
+put-record-requires c κs = ?
+
+-- src/lib.rt:250:53
+sub-put-others : tie.Need-sub-put-others
+sub-put-others c = search needs
+
+-- src/lib.rt:250:9
+put-others-requires : tie.Need-put-others-requires
+put-others-requires c κs = ?
+
+-- src/lib.rt:251:9
+or-requires : tie.Need-or-requires
+or-requires c κs = search needs
+
+-- src/lib.rt:254:38
+or-requires-2 : tie.Need-or-requires-2
+or-requires-2 c κs = search needs
+
+-- src/lib.rt:254:19
+or-requires-3 : tie.Need-or-requires-3
+or-requires-3 c κs = search needs
+
+-- src/lib.rt:243:1
+same-length : tie.Need-same-length
+same-length c = search needs
+
+-- src/lib.rt:243:1
+same-length-2 : tie.Need-same-length-2
+same-length-2 c = search needs
+
+-- src/lib.rt:243:1
+returns : tie.Need-returns
+returns c = ?
+
+pub put-with-spec : {M : Type 1} → statement M
+put-with-spec =
+    tie.close
+    (tie.spec
+    first-requires
+    put-entries-requires
+    common-at-requires
+    put-record-requires
+    sub-put-others
+    put-others-requires
+    or-requires
+    or-requires-2
+    or-requires-3
+    same-length
+    same-length-2
+    returns)
