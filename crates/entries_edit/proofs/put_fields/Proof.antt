@@ -1,3 +1,8 @@
+-- The proof that `put_fields` meets its contract.
+use mathlib.Core.Path.{_≡_}
+use lib.ListN.{length}
+use native.Mathlib.Omega.{arith}
+use Rattle.entries_edit.proofs.Puts.{fields-wrote}
 use borrow.Author.Needs.{needs}
 use Rattle.entries_edit.proofs.put_fields.Statement.{statement}
 use Rattle.entries_edit.proofs.put_fields.Tie as tie
@@ -28,7 +33,12 @@ same-length c = search needs
 
 -- src/lib.rt:54:1
 returns : tie.Need-returns
-returns c = ?
+returns c =
+    let x = c .before .before .before .before .before .before .before .before .before .before .before .before .put-five .ensures in
+    let y = c .before .before .before .before .before .before .before .before .put-five2 .ensures in
+    let z = c .before .before .put-bytes .ensures in
+    let twenty : 20 ≡ length (c .before .before .before .before .before .before .before .before .before .before .before .before .before .before .before .args .fields .object) = slice-aggregate-put-bytes (c .before .before .before) in
+    (fields-wrote _ _ _ _ _ _ _ _ _ _ _ (x .0) (y .0) z, let end = z .end in omega arith)
 
 pub put-fields-spec : {M : Type 1} → statement M
 put-fields-spec =

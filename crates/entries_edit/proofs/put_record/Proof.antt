@@ -1,3 +1,7 @@
+-- The proof that `put_record` meets its contract.
+use native.Mathlib.Omega.{arith}
+use Rattle.format_laws.proofs.Numbers.{bit-below}
+use Rattle.entries_edit.proofs.Puts.{record-wrote}
 use borrow.Author.Needs.{needs}
 use Rattle.entries_edit.proofs.put_record.Statement.{statement}
 use Rattle.entries_edit.proofs.put_record.Tie as tie
@@ -33,11 +37,13 @@ bit-of-requires-3 c κs = search needs
 
 -- src/lib.rt:81:16
 add-word : tie.Need-add-word
-add-word c = ?
+add-word c = let x = c .before .before .before .before .before .before .before .before .before .before .args .fields in omega (arith, bit-below (x .«skip_worktree»), bit-below (x .«intent_to_add»))
 
 -- src/lib.rt:82:5
 put-rest-requires : tie.Need-put-rest-requires
-put-rest-requires c κs = ?
+put-rest-requires c κs =
+    let x = c .before .before .before .before .before .before .before .before .before .before .before .args .fields in
+    (omega arith, omega (arith, bit-below (x .«assume_valid»)), c .before .before .before .before .before .before .before .before .before .before .before .pre .2)
 
 -- src/lib.rt:75:1
 same-length : tie.Need-same-length
@@ -45,7 +51,10 @@ same-length c = search needs
 
 -- src/lib.rt:75:1
 returns : tie.Need-returns
-returns c = ?
+returns c =
+    let st = c .before .before .before .before .before .before .before .before .before .before .before .before .before .before in
+    let first = c .before .before .before .before .before .before .before .before .before .before .put-fields .ensures in
+    record-wrote (st .args .fields) _ _ _ _ _ _ _ _ _ _ _ _ _ (first .0) (first .1) (c .before .before .before .before .before .before .before .bit-of .ensures) (c .before .before .before .before .before .bit-of2 .ensures) (c .before .before .before .before .bit-of3 .ensures) (c .before .before .put-rest .ensures)
 
 pub put-record-spec : {M : Type 1} → statement M
 put-record-spec =

@@ -1,0 +1,1 @@
+-- Laws of entries that are written one part after another: those in front, one that is put, one that is left out, the others.
