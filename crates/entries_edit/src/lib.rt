@@ -160,7 +160,7 @@ fn put_after(b: &[u8], v: u32, work: &mut [u8], c: Cursor, n: u32, name: &[u8], 
 // n entries but the first, which has the name that the second is written after.
 fn put_replaced(b: &[u8], v: u32, work: &mut [u8], c: Cursor, n: u32, version: u32, out: &mut [u8], at: usize) -> Laid
     requires { ⌜ (at + n * 8264 ≤ 1125899906842624) × Inside (now b) c × (8192 ≤ length (now work)) × (1 ≤ n) ⌝ }
-    ensures { λ r. ⌜ ((x : Entry) (es : List Entry) (m : ℕ) → runFrom v n (now (b .entry)) (now (work .entry)) c ≡ good (x ∷ es) m → Lays version (now (out .entry)) at (x .name) es (now (out .exit)) r) × Leaves (now (work .entry)) (now (out .entry)) at n (now (work .exit)) (now (out .exit)) r ⌝ }
+    ensures { λ r. ⌜ ((p : List ℕ) (es : List Entry) (m : ℕ) → runFrom v n (now (b .entry)) (now (work .entry)) c ≡ good es m → ((x : Entry) → getElem? es 0 ≡ some x → x .name ≡ p) → Lays version (now (out .entry)) at p (drop 1 es) (now (out .exit)) r) × Leaves (now (work .entry)) (now (out .entry)) at n (now (work .exit)) (now (out .exit)) r ⌝ }
 {
     let g = entries_run::next_entry(b, v, &mut *work, c);
     match g {
