@@ -8,6 +8,7 @@ use native.Mathlib.Omega.{arith}
 use lib.ListN.{length, take, drop, getElem?, take-append-drop}
 use lib.Seq.{drop-drop}
 use lib.Dec.{eqb}
+use borrow.Author.Tests.{eq-eqb, ne-eqb}
 use Rattle.format.specs.Names.{common}
 use Rattle.format.specs.Records.{Entry, Key, keyOf, start}
 use Rattle.format.specs.Layout.{bit}
@@ -15,7 +16,7 @@ use Rattle.format.specs.Reading.{Read, good}
 use Rattle.format.specs.Reader.{isSet, entryOf, readEntries}
 use Rattle.format.specs.Writer.{needsWord, writeEntry, writeEntries}
 use Rattle.format.specs.Requests.{goesBefore, anyWord}
-use Rattle.format_laws.proofs.Tests.{by-cond, and-inv, eqb-swap}
+use Rattle.format_laws.proofs.Tests.{false-true, by-cond, and-inv, eqb-swap}
 use Rattle.format_laws.proofs.Readings.{bad-good, good-inv, front-inv}
 use Rattle.output.specs.Output.{Wrote}
 use Rattle.output.proofs.Laws.{wrote-nothing, wrote-then}
@@ -33,7 +34,9 @@ use Rattle.entries_place.proofs.Keys.{common-through, before-name}
 use Rattle.entries_place.proofs.Places.{read-rising}
 use Rattle.entries_place.proofs.Finding.{key-at}
 use Rattle.entries_edit.specs.declared.Laid.{Laid}
-use Rattle.entries_edit.specs.Edits.{Lays, Leaves}
+use Rattle.entries_edit.specs.declared.Edit.{Edit}
+use Rattle.entries_edit.specs.declared.Edit.the-variants as E
+use Rattle.entries_edit.specs.Edits.{edited, Replaces, Lays, Leaves, EntriesEdited}
 
 -- ---- lists and tests
 
@@ -52,6 +55,16 @@ or-swap true true = refl
 or-swap true false = refl
 or-swap false true = refl
 or-swap false false = refl
+
+-- what the name before a cursor, in the workspace or in the body, and a name have in common
+module _ (v : ℕ) (b work : List ℕ) (c : Cursor) (name : List ℕ) (r : ℕ) where
+  pub common-packed : v ≡ 4 → r ≡ common (take (c .len) work) name → r ≡ common (keyAt v b work c .name) name
+  unfolding nameAt
+  common-packed e h = rw (eq-eqb v 4 e) h
+
+  pub common-plain : (v ≡ 4 → ⊥) → (n : ℕ) → n ≡ c .len → r ≡ common (take n (drop (c .start) b)) name → r ≡ common (keyAt v b work c .name) name
+  unfolding nameAt
+  common-plain e n is h = rw (ne-eqb v 4 e, ← is) h
 
 pub first-of-rest : {A : Type 0} (k : ℕ) (xs : List A) → getElem? (drop k xs) 0 ≡ getElem? xs k
 first-of-rest zero [] = refl
@@ -100,6 +113,17 @@ pub leaves-none : (work out : List ℕ) (at n : ℕ) (work′ : List ℕ) → le
     → Leaves work out at n work′ out (record { at = at; extended = false })
 leaves-none work out at n work′ long past = record { near = omega arith; long = long; past = past; out-long = refl }
 
+-- no entry is left
+pub none-laid : (v : ℕ) (b work : List ℕ) (c : Cursor) (n version : ℕ) (out : List ℕ) (at : ℕ) (p : List ℕ) → n ≡ 0
+    → (es : List Entry) (m : ℕ) → runFrom v n b work c ≡ good es m → Lays version out at p es out (record { at = at; extended = false })
+none-laid v b work c n version out at p none es m q =
+    good-inv _ _ _ _ (sym (run-none v b work c) ∙ rw none at q) (λ is taken. rw (← is) (lays-none version out at p))
+
+-- the next entry is refused
+pub refused {ℓ} : {X : Type ℓ} (v : ℕ) (b work : List ℕ) (c : Cursor) (work′ : List ℕ) (n : ℕ) → 0 < n → (j : ℕ) → Stepped v b work c work′ (N.Bad j)
+    → (es : List Entry) (m : ℕ) → runFrom v n b work c ≡ good es m → X
+refused v b work c work′ n more j t es m q = bad-good _ _ _ _ (sym (entries-bad v b work c work′ n more j t) ∙ q)
+
 -- ---- all entries from a cursor on
 
 module _ (v : ℕ) (b work : List ℕ) (c : Cursor) (n version : ℕ) (out : List ℕ) (at : ℕ) (work′ out′ : List ℕ) (r : Progress)
@@ -125,6 +149,9 @@ module _ (v : ℕ) (b work : List ℕ) (c : Cursor) (work′ : List ℕ) (st : S
   found : Found v b work c work′ st
   found = t .found st refl
 
+  pub step-next : Inside b (st .next)
+  step-next = found .next
+
   pub step-placed : Placed b (c .at) st
   step-placed = let f = found in record { fixed = omega arith; name = omega arith; short = f .next .short; stage = f .stage }
 
@@ -135,11 +162,23 @@ module _ (v : ℕ) (b work : List ℕ) (c : Cursor) (work′ : List ℕ) (st : S
     step-size : length (entry .name) ≡ st .next .len
     step-size = rw (entryAt-name v b work′ (c .at) st) (nameAt-length v b work′ (st .next) (found .next) step-room)
 
-    pub step-kept : (previous kept : ℕ) → previous ≤ 8192 → kept ≤ previous → kept ≤ length (entry .name) → Kept (entry .name) previous kept
+    step-kept : (previous kept : ℕ) → previous ≤ 8192 → kept ≤ previous → kept ≤ length (entry .name) → Kept (entry .name) previous kept
     step-kept previous kept short fits within =
         let size = step-size in
         let most = found .next .short in
         record { short = omega arith; before-short = short; fits = fits; within = within }
+
+    pub after-kept : (name : List ℕ) (kept : ℕ) → length name ≤ 8192 → kept ≡ common (keyAt v b work′ (st .next) .name) name
+        → Kept (entry .name) (length name) kept
+    after-kept name kept short is =
+        let (within, fits) = common-le (keyAt v b work′ (st .next) .name) name in
+        step-kept (length name) kept short (omega arith) (rw (entryAt-name v b work′ (c .at) st) (omega arith))
+
+    pub past-kept : (previous shared kept : ℕ) → previous ≤ 8192 → shared ≤ previous → kept ≡ min shared (st .common) → Kept (entry .name) previous kept
+    past-kept previous shared kept short fits is =
+        let (before, within) = common-le (keyAt v b work c .name) (keyAt v b work′ (st .next) .name) in
+        let names = found .common in
+        step-kept previous kept short (omega arith) (rw (entryAt-name v b work′ (c .at) st) (omega arith))
 
   module _ (n : ℕ) (more : 0 < n) where
     step-on {ℓ} : {X : Type ℓ} (es : List Entry) (m : ℕ) → runFrom v n b work c ≡ good es m
@@ -207,3 +246,119 @@ module _ (v : ℕ) (b work : List ℕ) (c : Cursor) (work′ : List ℕ) (st : S
       step-leaves k work″ r few h =
           let near = h .near in
           record { near = omega arith; long = h .long ∙ t .long; past = h .past ∙ t .past; out-long = h .out-long }
+
+-- ---- the entry that a step read, then n more
+
+module _ (v : ℕ) (b work : List ℕ) (from : ℕ) (st : Step) (n previous kept version : ℕ) (out : List ℕ) (at : ℕ) (out′ : List ℕ) (p : ℕ) (work″ out″ : List ℕ)
+    (r : Progress) (also : Bool) (x : EntryWritten out at version (entryAt v b work from st) previous kept out′ p)
+    (y : EntriesWritten v b work (st .next) n version out′ p work″ out″ r) where
+  any-word : also ≡ (r .extended || (isSet 16384 (st .word) || isSet 8192 (st .word))) → also ≡ (needsWord (entryAt v b work from st) || r .extended)
+  unfolding needsWord entryOf
+  any-word is = is ∙ or-swap (r .extended) _
+
+  pub stepped-laid : also ≡ (r .extended || (isSet 16384 (st .word) || isSet 8192 (st .word)))
+      → (q : List ℕ) (es : List Entry) (m : ℕ) → Beside q (entryAt v b work from st .name) previous kept → runFrom v n b work (st .next) ≡ good es m
+      → Lays version out at q (entryAt v b work from st ∷ es) out″ (record { at = r .at; extended = also })
+  stepped-laid is q es m beside run =
+      let e : Entry = entryAt v b work from st in
+      let rest : Lays version out′ p (e .name) es out″ (record { at = r .at; extended = r .extended }) =
+      rw (entryAt-name v b work from st) (all-laid v b work (st .next) n version out′ p work″ out″ r y es m run) in
+      lays-one version out at q e out′ p es out″ _ also (x .wrote q beside) rest (any-word is)
+
+  pub stepped-leaves : length out′ ≡ length out → Leaves work out at (n + 1) work″ out″ (record { at = r .at; extended = also })
+  stepped-leaves long =
+      let first = x .near in
+      let near = y .near in
+      record { near = omega arith; long = y .long; past = y .past; out-long = y .out-long ∙ long }
+
+-- ---- the first k of count entries, then a change
+
+first-name : (v : ℕ) (b work : List ℕ) → keyAt v b work firstCursor .name ≡ []
+unfolding nameAt
+first-name v b work = by-cond (λ s. s ≡ []) (eqb v 4) (take 0 work) (take 0 (drop 0 b)) (λ packed. refl) (λ plain. refl)
+
+pub kept-laid : (v : ℕ) (b work : List ℕ) (count version : ℕ) (out : List ℕ) (at : ℕ) (work′ out′ : List ℕ) (r : Progress)
+    → EntriesWritten v b work firstCursor count version out at work′ out′ r
+    → (es : List Entry) (m : ℕ) → readEntries 20 v count start 12 (drop 12 b) ≡ good es m
+    → Lays version out at [] es out′ (record { at = r .at; extended = r .extended })
+kept-laid v b work count version out at work′ out′ r h es m q =
+    rw (first-name v b work) at (all-laid v b work firstCursor count version out at work′ out′ r h es m (run-first v count b work ∙ q))
+
+module _ (v : ℕ) (b work : List ℕ) (count k version : ℕ) (out : List ℕ) (at : ℕ) (work₁ out₁ : List ℕ) (p : Progress) (few : k ≤ count)
+    (h : EntriesWritten v b work firstCursor k version out at work₁ out₁ p) where
+  front-on {ℓ} : {X : Type ℓ} (es : List Entry) (m : ℕ) → readEntries 20 v count start 12 (drop 12 b) ≡ good es m
+      → ((j : ℕ) → Lays version out at [] (take k es) out₁ (record { at = p .at; extended = p .extended })
+      → keyAt v b work₁ (p .cursor) .name ≡ lastName [] (take k es) → runFrom v (count - k) b work₁ (p .cursor) ≡ good (drop k es) j → X)
+      → X
+  front-on es m q f =
+      let sum : k + (count - k) ≡ count = omega arith in
+      let x = h .passed (count - k) es m (rw sum (run-first v count b work ∙ q)) in
+      let none = first-name v b work in
+      f (x .taken) (record { wrote = rw none at (x .wrote); extended = x .extended }) (rw none at (x .last)) (x .left)
+
+  -- the next entry is removed
+  pub without-laid : (out₂ : List ℕ) (r : Laid) (also : Bool)
+      → ((es : List Entry) (m : ℕ) → runFrom v (count - k) b work₁ (p .cursor) ≡ good es m
+      → Lays version out₁ (p .at) (keyAt v b work₁ (p .cursor) .name) (drop 1 es) out₂ r)
+      → also ≡ (p .extended || r .extended)
+      → (es : List Entry) (m : ℕ) → readEntries 20 v count start 12 (drop 12 b) ≡ good es m
+      → Lays version out at [] (take k es ++ drop (k + 1) es) out₂ (record { at = r .at; extended = also })
+  without-laid out₂ r also rest is es m q =
+      front-on es m q λ j front last left.
+      lays-front version out at [] (take k es) out₁ _ (drop (k + 1) es) out₂ r also front (rw (last, drop-drop 1 k es) at (rest (drop k es) j left)) is
+
+  pub without-leaves : (work₂ out₂ : List ℕ) (r : Laid) (also : Bool) → Leaves work₁ out₁ (p .at) (count - k) work₂ out₂ r
+      → Leaves work out at count work₂ out₂ (record { at = r .at; extended = also })
+  without-leaves work₂ out₂ r also rest =
+      let first = h .near in
+      let near = rest .near in
+      record { near = omega arith; long = rest .long ∙ h .long; past = rest .past ∙ h .past; out-long = rest .out-long ∙ h .out-long }
+
+  -- the entry e is put, in place of the next one or not
+  module _ (e : Entry) (out₂ : List ℕ) (kept q : ℕ) (x : EntryWritten out₁ (p .at) version e (p .cursor .len) kept out₂ q) (there : Bool) (out₃ : List ℕ) (r : Laid)
+      (also : Bool) where
+    pub with-laid : 8192 ≤ length work₁ → kept ≡ common (keyAt v b work₁ (p .cursor) .name) (e .name)
+        → ((es : List Entry) (m : ℕ) → runFrom v (count - k) b work₁ (p .cursor) ≡ good es m
+        → (there ≡ true → (y : Entry) → getElem? es 0 ≡ some y → y .name ≡ e .name) → Lays version out₂ q (e .name) (drop (bit there) es) out₃ r)
+        → also ≡ (p .extended || (needsWord e || r .extended))
+        → (es : List Entry) (m : ℕ) → readEntries 20 v count start 12 (drop 12 b) ≡ good es m
+        → (there ≡ true → (y : Entry) → getElem? es k ≡ some y → y .name ≡ e .name)
+        → Lays version out at [] (take k es ++ (e ∷ drop (k + bit there) es)) out₃ (record { at = r .at; extended = also })
+    with-laid room shares rest all es m run same =
+        front-on es m run λ j front last left.
+        let others : Lays version out₂ q (e .name) (drop (k + bit there) es) out₃ r =
+        rw (drop-drop (bit there) k es) at (rest (drop k es) j left (λ is y first. same is y (sym (first-of-rest k es) ∙ first))) in
+        let name : List ℕ = keyAt v b work₁ (p .cursor) .name in
+        let beside : Beside name (e .name) (p .cursor .len) kept = record { long = nameAt-length v b work₁ (p .cursor) (h .inside) room; shared = sym shares } in
+        let one = lays-one version out₁ (p .at) name e out₂ q (drop (k + bit there) es) out₃ r (needsWord e || r .extended) (x .wrote name beside) others refl in
+        lays-front version out at [] (take k es) out₁ _ (e ∷ drop (k + bit there) es) out₃ _ also front (rw last at one) all
+
+    pub with-leaves : (work₂ : List ℕ) → length out₂ ≡ length out₁ → Leaves work₁ out₂ q (count - k) work₂ out₃ r
+        → Leaves work out at (count + 1) work₂ out₃ (record { at = r .at; extended = also })
+    with-leaves work₂ long rest =
+        let first = h .near in
+        let one = x .near in
+        let near = rest .near in
+        record { near = omega arith; long = rest .long ∙ h .long; past = rest .past ∙ h .past; out-long = rest .out-long ∙ long ∙ h .out-long }
+
+-- ---- an edit
+
+pub edited-laid : (v : ℕ) (b work : List ℕ) (count : ℕ) (edit : Edit) (e : Entry) (version : ℕ) (out : List ℕ) (at : ℕ) (work′ out′ : List ℕ) (r : Laid) (n : ℕ)
+    → n ≤ count + 1
+    → ((es : List Entry) (m : ℕ) → readEntries 20 v count start 12 (drop 12 b) ≡ good es m → Replaces edit (e .name) es
+    → Lays version out at [] (edited edit e es) out′ r)
+    → Leaves work out at n work′ out′ r → EntriesEdited v b work count edit e version out at work′ out′ r
+edited-laid v b work count edit e version out at work′ out′ r n few x y =
+    let close = y .near in
+    record {
+      edited-is = λ es m q same. let l = x es m q same in (l .wrote, l .extended);
+      near = omega arith;
+      long = y .long;
+      past = y .past;
+      out-long = y .out-long;
+    }
+
+pub replaces-there : (k : ℕ) (there : Bool) (name : List ℕ) (es : List Entry) → Replaces (E.Put k there) name es
+    → there ≡ true → (x : Entry) → getElem? es k ≡ some x → x .name ≡ name
+replaces-there k true name es h is = h
+replaces-there k false name es h is = false-true is

@@ -1,3 +1,7 @@
+-- The proof that `put_kept` meets its contract.
+use Rattle.entries_edit.proofs.Ways.{all-leaves, kept-laid}
+use Rattle.entries_run.proofs.Steps.{inside-first}
+use native.Mathlib.Omega.{arith}
 use borrow.Author.Needs.{needs}
 use Rattle.entries_edit.proofs.put_kept.Statement.{statement}
 use Rattle.entries_edit.proofs.put_kept.Tie as tie
@@ -12,7 +16,9 @@ first-requires c κs = search needs
 
 -- src/lib.rt:235:9
 put-entries-requires : tie.Need-put-entries-requires
-put-entries-requires c κs = ?
+put-entries-requires c κs =
+    let st = c .before .before .before .before .before .before in
+    rw (c .before .first .ensures) (inside-first (st .args .b .now) (st .args .work .now) (st .pre .0), omega arith, omega arith)
 
 -- src/lib.rt:231:1
 same-length : tie.Need-same-length
@@ -24,7 +30,10 @@ same-length-2 c = search needs
 
 -- src/lib.rt:231:1
 returns : tie.Need-returns
-returns c = ?
+returns c =
+    let a = c .before .before .before .before .before .before .before .before .before .before .before .args in
+    let h = rw (c .before .before .before .before .before .before .first .ensures) at (c .before .before .before .before .put-entries .ensures) in
+    (kept-laid (a .v) (a .b .now) (a .work .now) (a .count) _ _ _ _ _ _ h, all-leaves _ _ _ _ _ _ _ _ _ _ _ h)
 
 pub put-kept-spec : {M : Type 1} → statement M
 put-kept-spec =

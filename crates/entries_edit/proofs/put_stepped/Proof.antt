@@ -1,3 +1,6 @@
+-- The proof that `put_stepped` meets its contract.
+use Rattle.entries_edit.proofs.Ways.{stepped-laid, stepped-leaves}
+use native.Mathlib.Omega.{arith}
 use borrow.Author.Needs.{needs}
 use Rattle.entries_edit.proofs.put_stepped.Statement.{statement}
 use Rattle.entries_edit.proofs.put_stepped.Tie as tie
@@ -29,7 +32,14 @@ same-length-2 c = search needs
 
 -- src/lib.rt:124:1
 returns : tie.Need-returns
-returns c = ?
+returns c =
+    let a = c .before .before .before .before .before .before .before .before .before .before .before .before .before .before .before .before .args in
+    let x = c .before .before .before .before .before .before .before .before .before .before .put-step .ensures in
+    let y = c .before .before .before .before .before .put-entries .ensures in
+    (
+      stepped-laid (a .v) (a .b .now) (a .work .now) (a .from) (a .st) _ _ _ _ _ _ _ _ _ _ _ _ x y (c .either .ensures),
+      stepped-leaves (a .v) (a .b .now) (a .work .now) (a .from) (a .st) _ _ _ _ _ _ _ _ _ _ _ _ x y (omega arith),
+    )
 
 pub put-stepped-spec : {M : Type 1} → statement M
 put-stepped-spec =
