@@ -66,6 +66,12 @@ module _ (v : ℕ) (b work : List ℕ) (c : Cursor) (name : List ℕ) (r : ℕ) 
   unfolding nameAt
   common-plain e n is h = rw (ne-eqb v 4 e, ← is) h
 
+  pub cursor-kept : Inside b c → 8192 ≤ length work → length name ≤ 8192 → r ≡ common (keyAt v b work c .name) name → Kept name (c .len) r
+  cursor-kept inside room short is =
+      let size = nameAt-length v b work c inside room in
+      let (fits, within) = common-le (keyAt v b work c .name) name in
+      record { short = short; before-short = inside .short; fits = omega arith; within = omega arith }
+
 pub first-of-rest : {A : Type 0} (k : ℕ) (xs : List A) → getElem? (drop k xs) 0 ≡ getElem? xs k
 first-of-rest zero [] = refl
 first-of-rest zero (x ∷ xs) = refl
@@ -158,6 +164,12 @@ module _ (v : ℕ) (b work : List ℕ) (c : Cursor) (work′ : List ℕ) (st : S
   module _ (room : 8192 ≤ length work) where
     pub step-room : 8192 ≤ length work′
     step-room = let long = t .long in omega arith
+
+    pub step-common : Inside b c → st .common ≤ c .len
+    step-common inside =
+        let size = nameAt-length v b work c inside room in
+        let is = found .common in
+        omega (arith, common-le (keyAt v b work c .name) (keyAt v b work′ (st .next) .name) .0)
 
     step-size : length (entry .name) ≡ st .next .len
     step-size = rw (entryAt-name v b work′ (c .at) st) (nameAt-length v b work′ (st .next) (found .next) step-room)

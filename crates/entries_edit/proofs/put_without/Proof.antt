@@ -1,3 +1,8 @@
+-- The proof that `put_without` meets its contract.
+use Rattle.entries_edit.proofs.Ways.{without-laid, without-leaves}
+use Rattle.entries_run.proofs.Steps.{inside-first}
+use native.Mathlib.Omega.{arith}
+use Prim.Native.Nat.{_≤_}
 use borrow.Author.Needs.{needs}
 use Rattle.entries_edit.proofs.put_without.Statement.{statement}
 use Rattle.entries_edit.proofs.put_without.Tie as tie
@@ -14,7 +19,9 @@ first-requires c κs = search needs
 
 -- src/lib.rt:263:9
 put-entries-requires : tie.Need-put-entries-requires
-put-entries-requires c κs = ?
+put-entries-requires c κs =
+    let st = c .before .before .before .before .before .before in
+    rw (c .before .first .ensures) (inside-first (st .args .b .now) (st .args .work .now) (st .pre .0), omega arith, omega arith)
 
 -- src/lib.rt:264:54
 sub-put-removed : tie.Need-sub-put-removed
@@ -38,7 +45,16 @@ same-length-2 c = search needs
 
 -- src/lib.rt:259:1
 returns : tie.Need-returns
-returns c = ?
+returns c =
+    let st = c .before .before .before .before .before .before .before .before .before .before .before .before .before .before .before .before .before .before .before in
+    let a = st .args in
+    let few : a .k ≤ a .count = omega (arith, st .pre .1) in
+    let h = rw (c .before .before .before .before .before .before .before .before .before .before .before .before .before .before .first .ensures) at (c .before .before .before .before .before .before .before .before .before .before .before .before .put-entries .ensures) in
+    let x = c .before .before .before .before .before .put-removed .ensures in
+    (
+      without-laid (a .v) (a .b .now) (a .work .now) (a .count) (a .k) (a .version) (a .out .now) (a .at) _ _ _ few h _ _ _ (x .0) (c .or .ensures),
+      without-leaves (a .v) (a .b .now) (a .work .now) (a .count) (a .k) (a .version) (a .out .now) (a .at) _ _ _ few h _ _ _ _ (x .1),
+    )
 
 pub put-without-spec : {M : Type 1} → statement M
 put-without-spec =
