@@ -1,12 +1,12 @@
 -- Laws of the bytes of an entry that is put.
 use mathlib.Core.Path.{_≡_, refl, sym, ap, _∙_}
 use mathlib.Core.List.{List, [], _∷_, _++_, append-assoc, append-nil}
-use mathlib.Core.Bool.{Bool, true, false}
+use mathlib.Core.Bool.{Bool, _||_}
 use Prim.Native.Nat.{ℕ, _+_, _*_, _≤_}
 use native.Mathlib.Omega.{arith}
 use Rattle.format.specs.Bytes.{put32, put32s}
 use Rattle.format.specs.Layout.{bit, wordOf}
-use Rattle.format.specs.Writer.{writeEntry}
+use Rattle.format.specs.Writer.{needsWord, writeEntry}
 use Rattle.format_laws.proofs.Numbers.{length-put32}
 use Rattle.output.specs.Output.{Wrote}
 use Rattle.output.proofs.Laws.{wrote-then}
@@ -76,3 +76,9 @@ module _ (x : Fields) (name : List ℕ) where
             (rest .wrote (entryWith x name) q (put-told assume skip intent is also last) beside));
         near = omega arith;
       }
+
+  -- whether it, an entry in front of it, or one of the others needs the extended word
+  pub put-word : (front word rest others all : Bool) → word ≡ (x .«skip_worktree» || x .«intent_to_add») → others ≡ (word || rest) → all ≡ (front || others)
+      → all ≡ (front || (needsWord (entryWith x name) || rest))
+  unfolding needsWord
+  put-word front word rest others all is more whole = whole ∙ ap (λ (t : Bool). front || t) (more ∙ ap (λ (t : Bool). t || rest) is)

@@ -1,3 +1,8 @@
+-- The proof that `put_edited` meets its contract.
+use Rattle.entries_edit.proofs.Ways.{edited-laid, replaces-there}
+use Rattle.file.specs.Answers.{entryWith}
+use native.Mathlib.Omega.{arith}
+use Prim.Native.Nat.{_+_}
 use borrow.Author.Needs.{needs}
 use Rattle.entries_edit.proofs.put_edited.Statement.{statement}
 use Rattle.entries_edit.proofs.put_edited.Tie as tie
@@ -21,7 +26,9 @@ enum-known-edit c = search needs
 
 -- src/lib.rt:278:32
 put-with-requires : tie.Need-put-with-requires
-put-with-requires c κs = ?
+put-with-requires c κs =
+    let st = c .before .before .before .before .before .before .before .before .before in
+    (st .pre .0, rw (c .before .before .before .edit .given .1) at (st .pre .1), st .pre .2, st .pre .3, st .pre .4)
 
 -- src/lib.rt:279:22
 enum-known-edit-2 : tie.Need-enum-known-edit-2
@@ -29,7 +36,9 @@ enum-known-edit-2 c = search needs
 
 -- src/lib.rt:279:28
 put-without-requires : tie.Need-put-without-requires
-put-without-requires c κs = ?
+put-without-requires c κs =
+    let st = c .before .before .before .before .before .before .before .before .before in
+    (st .pre .0, rw (c .before .before .before .edit2 .given .1) at (st .pre .1), st .pre .4)
 
 -- src/lib.rt:272:1
 same-length : tie.Need-same-length
@@ -41,7 +50,10 @@ same-length-2 c = search needs
 
 -- src/lib.rt:272:1
 returns : tie.Need-returns
-returns c = ?
+returns c =
+    let a = c .before .before .before .before .before .before .before .before .before .before .before .before .before .args in
+    let x = c .before .before .before .before .put-kept .ensures in
+    rw (c .before .before .before .before .before .before .before .enum-told .given .1) (edited-laid (a .v) (a .b .now) (a .work .now) (a .count) _ (entryWith (a .fields) (a .name .now)) _ _ _ _ _ _ (a .count) (omega arith) (λ es m q same. x .0 es m q) (x .1))
 
 -- src/lib.rt:272:1
 same-length-3 : tie.Need-same-length-3
@@ -53,7 +65,10 @@ same-length-4 c = search needs
 
 -- src/lib.rt:272:1
 returns-2 : tie.Need-returns-2
-returns-2 c = ?
+returns-2 c =
+    let a = c .before .before .before .before .before .before .before .before .before .before .before .before .before .before .args in
+    let x = c .before .before .before .before .put-with .ensures in
+    rw (c .before .before .before .before .before .before .before .before .edit .given .1) (edited-laid (a .v) (a .b .now) (a .work .now) (a .count) _ (entryWith (a .fields) (a .name .now)) _ _ _ _ _ _ (a .count + 1) (omega arith) (λ es m q same. x .0 es m q (replaces-there _ _ _ es same)) (x .1))
 
 -- src/lib.rt:272:1
 same-length-5 : tie.Need-same-length-5
@@ -65,7 +80,10 @@ same-length-6 c = search needs
 
 -- src/lib.rt:272:1
 returns-3 : tie.Need-returns-3
-returns-3 c = ?
+returns-3 c =
+    let a = c .before .before .before .before .before .before .before .before .before .before .before .before .before .before .args in
+    let x = c .before .before .before .before .put-without .ensures in
+    rw (c .before .before .before .before .before .before .before .before .edit2 .given .1) (edited-laid (a .v) (a .b .now) (a .work .now) (a .count) _ (entryWith (a .fields) (a .name .now)) _ _ _ _ _ _ (a .count) (omega arith) (λ es m q same. x .0 es m q) (x .1))
 
 pub put-edited-spec : {M : Type 1} → statement M
 put-edited-spec =
