@@ -55,8 +55,24 @@ fn put_fields(out: &mut [u8], at: usize, fields: Fields) -> usize
     requires { ⌜ at + 60 ≤ 1125899906842624 ⌝ }
     ensures { λ r. ⌜ Wrote (now (out .entry)) at (put32s (entryWith fields [] .numbers) ++ fields .object) (now (out .exit)) r × (r ≡ at + 60) ⌝ }
 {
-    let middle = put_five(&mut *out, at, fields.ctime_seconds, fields.ctime_nanoseconds, fields.mtime_seconds, fields.mtime_nanoseconds, fields.dev);
-    let end = put_five(&mut *out, middle, fields.ino, fields.mode, fields.uid, fields.gid, fields.size);
+    let middle = put_five(
+        &mut *out,
+        at,
+        fields.ctime_seconds,
+        fields.ctime_nanoseconds,
+        fields.mtime_seconds,
+        fields.mtime_nanoseconds,
+        fields.dev,
+    );
+    let end = put_five(
+        &mut *out,
+        middle,
+        fields.ino,
+        fields.mode,
+        fields.uid,
+        fields.gid,
+        fields.size,
+    );
     let object = fields.object;
     output::put_bytes(out, end, &object)
 }
@@ -72,7 +88,15 @@ fn bit_of(set: bool, value: u32) -> u32
 }
 
 // An entry of these fields and this name, after a name of so many bytes, of which it keeps the first.
-fn put_record(out: &mut [u8], at: usize, version: u32, fields: Fields, name: &[u8], previous: usize, kept: usize) -> usize
+fn put_record(
+    out: &mut [u8],
+    at: usize,
+    version: u32,
+    fields: Fields,
+    name: &[u8],
+    previous: usize,
+    kept: usize,
+) -> usize
     requires { ⌜ (at + 8264 ≤ 1125899906842624) × (fields .stage ≤ 3) × Kept (now name) previous kept ⌝ }
     ensures { λ r. ⌜ EntryWritten (now (out .entry)) at version (entryWith fields (now (name .entry))) previous kept (now (out .exit)) r ⌝ }
 {
@@ -121,11 +145,34 @@ fn or(s: bool, t: bool) -> bool
 // ---- entries from a cursor on
 
 // The entry that a step read, after a name of so many bytes, of which it keeps the first; then n entries more.
-fn put_stepped(b: &[u8], v: u32, work: &mut [u8], from: usize, st: Step, n: u32, previous: usize, kept: usize, version: u32, out: &mut [u8], at: usize) -> Laid
+fn put_stepped(
+    b: &[u8],
+    v: u32,
+    work: &mut [u8],
+    from: usize,
+    st: Step,
+    n: u32,
+    previous: usize,
+    kept: usize,
+    version: u32,
+    out: &mut [u8],
+    at: usize,
+) -> Laid
     requires { ⌜ (at + (n + 1) * 8264 ≤ 1125899906842624) × Placed (now b) from st × Inside (now b) (st .next) × (8192 ≤ length (now work)) × Kept (entryAt v (now b) (now work) from st .name) previous kept ⌝ }
     ensures { λ r. ⌜ ((p : List ℕ) (es : List Entry) (m : ℕ) → Beside p (entryAt v (now (b .entry)) (now (work .entry)) from st .name) previous kept → runFrom v n (now (b .entry)) (now (work .entry)) (st .next) ≡ good es m → Lays version (now (out .entry)) at p (entryAt v (now (b .entry)) (now (work .entry)) from st ∷ es) (now (out .exit)) r) × Leaves (now (work .entry)) (now (out .entry)) at (n + 1) (now (work .exit)) (now (out .exit)) r ⌝ }
 {
-    let middle = entries_write::put_step(b, v, &*work, from, st, version, previous, kept, &mut *out, at);
+    let middle = entries_write::put_step(
+        b,
+        v,
+        &*work,
+        from,
+        st,
+        version,
+        previous,
+        kept,
+        &mut *out,
+        at,
+    );
     let rest = entries_write::put_entries(b, v, work, st.next, n, version, out, middle);
     Laid {
         at: rest.at,
@@ -134,7 +181,17 @@ fn put_stepped(b: &[u8], v: u32, work: &mut [u8], from: usize, st: Step, n: u32,
 }
 
 // n entries; the first of them is written after this name, not after the one before the cursor.
-fn put_after(b: &[u8], v: u32, work: &mut [u8], c: Cursor, n: u32, name: &[u8], version: u32, out: &mut [u8], at: usize) -> Laid
+fn put_after(
+    b: &[u8],
+    v: u32,
+    work: &mut [u8],
+    c: Cursor,
+    n: u32,
+    name: &[u8],
+    version: u32,
+    out: &mut [u8],
+    at: usize,
+) -> Laid
     requires { ⌜ (at + n * 8264 ≤ 1125899906842624) × Inside (now b) c × (8192 ≤ length (now work)) × (length (now name) ≤ 8192) ⌝ }
     ensures { λ r. ⌜ ((es : List Entry) (m : ℕ) → runFrom v n (now (b .entry)) (now (work .entry)) c ≡ good es m → Lays version (now (out .entry)) at (now (name .entry)) es (now (out .exit)) r) × Leaves (now (work .entry)) (now (out .entry)) at n (now (work .exit)) (now (out .exit)) r ⌝ }
 {
@@ -152,13 +209,34 @@ fn put_after(b: &[u8], v: u32, work: &mut [u8], c: Cursor, n: u32, name: &[u8], 
         },
         Next::Good(st) => {
             let kept = common_at(b, v, &*work, st.next, name);
-            put_stepped(b, v, work, c.at, st, n - 1, name.len(), kept, version, out, at)
+            put_stepped(
+                b,
+                v,
+                work,
+                c.at,
+                st,
+                n - 1,
+                name.len(),
+                kept,
+                version,
+                out,
+                at,
+            )
         }
     }
 }
 
 // n entries but the first, which has the name that the second is written after.
-fn put_replaced(b: &[u8], v: u32, work: &mut [u8], c: Cursor, n: u32, version: u32, out: &mut [u8], at: usize) -> Laid
+fn put_replaced(
+    b: &[u8],
+    v: u32,
+    work: &mut [u8],
+    c: Cursor,
+    n: u32,
+    version: u32,
+    out: &mut [u8],
+    at: usize,
+) -> Laid
     requires { ⌜ (at + n * 8264 ≤ 1125899906842624) × Inside (now b) c × (8192 ≤ length (now work)) × (1 ≤ n) ⌝ }
     ensures { λ r. ⌜ ((p : List ℕ) (es : List Entry) (m : ℕ) → runFrom v n (now (b .entry)) (now (work .entry)) c ≡ good es m → ((x : Entry) → getElem? es 0 ≡ some x → x .name ≡ p) → Lays version (now (out .entry)) at p (drop 1 es) (now (out .exit)) r) × Leaves (now (work .entry)) (now (out .entry)) at n (now (work .exit)) (now (out .exit)) r ⌝ }
 {
@@ -179,7 +257,18 @@ fn put_replaced(b: &[u8], v: u32, work: &mut [u8], c: Cursor, n: u32, version: u
 }
 
 // n entries after a name, or all but the first of them, which has that name.
-fn put_others(b: &[u8], v: u32, work: &mut [u8], c: Cursor, n: u32, there: bool, name: &[u8], version: u32, out: &mut [u8], at: usize) -> Laid
+fn put_others(
+    b: &[u8],
+    v: u32,
+    work: &mut [u8],
+    c: Cursor,
+    n: u32,
+    there: bool,
+    name: &[u8],
+    version: u32,
+    out: &mut [u8],
+    at: usize,
+) -> Laid
     requires { ⌜ (at + n * 8264 ≤ 1125899906842624) × Inside (now b) c × (8192 ≤ length (now work)) × (length (now name) ≤ 8192) × (bit there ≤ n) ⌝ }
     ensures { λ r. ⌜ ((es : List Entry) (m : ℕ) → runFrom v n (now (b .entry)) (now (work .entry)) c ≡ good es m → (there ≡ true → (x : Entry) → getElem? es 0 ≡ some x → x .name ≡ now (name .entry)) → Lays version (now (out .entry)) at (now (name .entry)) (drop (bit there) es) (now (out .exit)) r) × Leaves (now (work .entry)) (now (out .entry)) at n (now (work .exit)) (now (out .exit)) r ⌝ }
 {
@@ -190,7 +279,18 @@ fn put_others(b: &[u8], v: u32, work: &mut [u8], c: Cursor, n: u32, there: bool,
 }
 
 // n entries after one that is left out, the one before the cursor. It came after a name of so many bytes, of which it keeps the first.
-fn put_past(b: &[u8], v: u32, work: &mut [u8], c: Cursor, n: u32, previous: usize, kept: usize, version: u32, out: &mut [u8], at: usize) -> Laid
+fn put_past(
+    b: &[u8],
+    v: u32,
+    work: &mut [u8],
+    c: Cursor,
+    n: u32,
+    previous: usize,
+    kept: usize,
+    version: u32,
+    out: &mut [u8],
+    at: usize,
+) -> Laid
     requires { ⌜ (at + n * 8264 ≤ 1125899906842624) × Inside (now b) c × (8192 ≤ length (now work)) × (previous ≤ 8192) × (kept ≤ previous) ⌝ }
     ensures { λ r. ⌜ ((k : Key) (es : List Entry) (m : ℕ) → runFrom v n (now (b .entry)) (now (work .entry)) c ≡ good es m → goesBefore k (keyAt v (now (b .entry)) (now (work .entry)) c) ≡ true → Beside (k .name) (keyAt v (now (b .entry)) (now (work .entry)) c .name) previous kept → Lays version (now (out .entry)) at (k .name) es (now (out .exit)) r) × Leaves (now (work .entry)) (now (out .entry)) at n (now (work .exit)) (now (out .exit)) r ⌝ }
 {
@@ -206,12 +306,33 @@ fn put_past(b: &[u8], v: u32, work: &mut [u8], c: Cursor, n: u32, previous: usiz
             at: at,
             extended: false,
         },
-        Next::Good(st) => put_stepped(b, v, work, c.at, st, n - 1, previous, least(kept, st.common), version, out, at),
+        Next::Good(st) => put_stepped(
+            b,
+            v,
+            work,
+            c.at,
+            st,
+            n - 1,
+            previous,
+            least(kept, st.common),
+            version,
+            out,
+            at,
+        ),
     }
 }
 
 // n entries but the first.
-fn put_removed(b: &[u8], v: u32, work: &mut [u8], c: Cursor, n: u32, version: u32, out: &mut [u8], at: usize) -> Laid
+fn put_removed(
+    b: &[u8],
+    v: u32,
+    work: &mut [u8],
+    c: Cursor,
+    n: u32,
+    version: u32,
+    out: &mut [u8],
+    at: usize,
+) -> Laid
     requires { ⌜ (at + n * 8264 ≤ 1125899906842624) × Inside (now b) c × (8192 ≤ length (now work)) × (1 ≤ n) ⌝ }
     ensures { λ r. ⌜ ((es : List Entry) (m : ℕ) → runFrom v n (now (b .entry)) (now (work .entry)) c ≡ good es m → Lays version (now (out .entry)) at (keyAt v (now (b .entry)) (now (work .entry)) c .name) (drop 1 es) (now (out .exit)) r) × Leaves (now (work .entry)) (now (out .entry)) at n (now (work .exit)) (now (out .exit)) r ⌝ }
 {
@@ -221,14 +342,33 @@ fn put_removed(b: &[u8], v: u32, work: &mut [u8], c: Cursor, n: u32, version: u3
             at: at,
             extended: false,
         },
-        Next::Good(st) => put_past(b, v, work, st.next, n - 1, c.len, st.common, version, out, at),
+        Next::Good(st) => put_past(
+            b,
+            v,
+            work,
+            st.next,
+            n - 1,
+            c.len,
+            st.common,
+            version,
+            out,
+            at,
+        ),
     }
 }
 
 // ---- all entries
 
 // As they are.
-fn put_kept(b: &[u8], v: u32, work: &mut [u8], count: u32, version: u32, out: &mut [u8], at: usize) -> Laid
+fn put_kept(
+    b: &[u8],
+    v: u32,
+    work: &mut [u8],
+    count: u32,
+    version: u32,
+    out: &mut [u8],
+    at: usize,
+) -> Laid
     requires { ⌜ Room (now b) (now work) × (at ≤ 16777216) ⌝ }
     ensures { λ r. ⌜ ((es : List Entry) (m : ℕ) → readEntries 20 v count start 12 (drop 12 (now (b .entry))) ≡ good es m → Lays version (now (out .entry)) at [] es (now (out .exit)) r) × Leaves (now (work .entry)) (now (out .entry)) at count (now (work .exit)) (now (out .exit)) r ⌝ }
 {
@@ -240,14 +380,54 @@ fn put_kept(b: &[u8], v: u32, work: &mut [u8], count: u32, version: u32, out: &m
 }
 
 // With an entry put after the first k, in place of the next one or not.
-fn put_with(b: &[u8], v: u32, work: &mut [u8], count: u32, k: u32, there: bool, fields: Fields, name: &[u8], version: u32, out: &mut [u8], at: usize) -> Laid
+fn put_with(
+    b: &[u8],
+    v: u32,
+    work: &mut [u8],
+    count: u32,
+    k: u32,
+    there: bool,
+    fields: Fields,
+    name: &[u8],
+    version: u32,
+    out: &mut [u8],
+    at: usize,
+) -> Laid
     requires { ⌜ Room (now b) (now work) × (k + bit there ≤ count) × (fields .stage ≤ 3) × (length (now name) ≤ 8192) × (at ≤ 16777216) ⌝ }
     ensures { λ r. ⌜ ((es : List Entry) (m : ℕ) → readEntries 20 v count start 12 (drop 12 (now (b .entry))) ≡ good es m → (there ≡ true → (x : Entry) → getElem? es k ≡ some x → x .name ≡ now (name .entry)) → Lays version (now (out .entry)) at [] (take k es ++ (entryWith fields (now (name .entry)) ∷ drop (k + bit there) es)) (now (out .exit)) r) × Leaves (now (work .entry)) (now (out .entry)) at (count + 1) (now (work .exit)) (now (out .exit)) r ⌝ }
 {
-    let front = entries_write::put_entries(b, v, &mut *work, entries_run::first(), k, version, &mut *out, at);
+    let front = entries_write::put_entries(
+        b,
+        v,
+        &mut *work,
+        entries_run::first(),
+        k,
+        version,
+        &mut *out,
+        at,
+    );
     let kept = common_at(b, v, &*work, front.cursor, name);
-    let middle = put_record(&mut *out, front.at, version, fields, name, front.cursor.len, kept);
-    let rest = put_others(b, v, work, front.cursor, count - k, there, name, version, out, middle);
+    let middle = put_record(
+        &mut *out,
+        front.at,
+        version,
+        fields,
+        name,
+        front.cursor.len,
+        kept,
+    );
+    let rest = put_others(
+        b,
+        v,
+        work,
+        front.cursor,
+        count - k,
+        there,
+        name,
+        version,
+        out,
+        middle,
+    );
     let word = or(fields.skip_worktree, fields.intent_to_add);
     Laid {
         at: rest.at,
@@ -256,11 +436,29 @@ fn put_with(b: &[u8], v: u32, work: &mut [u8], count: u32, k: u32, there: bool, 
 }
 
 // Without the one after the first k.
-fn put_without(b: &[u8], v: u32, work: &mut [u8], count: u32, k: u32, version: u32, out: &mut [u8], at: usize) -> Laid
+fn put_without(
+    b: &[u8],
+    v: u32,
+    work: &mut [u8],
+    count: u32,
+    k: u32,
+    version: u32,
+    out: &mut [u8],
+    at: usize,
+) -> Laid
     requires { ⌜ Room (now b) (now work) × (k + 1 ≤ count) × (at ≤ 16777216) ⌝ }
     ensures { λ r. ⌜ ((es : List Entry) (m : ℕ) → readEntries 20 v count start 12 (drop 12 (now (b .entry))) ≡ good es m → Lays version (now (out .entry)) at [] (take k es ++ drop (k + 1) es) (now (out .exit)) r) × Leaves (now (work .entry)) (now (out .entry)) at count (now (work .exit)) (now (out .exit)) r ⌝ }
 {
-    let front = entries_write::put_entries(b, v, &mut *work, entries_run::first(), k, version, &mut *out, at);
+    let front = entries_write::put_entries(
+        b,
+        v,
+        &mut *work,
+        entries_run::first(),
+        k,
+        version,
+        &mut *out,
+        at,
+    );
     let rest = put_removed(b, v, work, front.cursor, count - k, version, out, front.at);
     Laid {
         at: rest.at,
@@ -269,13 +467,36 @@ fn put_without(b: &[u8], v: u32, work: &mut [u8], count: u32, k: u32, version: u
 }
 
 // The first count entries of a body, edited; fields and name are those of the entry that is put.
-pub fn put_edited(b: &[u8], v: u32, work: &mut [u8], count: u32, edit: Edit, fields: Fields, name: &[u8], version: u32, out: &mut [u8], at: usize) -> Laid
+pub fn put_edited(
+    b: &[u8],
+    v: u32,
+    work: &mut [u8],
+    count: u32,
+    edit: Edit,
+    fields: Fields,
+    name: &[u8],
+    version: u32,
+    out: &mut [u8],
+    at: usize,
+) -> Laid
     requires { ⌜ Room (now b) (now work) × (passes edit ≤ count) × (fields .stage ≤ 3) × (length (now name) ≤ 8192) × (at ≤ 16777216) ⌝ }
     ensures { λ r. ⌜ EntriesEdited v (now (b .entry)) (now (work .entry)) count edit (entryWith fields (now (name .entry))) version (now (out .entry)) at (now (work .exit)) (now (out .exit)) r ⌝ }
 {
     match edit {
         Edit::Keep => put_kept(b, v, work, count, version, out, at),
-        Edit::Put(k, there) => put_with(b, v, work, count, k, there, fields, name, version, out, at),
+        Edit::Put(k, there) => put_with(
+            b,
+            v,
+            work,
+            count,
+            k,
+            there,
+            fields,
+            name,
+            version,
+            out,
+            at,
+        ),
         Edit::Remove(k) => put_without(b, v, work, count, k, version, out, at),
     }
 }

@@ -74,8 +74,7 @@ returns-3 c =
     let t = rw (c .before .before .before .before .before .before .before .before .before .g .given .1) at (c .before .before .before .before .before .before .before .before .before .before .before .before .before .next-entry .ensures) in
     let more : 0 < a .n = omega (arith, c .before .before .before .before .before .before .before .before .before .before .before .before .before .before .before .if1 .left) in
     let x = c .before .before .before .before .put-stepped .ensures in
-    let least = c .before .before .before .before .before .before .least .ensures in
-    (
+    let least = c .before .before .before .before .before .before .least .ensures in (
       λ k es m q before beside. past-laid (a .v) (a .b .now) (a .work .now) (a .c) _ _ t (a .n) more _ _ _ _ _ _ _ (x .0) k (a .kept) least before beside es m q,
       step-leaves (a .v) (a .b .now) (a .work .now) (a .c) _ _ t (a .n) more (a .version) _ _ _ (a .n - 1 + 1) _ _ (omega arith) (x .1),
     )

@@ -60,8 +60,7 @@ returns-2 c =
     let st = c .before .before .before .before .before .before .before .before .before .before .before .before .before .before .before .before .before in
     let a = st .args in
     let t = rw (c .before .before .before .before .before .before .before .before .g .given .1) at (c .before .before .before .before .before .before .before .before .before .before .before .before .next-entry .ensures) in
-    let h = c .before .before .before .before .put-entries .ensures in
-    (
+    let h = c .before .before .before .before .put-entries .ensures in (
       replaced-laid (a .v) (a .b .now) (a .work .now) (a .c) _ _ t (a .n) (omega arith) _ _ _ _ _ _ h,
       step-leaves (a .v) (a .b .now) (a .work .now) (a .c) _ _ t (a .n) (omega arith) (a .version) _ _ _ (a .n - 1) _ _ (omega arith) (all-leaves _ _ _ _ _ _ _ _ _ _ _ h),
     )

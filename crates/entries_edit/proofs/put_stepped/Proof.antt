@@ -35,8 +35,7 @@ returns : tie.Need-returns
 returns c =
     let a = c .before .before .before .before .before .before .before .before .before .before .before .before .before .before .before .before .args in
     let x = c .before .before .before .before .before .before .before .before .before .before .put-step .ensures in
-    let y = c .before .before .before .before .before .put-entries .ensures in
-    (
+    let y = c .before .before .before .before .before .put-entries .ensures in (
       stepped-laid (a .v) (a .b .now) (a .work .now) (a .from) (a .st) _ _ _ _ _ _ _ _ _ _ _ _ x y (c .either .ensures),
       stepped-leaves (a .v) (a .b .now) (a .work .now) (a .from) (a .st) _ _ _ _ _ _ _ _ _ _ _ _ x y (omega arith),
     )

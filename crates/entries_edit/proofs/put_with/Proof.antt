@@ -85,8 +85,7 @@ returns c =
     let one = c .before .before .before .before .before .before .before .before .before .before .before .before .put-record .ensures in
     let x = c .before .before .before .before .before .before .before .put-others .ensures in
     let long = h .long in
-    let rest = c .before .before .before .before .before .before .before .put-others .result in
-    (
+    let rest = c .before .before .before .before .before .before .before .put-others .result in (
       with-laid (a .v) (a .b .now) (a .work .now) (a .count) (a .k) (a .version) (a .out .now) (a .at) _ _ _ few h (entryWith (a .fields) (a .name .now)) _ _ _ one (a .there) _ _ _ (omega (arith, st .pre .0 .room)) (c .before .before .before .before .before .before .before .before .before .before .before .before .before .before .common-at .ensures) (x .0) (put-word (a .fields) (a .name .now) (c .before .before .before .before .before .before .before .before .before .before .before .before .before .before .before .before .before .before .before .before .put-entries .result .extended) (c .before .before .or .result) (rest .extended) (c .before .or2 .result) (c .or3 .result) (c .before .before .or .ensures) (c .before .or2 .ensures) (c .or3 .ensures)),
       with-leaves (a .v) (a .b .now) (a .work .now) (a .count) (a .k) (a .version) (a .out .now) (a .at) _ _ _ few h (entryWith (a .fields) (a .name .now)) _ _ _ one (a .there) _ _ _ _ (c .before .before .before .before .before .before .before .before .before .before .before .before .put-record .kept .0) (x .1),
     )

@@ -50,8 +50,7 @@ returns c =
     let a = st .args in
     let few : a .k ≤ a .count = omega (arith, st .pre .1) in
     let h = rw (c .before .before .before .before .before .before .before .before .before .before .before .before .before .before .first .ensures) at (c .before .before .before .before .before .before .before .before .before .before .before .before .put-entries .ensures) in
-    let x = c .before .before .before .before .before .put-removed .ensures in
-    (
+    let x = c .before .before .before .before .before .put-removed .ensures in (
       without-laid (a .v) (a .b .now) (a .work .now) (a .count) (a .k) (a .version) (a .out .now) (a .at) _ _ _ few h _ _ _ (x .0) (c .or .ensures),
       without-leaves (a .v) (a .b .now) (a .work .now) (a .count) (a .k) (a .version) (a .out .now) (a .at) _ _ _ few h _ _ _ _ (x .1),
     )
