@@ -1,19 +1,18 @@
 -- Laws of entries from a cursor on, one step after another, each written.
 use mathlib.Core.Path.{_≡_, refl, sym, ap, _∙_}
 use mathlib.Core.List.{List, [], _∷_, _++_, append-assoc}
-use mathlib.Core.Bool.{Bool, true, false, _||_}
+use mathlib.Core.Bool.{Bool, false, _||_}
 use Prim.Native.Nat.{ℕ, _+_, _-_, _*_, _≤_, _<_}
-use native.Mathlib.Nat.{zero-add}
 use native.Mathlib.Omega.{arith}
 use lib.ListN.{length, take, drop, length-append}
 use lib.Seq.{take-at, drop-at}
 use Rattle.format.specs.Names.{common}
 use Rattle.format.specs.Records.{Entry}
-use Rattle.format.specs.Reading.{Read, bad, good}
+use Rattle.format.specs.Reading.{good}
 use Rattle.format.specs.Reader.{isSet, entryOf}
 use Rattle.format.specs.Writer.{needsWord, writeEntry, writeEntries}
 use Rattle.format.specs.Requests.{anyWord}
-use Rattle.format_laws.proofs.Readings.{bad-good, inFront, front-inv}
+use Rattle.format_laws.proofs.Readings.{bad-good, front-inv}
 use Rattle.output.specs.Output.{Wrote}
 use Rattle.output.proofs.Laws.{wrote-nothing, wrote-then}
 use Rattle.entries_run.specs.declared.Cursor.{Cursor}
@@ -21,8 +20,7 @@ use Rattle.entries_run.specs.declared.Step.{Step}
 use Rattle.entries_run.specs.declared.Next.the-variants as N
 use Rattle.entries_run.specs.Steps.{nameAt, keyAt, entryAt, Inside, Found, Stepped, Placed, runFrom}
 use Rattle.entries_run.proofs.Steps.{entries-bad, entries-good, entryAt-name}
-use Rattle.entries_write.specs.declared.Progress.{Progress}
-use Rattle.entries_write.specs.Parts.{Kept, Beside, EntryWritten, lastName, Passed, EntriesWritten}
+use Rattle.entries_write.specs.Parts.{Kept, Beside, EntryWritten, lastName, EntriesWritten}
 use Rattle.entries_write.proofs.Names.{common-le, nameAt-length}
 use Rattle.entries_write.proofs.Lists.{entries-append, entries-one, anyWord-append, anyWord-one, lastName-append, lastName-one}
 
@@ -65,7 +63,7 @@ writing-start v b work c n version out at h =
       whole = λ j all m e. record { after = all; taken = m; run = e; parts = refl };
     }
 
-module _ (v : ℕ) (b work₀ : List ℕ) (c₀ : Cursor) (n version : ℕ) (out₀ : List ℕ) (at : ℕ) (work out : List ℕ) (c : Cursor) (end : ℕ) (extended : Bool) (left : ℕ)
+module _ {v : ℕ} {b work₀ : List ℕ} {c₀ : Cursor} {n version : ℕ} {out₀ : List ℕ} {at : ℕ} {work out : List ℕ} {c : Cursor} {end : ℕ} {extended : Bool} {left : ℕ}
     (h : Writing v b work₀ c₀ n version out₀ at work out c end extended left) where
   -- all are written
   pub writing-end : left ≤ 0 → EntriesWritten v b work₀ c₀ n version out₀ at work out (record { cursor = c; at = end; extended = extended })
@@ -89,11 +87,11 @@ module _ (v : ℕ) (b work₀ : List ℕ) (c₀ : Cursor) (n version : ℕ) (out
         out-long = h .wrote .long;
       }
 
-  module _ (more : 0 < left) (work′ : List ℕ) where
+  module _ (more : 0 < left) {work′ : List ℕ} where
     -- the next one is refused
-    pub writing-bad : (k : ℕ) → Stepped v b work c work′ (N.Bad k)
+    pub writing-bad : {k : ℕ} → Stepped v b work c work′ (N.Bad k)
         → EntriesWritten v b work₀ c₀ n version out₀ at work′ out (record { cursor = c; at = end; extended = extended })
-    writing-bad k t =
+    writing-bad {k} t =
         let sum = h .count in
         let near = h .near in
         record {
@@ -108,7 +106,7 @@ module _ (v : ℕ) (b work₀ : List ℕ) (c₀ : Cursor) (n version : ℕ) (out
         }
 
     -- the next one is read
-    module _ (st : Step) (t : Stepped v b work c work′ (N.Good st)) (room : 8192 ≤ length work) where
+    module _ {st : Step} (t : Stepped v b work c work′ (N.Good st)) (room : 8192 ≤ length work) where
       found : Found v b work c work′ st
       found = t .found st refl
 
@@ -135,7 +133,7 @@ module _ (v : ℕ) (b work₀ : List ℕ) (c₀ : Cursor) (n version : ℕ) (out
           (record { short = let most = f .next .short in omega arith; before-short = h .inside .short; fits = omega arith; within = omega arith })
 
       -- and written
-      module _ (out′ : List ℕ) (end′ : ℕ) (x : EntryWritten out end version entry (c .len) (st .common) out′ end′) where
+      module _ {out′ : List ℕ} {end′ : ℕ} (x : EntryWritten out end version entry (c .len) (st .common) out′ end′) where
         beside : Beside (keyAt v b work c .name) (entry .name) (c .len) (st .common)
         beside = rw named (record { long = nameAt-length v b work c (h .inside) room; shared = sym (found .common) })
 
@@ -164,9 +162,9 @@ module _ (v : ℕ) (b work₀ : List ℕ) (c₀ : Cursor) (n version : ℕ) (out
             front-inv (entry ∷ []) _ _ _ _ (sym on ∙ l .run) λ gs size q parts sum.
             record { after = gs; taken = size; run = rw k at q; parts = l .parts ∙ rw (← parts) (sym (append-assoc (h .es) (entry ∷ []) gs)) }
 
-        pub writing-more : (also : Bool) → also ≡ (extended || (isSet 16384 (st .word) || isSet 8192 (st .word)))
+        pub writing-more : {also : Bool} → also ≡ (extended || (isSet 16384 (st .word) || isSet 8192 (st .word)))
             → Writing v b work₀ c₀ n version out₀ at work′ out′ (st .next) end′ also (left - 1)
-        writing-more also is =
+        writing-more is =
             let size : length (h .es ++ (entry ∷ [])) ≡ length (h .es) + 1 = length-append (h .es) (entry ∷ []) in
             let sum = h .count in
             let near = h .near in

@@ -25,7 +25,10 @@ enum-told : tie.Need-enum-told Inv-loop μ-loop
 enum-told c = search needs
 
 same-length : tie.Need-same-length Inv-loop μ-loop
-same-length c = let t = c .before .before .before .before .next-entry .ensures in t .long ∙ c .before .before .before .before .before .before .before .loop .inv .long
+same-length c =
+    let l = c .before .before .before .before .before .before .before in
+    let t = c .before .before .before .before .next-entry .ensures in
+    t .long ∙ l .loop .inv .long
 
 same-length-2 : tie.Need-same-length-2 Inv-loop μ-loop
 same-length-2 c = c .before .before .before .before .before .before .before .loop .inv .wrote .long
@@ -33,9 +36,8 @@ same-length-2 c = c .before .before .before .before .before .before .before .loo
 returns : tie.Need-returns Inv-loop μ-loop
 returns c =
     let l = c .before .before .before .before .before .before .before in
-    let a = l .before .before .before .before .args in
     let t = rw (c .enum-told .given .1) at (c .before .before .before .before .next-entry .ensures) in
-    writing-bad (a .v) (a .b .now) (a .work .now) (a .c) (a .n) (a .version) (a .out .now) (a .at) (l .loop .work) (l .loop .out) (l .loop .cursor) (l .loop .end) (l .loop .extended) (l .loop .left) (l .loop .inv) (c .before .before .before .before .before .before .loop-test .taken) _ _ t
+    writing-bad (l .loop .inv) (c .before .before .before .before .before .before .loop-test .taken) t
 
 enum-known-g : tie.Need-enum-known-g Inv-loop μ-loop
 enum-known-g c = search needs
@@ -43,7 +45,6 @@ enum-known-g c = search needs
 put-step-requires : tie.Need-put-step-requires Inv-loop μ-loop
 put-step-requires c κs =
     let l = c .before .before .before .before .before .before .before .before .before .before in
-    let a = l .before .before .before .before .args in
     let more = c .before .before .before .before .before .before .before .before .before .loop-test .taken in
     let t = rw (c .before .before .before .g .given .1) at (c .before .before .before .before .before .before .before .next-entry .ensures) in
     let long = t .long in
@@ -52,9 +53,9 @@ put-step-requires c κs =
     let sum = l .loop .inv .count in
     let room : 8192 ≤ length (l .loop .work) = omega arith in (
       omega arith,
-      step-placed (a .v) (a .b .now) (a .work .now) (a .c) (a .n) (a .version) (a .out .now) (a .at) (l .loop .work) (l .loop .out) (l .loop .cursor) (l .loop .end) (l .loop .extended) (l .loop .left) (l .loop .inv) more _ _ t room,
+      step-placed (l .loop .inv) more t room,
       omega arith,
-      step-kept (a .v) (a .b .now) (a .work .now) (a .c) (a .n) (a .version) (a .out .now) (a .at) (l .loop .work) (l .loop .out) (l .loop .cursor) (l .loop .end) (l .loop .extended) (l .loop .left) (l .loop .inv) more _ _ t room,
+      step-kept (l .loop .inv) more t room,
     )
 
 either-requires : tie.Need-either-requires Inv-loop μ-loop
@@ -69,12 +70,12 @@ loop-less c = omega arith
 loop-again : tie.Need-loop-again Inv-loop μ-loop
 loop-again c =
     let l = c .before .before .before .before .before .before .before .before .before .before .before .before .before .before .before in
-    let a = l .before .before .before .before .args in
     let more = c .before .before .before .before .before .before .before .before .before .before .before .before .before .before .loop-test .taken in
-    let t = rw (c .before .before .before .before .before .before .before .before .g .given .1) at (c .before .before .before .before .before .before .before .before .before .before .before .before .next-entry .ensures) in
+    let read = c .before .before .before .before .before .before .before .before .before .before .before .before in
+    let t = rw (c .before .before .before .before .before .before .before .before .g .given .1) at (read .next-entry .ensures) in
     let same = l .loop .inv .long in
     let room : 8192 ≤ length (l .loop .work) = omega arith in
-    writing-more (a .v) (a .b .now) (a .work .now) (a .c) (a .n) (a .version) (a .out .now) (a .at) (l .loop .work) (l .loop .out) (l .loop .cursor) (l .loop .end) (l .loop .extended) (l .loop .left) (l .loop .inv) more _ _ t room _ _ (c .before .before .before .before .put-step .ensures) _ (c .before .either .ensures)
+    writing-more (l .loop .inv) more t room (c .before .before .before .before .put-step .ensures) (c .before .either .ensures)
 
 same-length-3 : tie.Need-same-length-3 Inv-loop μ-loop
 same-length-3 c = c .before .loop .inv .long
@@ -85,8 +86,7 @@ same-length-4 c = c .before .loop .inv .wrote .long
 returns-2 : tie.Need-returns-2 Inv-loop μ-loop
 returns-2 c =
     let l = c .before in
-    let a = l .before .before .before .before .args in
-    writing-end (a .v) (a .b .now) (a .work .now) (a .c) (a .n) (a .version) (a .out .now) (a .at) (l .loop .work) (l .loop .out) (l .loop .cursor) (l .loop .end) (l .loop .extended) (l .loop .left) (l .loop .inv) (c .loop-test .left)
+    writing-end (l .loop .inv) (c .loop-test .left)
 
 pub put-entries-spec : {M : Type 1} → statement M
 put-entries-spec =

@@ -1,5 +1,4 @@
 -- The proof that `put_name` meets its contract.
-use native.Mathlib.Omega.{arith}
 use Rattle.entries_write.proofs.Names.{name-packed, name-plain}
 use borrow.Author.Needs.{needs}
 use Rattle.entries_write.proofs.put_name.Statement.{statement}

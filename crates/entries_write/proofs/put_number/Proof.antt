@@ -39,7 +39,9 @@ same-length-2 : tie.Need-same-length-2
 same-length-2 c = search needs
 
 returns-2 : tie.Need-returns-2
-returns-2 c = number-two _ _ _ _ _ _ _ (omega arith) (c .before .before .before .before .before .before .put-byte2 .ensures) (c .before .before .put-byte3 .ensures)
+returns-2 c =
+    let high = c .before .before .before .before .before .before in
+    number-two _ _ _ _ _ _ _ (omega arith) (high .put-byte2 .ensures) (c .before .before .put-byte3 .ensures)
 
 pub put-number-spec : {M : Type 1} → statement M
 put-number-spec =

@@ -1,5 +1,4 @@
 -- The proof that `put_packed` meets its contract.
-use native.Mathlib.Omega.{arith}
 use Rattle.entries_write.proofs.Names.{packed-wrote}
 use borrow.Author.Needs.{needs}
 use Rattle.entries_write.proofs.put_packed.Statement.{statement}
@@ -31,7 +30,10 @@ same-length c = search needs
 
 returns : tie.Need-returns
 returns c =
-    packed-wrote _ _ _ _ _ _ _ _ _ _ _ (c .before .before .before .before .before .before .before .before .before .before .before .before .before .before .before .pre .1) (c .before .before .before .before .before .before .before .before .before .before .before .put-number .ensures) (c .before .before .before .before .before .before .put-bytes .ensures) (c .before .before .put-byte .ensures)
+    let end = c .before .before .before .before .before .before in
+    let number = c .before .before .before .before .before .before .before .before .before .before .before in
+    let start = c .before .before .before .before .before .before .before .before .before .before .before .before .before .before .before in
+    packed-wrote _ _ _ _ _ _ _ _ _ _ _ (start .pre .1) (number .put-number .ensures) (end .put-bytes .ensures) (c .before .before .put-byte .ensures)
 
 pub put-packed-spec : {M : Type 1} → statement M
 put-packed-spec =

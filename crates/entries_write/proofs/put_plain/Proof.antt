@@ -25,8 +25,9 @@ same-length c = search needs
 
 returns : tie.Need-returns
 returns c =
+    let end = c .before .before .before .before .before .before in
     let size = c .before .before .before .before .before .before .before .before .entry-length .ensures in
-    plain-wrote _ _ _ _ _ _ _ _ _ (size .0) (size .2) (omega arith) (c .before .before .before .before .before .before .put-bytes .ensures) (c .before .before .put-nuls .ensures)
+    plain-wrote _ _ _ _ _ _ _ _ _ (size .0) (size .2) (omega arith) (end .put-bytes .ensures) (c .before .before .put-nuls .ensures)
 
 pub put-plain-spec : {M : Type 1} → statement M
 put-plain-spec =

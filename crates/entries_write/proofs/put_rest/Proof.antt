@@ -19,17 +19,19 @@ put-16-requires c κs = search needs
 
 put-name-requires : tie.Need-put-name-requires
 put-name-requires c κs =
-    let e = c .before .before .before .put-16 .ensures .end in
-    let two = rw length-put16 at e in
-    (omega arith, omega arith, c .before .before .before .before .before .before .before .before .before .pre .2)
+    let start = c .before .before .before .before .before .before .before .before .before in
+    let two = rw length-put16 at (c .before .before .before .put-16 .ensures .end) in
+    (omega arith, omega arith, start .pre .2)
 
 same-length : tie.Need-same-length
 same-length c = search needs
 
 returns : tie.Need-returns
 returns c =
-    let f = c .before .before .before .before .before .before .before .before .before .length-field .ensures in
-    rest-short _ _ _ _ _ _ _ _ _ _ _ _ (c .before .before .before .before .before .before .before .before .if1 .taken) (rw f at (c .before .before .before .before .before .before .put-16 .ensures)) (c .before .before .put-name .ensures)
+    let put = c .before .before .before .before .before .before in
+    let test = c .before .before .before .before .before .before .before .before in
+    let field = c .before .before .before .before .before .before .before .before .before .length-field .ensures in
+    rest-short _ _ _ _ _ _ _ _ _ _ _ _ (test .if1 .taken) (rw field at (put .put-16 .ensures)) (c .before .before .put-name .ensures)
 
 add-put-16 : tie.Need-add-put-16
 unfolding lengthField
@@ -39,26 +41,25 @@ put-16-requires-2 : tie.Need-put-16-requires-2
 put-16-requires-2 c κs = search needs
 
 put-16-requires-3 : tie.Need-put-16-requires-3
-put-16-requires-3 c κs =
-    let e = c .before .before .before .put-162 .ensures .end in
-    let two = rw length-put16 at e in
-    omega arith
+put-16-requires-3 c κs = let two = rw length-put16 at (c .before .before .before .put-162 .ensures .end) in omega arith
 
 put-name-requires-2 : tie.Need-put-name-requires-2
 put-name-requires-2 c κs =
-    let e = c .before .before .before .before .before .before .before .put-162 .ensures .end in
-    let two = rw length-put16 at e in
-    let f = c .before .before .before .put-163 .ensures .end in
-    let four = rw length-put16 at f in
-    (omega arith, omega arith, c .before .before .before .before .before .before .before .before .before .before .before .before .before .pre .2)
+    let start = c .before .before .before .before .before .before .before .before .before .before .before .before .before in
+    let two = rw length-put16 at (c .before .before .before .before .before .before .before .put-162 .ensures .end) in
+    let four = rw length-put16 at (c .before .before .before .put-163 .ensures .end) in
+    (omega arith, omega arith, start .pre .2)
 
 same-length-2 : tie.Need-same-length-2
 same-length-2 c = search needs
 
 returns-2 : tie.Need-returns-2
 returns-2 c =
-    let f = c .before .before .before .before .before .before .before .before .before .before .before .before .before .length-field .ensures in
-    rest-long _ _ _ _ _ _ _ _ _ _ _ _ _ _ (c .before .before .before .before .before .before .before .before .before .before .before .before .if1 .left) (rw f at (c .before .before .before .before .before .before .before .before .before .before .put-162 .ensures)) (c .before .before .before .before .before .before .put-163 .ensures) (c .before .before .put-name2 .ensures)
+    let word = c .before .before .before .before .before .before in
+    let flags = c .before .before .before .before .before .before .before .before .before .before in
+    let test = c .before .before .before .before .before .before .before .before .before .before .before .before in
+    let field = c .before .before .before .before .before .before .before .before .before .before .before .before .before .length-field .ensures in
+    rest-long _ _ _ _ _ _ _ _ _ _ _ _ _ _ (test .if1 .left) (rw field at (flags .put-162 .ensures)) (word .put-163 .ensures) (c .before .before .put-name2 .ensures)
 
 pub put-rest-spec : {M : Type 1} → statement M
 put-rest-spec =

@@ -1,9 +1,7 @@
 -- The proof that `put_step` meets its contract.
-use mathlib.Core.Path.{sym}
 use native.Mathlib.Omega.{arith}
-use lib.Seq.{length-take-le}
 use Rattle.format.specs.Bytes.{Bytes}
-use Rattle.entries_write.proofs.Words.{fixed-end, entry-wrote, name-packed, name-plain, name-kept}
+use Rattle.entries_write.proofs.Words.{fixed-end, entry-wrote, name-kept}
 use borrow.Author.Needs.{needs}
 use Rattle.entries_write.proofs.put_step.Statement.{statement}
 use Rattle.entries_write.proofs.put_step.Tie as tie
@@ -35,58 +33,51 @@ add-base c = search needs
 mul-word : tie.Need-mul-word
 mul-word c = search needs
 
-slice-aggregate-put-rest : tie.Need-slice-aggregate-put-rest
-slice-aggregate-put-rest c = let short = c .before .before .before .before .before .before .before .before .before .before .before .before .before .before .pre .1 .short in sym (length-take-le _ _ (omega arith))
+name-at-requires : tie.Need-name-at-requires
+name-at-requires c κs = search needs
 
 put-rest-requires : tie.Need-put-rest-requires
 put-rest-requires c κs =
-    let st = c .before .before .before .before .before .before .before .before .before .before .before .before .before .before in
-    let a = st .args in
-    let e = fixed-end (a .b .now) _ _ (a .from) _ _ (st .pre .1 .fixed) (c .before .before .before .before .before .before .before .before .put-bytes .ensures) in
-    let is = name-packed (a .v) (a .b .now) (a .work .now) (a .from) (a .st) (c .before .before .if1 .taken) in
-    (omega arith, omega arith, name-kept (a .v) (a .b .now) (a .work .now) (a .from) (a .st) _ _ _ is (st .pre .3))
+    let named = c .before in
+    let put = c .before .before .before .before .before .before .before .before in
+    let start = c .before .before .before .before .before .before .before .before .before .before .before .before .before .before in
+    let a = start .args in
+    let end = fixed-end (a .b .now) _ _ (a .from) _ _ (start .pre .1 .fixed) (put .put-bytes .ensures) in
+    (omega arith, omega arith, name-kept (a .v) (a .b .now) (a .work .now) (a .from) (a .st) _ _ _ (named .name-at .ensures) (start .pre .3))
 
 same-length : tie.Need-same-length
 same-length c = search needs
 
 returns : tie.Need-returns
 returns c =
-    let st = c .before .before .before .before .before .before .before .before .before .before .before .before .before .before .before .before .before in
-    let a = st .args in
-    let bytes : Bytes (a .b .now) = λ i. omega (arith, c .before .before .before .before .before .before .before .before .before .before .before .before .before .before .before .before .shared-slice-known .given i) in
-    let is = name-packed (a .v) (a .b .now) (a .work .now) (a .from) (a .st) (c .before .before .before .before .before .if1 .taken) in
-    entry-wrote (a .b .now) _ _ (a .from) _ _ (st .pre .1 .fixed) (c .before .before .before .before .before .before .before .before .before .before .before .put-bytes .ensures) (a .v) (a .work .now) (a .st) _ _ _ _ _ _ is bytes (c .before .before .put-rest .ensures)
-
-add-end : tie.Need-add-end
-add-end c = search needs
-
-sub-put-rest : tie.Need-sub-put-rest
-sub-put-rest c = search needs
-
-part-put-rest-start : tie.Need-part-put-rest-start
-part-put-rest-start c = search needs
-
-part-put-rest-end : tie.Need-part-put-rest-end
-part-put-rest-end c = search needs
-
-put-rest-requires-2 : tie.Need-put-rest-requires-2
-put-rest-requires-2 c κs =
-    let st = c .before .before .before .before .before .before .before .before .before .before .before .before .before .before in
-    let a = st .args in
-    let e = fixed-end (a .b .now) _ _ (a .from) _ _ (st .pre .1 .fixed) (c .before .before .before .before .before .before .before .before .put-bytes .ensures) in
-    let is = name-plain (a .v) (a .b .now) (a .work .now) (a .from) (a .st) (c .before .before .if1 .left) in
-    (omega arith, omega arith, name-kept (a .v) (a .b .now) (a .work .now) (a .from) (a .st) _ _ _ is (st .pre .3))
-
-same-length-2 : tie.Need-same-length-2
-same-length-2 c = search needs
-
-returns-2 : tie.Need-returns-2
-returns-2 c =
-    let st = c .before .before .before .before .before .before .before .before .before .before .before .before .before .before .before .before .before in
-    let a = st .args in
-    let bytes : Bytes (a .b .now) = λ i. omega (arith, c .before .before .before .before .before .before .before .before .before .before .before .before .before .before .before .before .shared-slice-known .given i) in
-    let is = name-plain (a .v) (a .b .now) (a .work .now) (a .from) (a .st) (c .before .before .before .before .before .if1 .left) in
-    entry-wrote (a .b .now) _ _ (a .from) _ _ (st .pre .1 .fixed) (c .before .before .before .before .before .before .before .before .before .before .before .put-bytes .ensures) (a .v) (a .work .now) (a .st) _ _ _ _ _ _ is bytes (c .before .before .put-rest2 .ensures)
+    let rest = c .before .before in
+    let named = c .before .before .before .before in
+    let put = c .before .before .before .before .before .before .before .before .before .before .before in
+    let known = c .before .before .before .before .before .before .before .before .before .before .before .before .before .before .before .before in
+    let start = known .before in
+    let a = start .args in
+    let bytes : Bytes (a .b .now) = λ i. omega (arith, known .shared-slice-known .given i) in
+    entry-wrote
+    (a .b .now)
+    _
+    _
+    (a .from)
+    _
+    _
+    (start .pre .1 .fixed)
+    (put .put-bytes .ensures)
+    (a .v)
+    (a .work .now)
+    (a .st)
+    _
+    _
+    _
+    _
+    _
+    _
+    (named .name-at .ensures)
+    bytes
+    (rest .put-rest .ensures)
 
 pub put-step-spec : {M : Type 1} → statement M
 put-step-spec =
@@ -101,14 +92,7 @@ put-step-spec =
     mul-base-2
     add-base
     mul-word
-    slice-aggregate-put-rest
+    name-at-requires
     put-rest-requires
     same-length
-    returns
-    add-end
-    sub-put-rest
-    part-put-rest-start
-    part-put-rest-end
-    put-rest-requires-2
-    same-length-2
-    returns-2)
+    returns)
