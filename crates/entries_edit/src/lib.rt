@@ -1,26 +1,22 @@
 // The entries of a body, written with one of them put or removed, or as they are.
 ghost use mathlib.Core.Path.{_≡_};
-ghost use mathlib.Core.Bool.{true, _||_};
+ghost use mathlib.Core.Bool.{true, false, _||_};
 ghost use mathlib.Core.List.{List, [], _∷_, _++_};
-ghost use mathlib.Core.Option.{some};
-ghost use Prim.Native.Nat.{ℕ, _+_, _*_, _≤_, _<_, min};
-ghost use lib.ListN.{length, take, drop, getElem?};
+ghost use Prim.Native.Nat.{ℕ, _+_, _*_, _≤_, min};
+ghost use lib.ListN.{length};
 ghost use Rattle.format.specs.Bytes.{put32s};
-ghost use Rattle.format.specs.Layout.{bit};
 ghost use Rattle.format.specs.Names as Names;
-ghost use Rattle.format.specs.Records.{Entry, Key, start};
-ghost use Rattle.format.specs.Reading.{good};
-ghost use Rattle.format.specs.Reader.{readEntries};
-ghost use Rattle.format.specs.Requests.{goesBefore};
+ghost use Rattle.format.specs.Records.{Entry};
+ghost use Rattle.format.specs.Layout.{bit};
 ghost use Rattle.output.specs.Output.{Wrote};
-ghost use Rattle.entries_run.specs.Steps.{Room, Inside, Placed, keyAt, entryAt, runFrom};
-ghost use Rattle.entries_write.specs.Parts.{Kept, Beside, EntryWritten};
+ghost use Rattle.entries_run.specs.Steps.{Room, Inside, Placed, keyAt, entryAt};
+ghost use Rattle.entries_write.specs.Parts.{Kept, EntryWritten};
 ghost use Rattle.file.specs.Answers.{entryWith};
-ghost use Rattle.entries_edit.specs.Edits.{passes, Lays, Leaves, EntriesEdited};
+ghost use Rattle.entries_edit.specs.declared.Edit.the-variants as E;
+ghost use Rattle.entries_edit.specs.Edits.{passes, StepLaid, OthersLaid, PastLaid, RemovedLaid, EntriesEdited};
 use entries_run::Cursor;
 use entries_run::Next;
 use entries_run::Step;
-use entries_write::Progress;
 use file::Fields;
 
 // What changes: nothing; an entry is put after so many, in place of the next one or not; the entry after so many is removed.
@@ -109,17 +105,11 @@ fn put_record(
 // ---- names
 
 // How many bytes the name before a cursor, in the workspace in version 4, else in the body, and a name have in common.
-fn common_at(b: &[u8], v: u32, work: &[u8], c: Cursor, name: &[u8]) -> usize
+fn common_at<'a>(b: &'a [u8], v: u32, work: &'a [u8], c: Cursor, name: &[u8]) -> usize
     requires { ⌜ Inside (now b) c × (8192 ≤ length (now work)) ⌝ }
     ensures { λ r. ⌜ r ≡ Names.common (keyAt v (now (b .entry)) (now (work .entry)) c .name) (now (name .entry)) ⌝ }
 {
-    let len = c.len;
-    if v == 4 {
-        return fields::common(&work[..len], name);
-    }
-    let start = c.start;
-    let end = start + len;
-    fields::common(&b[start..end], name)
+    fields::common(entries_write::name_at(b, v, work, c.start, c.len), name)
 }
 
 // The smaller of two numbers.
@@ -159,7 +149,7 @@ fn put_stepped(
     at: usize,
 ) -> Laid
     requires { ⌜ (at + (n + 1) * 8264 ≤ 1125899906842624) × Placed (now b) from st × Inside (now b) (st .next) × (8192 ≤ length (now work)) × Kept (entryAt v (now b) (now work) from st .name) previous kept ⌝ }
-    ensures { λ r. ⌜ ((p : List ℕ) (es : List Entry) (m : ℕ) → Beside p (entryAt v (now (b .entry)) (now (work .entry)) from st .name) previous kept → runFrom v n (now (b .entry)) (now (work .entry)) (st .next) ≡ good es m → Lays version (now (out .entry)) at p (entryAt v (now (b .entry)) (now (work .entry)) from st ∷ es) (now (out .exit)) r) × Leaves (now (work .entry)) (now (out .entry)) at (n + 1) (now (work .exit)) (now (out .exit)) r ⌝ }
+    ensures { λ r. ⌜ StepLaid v (now (b .entry)) (now (work .entry)) from st n previous kept version (now (out .entry)) at (now (work .exit)) (now (out .exit)) r ⌝ }
 {
     let middle = entries_write::put_step(
         b,
@@ -193,7 +183,7 @@ fn put_after(
     at: usize,
 ) -> Laid
     requires { ⌜ (at + n * 8264 ≤ 1125899906842624) × Inside (now b) c × (8192 ≤ length (now work)) × (length (now name) ≤ 8192) ⌝ }
-    ensures { λ r. ⌜ ((es : List Entry) (m : ℕ) → runFrom v n (now (b .entry)) (now (work .entry)) c ≡ good es m → Lays version (now (out .entry)) at (now (name .entry)) es (now (out .exit)) r) × Leaves (now (work .entry)) (now (out .entry)) at n (now (work .exit)) (now (out .exit)) r ⌝ }
+    ensures { λ r. ⌜ OthersLaid v (now (b .entry)) (now (work .entry)) c n false (now (name .entry)) version (now (out .entry)) at (now (work .exit)) (now (out .exit)) r ⌝ }
 {
     if n == 0 {
         return Laid {
@@ -238,7 +228,7 @@ fn put_replaced(
     at: usize,
 ) -> Laid
     requires { ⌜ (at + n * 8264 ≤ 1125899906842624) × Inside (now b) c × (8192 ≤ length (now work)) × (1 ≤ n) ⌝ }
-    ensures { λ r. ⌜ ((p : List ℕ) (es : List Entry) (m : ℕ) → runFrom v n (now (b .entry)) (now (work .entry)) c ≡ good es m → ((x : Entry) → getElem? es 0 ≡ some x → x .name ≡ p) → Lays version (now (out .entry)) at p (drop 1 es) (now (out .exit)) r) × Leaves (now (work .entry)) (now (out .entry)) at n (now (work .exit)) (now (out .exit)) r ⌝ }
+    ensures { λ r. ⌜ ((p : List ℕ) → OthersLaid v (now (b .entry)) (now (work .entry)) c n true p version (now (out .entry)) at (now (work .exit)) (now (out .exit)) r) ⌝ }
 {
     let g = entries_run::next_entry(b, v, &mut *work, c);
     match g {
@@ -270,7 +260,7 @@ fn put_others(
     at: usize,
 ) -> Laid
     requires { ⌜ (at + n * 8264 ≤ 1125899906842624) × Inside (now b) c × (8192 ≤ length (now work)) × (length (now name) ≤ 8192) × (bit there ≤ n) ⌝ }
-    ensures { λ r. ⌜ ((es : List Entry) (m : ℕ) → runFrom v n (now (b .entry)) (now (work .entry)) c ≡ good es m → (there ≡ true → (x : Entry) → getElem? es 0 ≡ some x → x .name ≡ now (name .entry)) → Lays version (now (out .entry)) at (now (name .entry)) (drop (bit there) es) (now (out .exit)) r) × Leaves (now (work .entry)) (now (out .entry)) at n (now (work .exit)) (now (out .exit)) r ⌝ }
+    ensures { λ r. ⌜ OthersLaid v (now (b .entry)) (now (work .entry)) c n there (now (name .entry)) version (now (out .entry)) at (now (work .exit)) (now (out .exit)) r ⌝ }
 {
     if there {
         return put_replaced(b, v, work, c, n, version, out, at);
@@ -292,7 +282,7 @@ fn put_past(
     at: usize,
 ) -> Laid
     requires { ⌜ (at + n * 8264 ≤ 1125899906842624) × Inside (now b) c × (8192 ≤ length (now work)) × (previous ≤ 8192) × (kept ≤ previous) ⌝ }
-    ensures { λ r. ⌜ ((k : Key) (es : List Entry) (m : ℕ) → runFrom v n (now (b .entry)) (now (work .entry)) c ≡ good es m → goesBefore k (keyAt v (now (b .entry)) (now (work .entry)) c) ≡ true → Beside (k .name) (keyAt v (now (b .entry)) (now (work .entry)) c .name) previous kept → Lays version (now (out .entry)) at (k .name) es (now (out .exit)) r) × Leaves (now (work .entry)) (now (out .entry)) at n (now (work .exit)) (now (out .exit)) r ⌝ }
+    ensures { λ r. ⌜ PastLaid v (now (b .entry)) (now (work .entry)) c n previous kept version (now (out .entry)) at (now (work .exit)) (now (out .exit)) r ⌝ }
 {
     if n == 0 {
         return Laid {
@@ -334,7 +324,7 @@ fn put_removed(
     at: usize,
 ) -> Laid
     requires { ⌜ (at + n * 8264 ≤ 1125899906842624) × Inside (now b) c × (8192 ≤ length (now work)) × (1 ≤ n) ⌝ }
-    ensures { λ r. ⌜ ((es : List Entry) (m : ℕ) → runFrom v n (now (b .entry)) (now (work .entry)) c ≡ good es m → Lays version (now (out .entry)) at (keyAt v (now (b .entry)) (now (work .entry)) c .name) (drop 1 es) (now (out .exit)) r) × Leaves (now (work .entry)) (now (out .entry)) at n (now (work .exit)) (now (out .exit)) r ⌝ }
+    ensures { λ r. ⌜ RemovedLaid v (now (b .entry)) (now (work .entry)) c n version (now (out .entry)) at (now (work .exit)) (now (out .exit)) r ⌝ }
 {
     let g = entries_run::next_entry(b, v, &mut *work, c);
     match g {
@@ -370,7 +360,7 @@ fn put_kept(
     at: usize,
 ) -> Laid
     requires { ⌜ Room (now b) (now work) × (at ≤ 16777216) ⌝ }
-    ensures { λ r. ⌜ ((es : List Entry) (m : ℕ) → readEntries 20 v count start 12 (drop 12 (now (b .entry))) ≡ good es m → Lays version (now (out .entry)) at [] es (now (out .exit)) r) × Leaves (now (work .entry)) (now (out .entry)) at count (now (work .exit)) (now (out .exit)) r ⌝ }
+    ensures { λ r. ⌜ ((e : Entry) → EntriesEdited v (now (b .entry)) (now (work .entry)) count E.Keep e version (now (out .entry)) at (now (work .exit)) (now (out .exit)) r) ⌝ }
 {
     let all = entries_write::put_entries(b, v, work, entries_run::first(), count, version, out, at);
     Laid {
@@ -394,7 +384,7 @@ fn put_with(
     at: usize,
 ) -> Laid
     requires { ⌜ Room (now b) (now work) × (k + bit there ≤ count) × (fields .stage ≤ 3) × (length (now name) ≤ 8192) × (at ≤ 16777216) ⌝ }
-    ensures { λ r. ⌜ ((es : List Entry) (m : ℕ) → readEntries 20 v count start 12 (drop 12 (now (b .entry))) ≡ good es m → (there ≡ true → (x : Entry) → getElem? es k ≡ some x → x .name ≡ now (name .entry)) → Lays version (now (out .entry)) at [] (take k es ++ (entryWith fields (now (name .entry)) ∷ drop (k + bit there) es)) (now (out .exit)) r) × Leaves (now (work .entry)) (now (out .entry)) at (count + 1) (now (work .exit)) (now (out .exit)) r ⌝ }
+    ensures { λ r. ⌜ EntriesEdited v (now (b .entry)) (now (work .entry)) count (E.Put k there) (entryWith fields (now (name .entry))) version (now (out .entry)) at (now (work .exit)) (now (out .exit)) r ⌝ }
 {
     let front = entries_write::put_entries(
         b,
@@ -447,7 +437,7 @@ fn put_without(
     at: usize,
 ) -> Laid
     requires { ⌜ Room (now b) (now work) × (k + 1 ≤ count) × (at ≤ 16777216) ⌝ }
-    ensures { λ r. ⌜ ((es : List Entry) (m : ℕ) → readEntries 20 v count start 12 (drop 12 (now (b .entry))) ≡ good es m → Lays version (now (out .entry)) at [] (take k es ++ drop (k + 1) es) (now (out .exit)) r) × Leaves (now (work .entry)) (now (out .entry)) at count (now (work .exit)) (now (out .exit)) r ⌝ }
+    ensures { λ r. ⌜ ((e : Entry) → EntriesEdited v (now (b .entry)) (now (work .entry)) count (E.Remove k) e version (now (out .entry)) at (now (work .exit)) (now (out .exit)) r) ⌝ }
 {
     let front = entries_write::put_entries(
         b,
