@@ -1,8 +1,8 @@
 -- The proof that `put_after` meets its contract.
-use Rattle.entries_edit.proofs.Ways.{leaves-none, none-laid, refused, step-next, step-placed, step-room, after-kept, after-laid, step-leaves}
+use Rattle.entries_edit.proofs.Ways.{after-none, others-refused, after-kept, after-laid}
+use Rattle.entries_write.proofs.Stepping.{step-found, step-placed, step-room, step-common}
 use native.Mathlib.Omega.{arith}
-use Prim.Native.Nat.{_+_, _-_, _<_}
-use mathlib.Core.Path.{refl}
+use mathlib.Core.Bool.{false}
 use borrow.Author.Needs.{needs}
 use Rattle.entries_edit.proofs.put_after.Statement.{statement}
 use Rattle.entries_edit.proofs.put_after.Tie as tie
@@ -12,75 +12,72 @@ use Rattle.entries_edit.proofs.common_at.Reads as common-at-reads
 use Rattle.entries_edit.proofs.put_stepped.Reads as put-stepped-reads
 use Rattle.entries_run.proofs.next_entry.Reads as next-entry-reads
 
--- src/lib.rt:142:9
+-- src/lib.rt:189:9
 returns : tie.Need-returns
 returns c =
-    let a = c .before .before .before .before .before .args in
-    (none-laid (a .v) (a .b .now) (a .work .now) (a .c) (a .n) _ _ _ _ (c .if1 .taken), leaves-none (a .work .now) (a .out .now) (a .at) (a .n) _ refl refl)
+    let st = c .before .before .before .before .before in
+    let a = st .args in
+    after-none _ _ _ _ (a .n) (a .version) (a .out .now) (a .at) (c .if1 .taken) _
 
--- src/lib.rt:147:9
+-- src/lib.rt:194:9
 next-entry-requires : tie.Need-next-entry-requires
 next-entry-requires c κs = search needs
 
--- src/lib.rt:149:25
+-- src/lib.rt:196:25
 enum-told : tie.Need-enum-told
 enum-told c = search needs
 
--- src/lib.rt:153:20
+-- src/lib.rt:200:20
 enum-known-g : tie.Need-enum-known-g
 enum-known-g c = search needs
 
--- src/lib.rt:154:17
+-- src/lib.rt:201:17
 common-at-requires : tie.Need-common-at-requires
 common-at-requires c κs =
     let st = c .before .before .before .before .before .before .before .before .before .before .before .before .before in
     let a = st .args in
     let t = rw (c .before .before .g .given .1) at (c .before .before .before .before .before .before .next-entry .ensures) in
-    (step-next (a .v) (a .b .now) (a .work .now) (a .c) _ _ t, step-room (a .v) (a .b .now) (a .work .now) (a .c) _ _ t (st .pre .2))
+    (step-found t .next, step-room t (st .pre .2))
 
--- src/lib.rt:155:47
+-- src/lib.rt:208:17
 sub-put-stepped : tie.Need-sub-put-stepped
 sub-put-stepped c = search needs
 
--- src/lib.rt:155:13
+-- src/lib.rt:202:13
 put-stepped-requires : tie.Need-put-stepped-requires
 put-stepped-requires c κs =
     let st = c .before .before .before .before .before .before .before .before .before .before .before .before .before .before .before .before in
     let a = st .args in
     let t = rw (c .before .before .before .before .before .g .given .1) at (c .before .before .before .before .before .before .before .before .before .next-entry .ensures) in
-    (omega arith, step-placed (a .v) (a .b .now) (a .work .now) (a .c) _ _ t, step-next (a .v) (a .b .now) (a .work .now) (a .c) _ _ t, step-room (a .v) (a .b .now) (a .work .now) (a .c) _ _ t (st .pre .2), after-kept (a .v) (a .b .now) (a .work .now) (a .c) _ _ t (st .pre .2) (a .name .now) _ (st .pre .3) (c .before .before .common-at .ensures))
+    (omega arith, step-placed t, step-found t .next, step-room t (st .pre .2), after-kept t (st .pre .2) (a .name .now) (st .pre .3) (c .before .before .common-at .ensures))
 
--- src/lib.rt:137:1
+-- src/lib.rt:174:1
 same-length : tie.Need-same-length
 same-length c = search needs
 
--- src/lib.rt:137:1
+-- src/lib.rt:174:1
 returns-2 : tie.Need-returns-2
 returns-2 c =
     let st = c .before .before .before .before .before .before .before .before .before .before .before in
     let a = st .args in
     let t = rw (c .enum-told .given .1) at (c .before .before .before .before .next-entry .ensures) in
-    (λ es m q. refused (a .v) (a .b .now) (a .work .now) (a .c) _ (a .n) (omega arith) _ t es m q, leaves-none (a .work .now) (a .out .now) (a .at) (a .n) _ (t .long) (t .past))
+    others-refused (a .n) (a .version) (a .out .now) (a .at) (omega arith) t false (a .name .now)
 
--- src/lib.rt:137:1
+-- src/lib.rt:174:1
 same-length-2 : tie.Need-same-length-2
 same-length-2 c = search needs
 
--- src/lib.rt:137:1
+-- src/lib.rt:174:1
 same-length-3 : tie.Need-same-length-3
 same-length-3 c = search needs
 
--- src/lib.rt:137:1
+-- src/lib.rt:174:1
 returns-3 : tie.Need-returns-3
 returns-3 c =
     let st = c .before .before .before .before .before .before .before .before .before .before .before .before .before .before .before .before .before .before .before .before .before in
     let a = st .args in
     let t = rw (c .before .before .before .before .before .before .before .before .before .before .g .given .1) at (c .before .before .before .before .before .before .before .before .before .before .before .before .before .before .next-entry .ensures) in
-    let more : 0 < a .n = omega (arith, c .before .before .before .before .before .before .before .before .before .before .before .before .before .before .before .before .if1 .left) in
-    let x = c .before .before .before .before .put-stepped .ensures in (
-      after-laid (a .v) (a .b .now) (a .work .now) (a .c) _ _ t (a .n) more _ _ _ _ _ _ _ (x .0) (a .name .now) refl (c .before .before .before .before .before .before .before .common-at .ensures),
-      step-leaves (a .v) (a .b .now) (a .work .now) (a .c) _ _ t (a .n) more (a .version) _ _ _ (a .n - 1 + 1) _ _ (omega arith) (x .1),
-    )
+    after-laid (a .n) (a .version) (a .out .now) (a .at) (omega (arith, c .before .before .before .before .before .before .before .before .before .before .before .before .before .before .before .before .if1 .left)) t (a .name .now) (c .before .before .before .before .before .before .before .common-at .ensures) (c .before .before .before .before .put-stepped .ensures)
 
 pub put-after-spec : {M : Type 1} → statement M
 put-after-spec =

@@ -1,8 +1,7 @@
 -- The proof that `put_past` meets its contract.
-use Rattle.entries_edit.proofs.Ways.{leaves-none, none-laid, refused, step-next, step-placed, step-room, past-kept, past-laid, step-leaves}
+use Rattle.entries_edit.proofs.Ways.{past-none, past-refused, past-kept, past-laid}
+use Rattle.entries_write.proofs.Stepping.{step-found, step-placed, step-room, step-common}
 use native.Mathlib.Omega.{arith}
-use Prim.Native.Nat.{_+_, _-_, _<_}
-use mathlib.Core.Path.{refl}
 use borrow.Author.Needs.{needs}
 use Rattle.entries_edit.proofs.put_past.Statement.{statement}
 use Rattle.entries_edit.proofs.put_past.Tie as tie
@@ -12,72 +11,69 @@ use Rattle.entries_edit.proofs.least.Reads as least-reads
 use Rattle.entries_edit.proofs.put_stepped.Reads as put-stepped-reads
 use Rattle.entries_run.proofs.next_entry.Reads as next-entry-reads
 
--- src/lib.rt:198:9
+-- src/lib.rt:288:9
 returns : tie.Need-returns
 returns c =
-    let a = c .before .before .before .before .args in
-    (λ k es m q before beside. none-laid (a .v) (a .b .now) (a .work .now) (a .c) (a .n) _ _ _ _ (c .if1 .taken) es m q, leaves-none (a .work .now) (a .out .now) (a .at) (a .n) _ refl refl)
+    let st = c .before .before .before .before in
+    let a = st .args in
+    past-none _ _ _ _ (a .n) (a .version) (a .out .now) (a .at) (c .if1 .taken) _ _
 
--- src/lib.rt:203:9
+-- src/lib.rt:293:9
 next-entry-requires : tie.Need-next-entry-requires
 next-entry-requires c κs = search needs
 
--- src/lib.rt:205:25
+-- src/lib.rt:295:25
 enum-told : tie.Need-enum-told
 enum-told c = search needs
 
--- src/lib.rt:209:20
+-- src/lib.rt:299:20
 enum-known-g : tie.Need-enum-known-g
 enum-known-g c = search needs
 
--- src/lib.rt:209:61
+-- src/lib.rt:305:13
 sub-put-stepped : tie.Need-sub-put-stepped
 sub-put-stepped c = search needs
 
--- src/lib.rt:209:78
+-- src/lib.rt:307:13
 least-requires : tie.Need-least-requires
 least-requires c κs = search needs
 
--- src/lib.rt:209:27
+-- src/lib.rt:299:27
 put-stepped-requires : tie.Need-put-stepped-requires
 put-stepped-requires c κs =
     let st = c .before .before .before .before .before .before .before .before .before .before .before .before .before .before in
     let a = st .args in
     let t = rw (c .before .before .before .before .g .given .1) at (c .before .before .before .before .before .before .before .before .next-entry .ensures) in
-    (omega arith, step-placed (a .v) (a .b .now) (a .work .now) (a .c) _ _ t, step-next (a .v) (a .b .now) (a .work .now) (a .c) _ _ t, step-room (a .v) (a .b .now) (a .work .now) (a .c) _ _ t (st .pre .2), past-kept (a .v) (a .b .now) (a .work .now) (a .c) _ _ t (st .pre .2) (a .previous) (a .kept) _ (st .pre .3) (st .pre .4) (c .before .least .ensures))
+    let kept = past-kept t (st .pre .2) (a .previous) (a .kept) (st .pre .1) (st .pre .3) (st .pre .4) (c .before .least .ensures) in
+    (omega arith, step-placed t, step-found t .next, step-room t (st .pre .2), kept)
 
--- src/lib.rt:193:1
+-- src/lib.rt:272:1
 same-length : tie.Need-same-length
 same-length c = search needs
 
--- src/lib.rt:193:1
+-- src/lib.rt:272:1
 returns-2 : tie.Need-returns-2
 returns-2 c =
     let st = c .before .before .before .before .before .before .before .before .before .before in
     let a = st .args in
     let t = rw (c .enum-told .given .1) at (c .before .before .before .before .next-entry .ensures) in
-    (λ k es m q before beside. refused (a .v) (a .b .now) (a .work .now) (a .c) _ (a .n) (omega arith) _ t es m q, leaves-none (a .work .now) (a .out .now) (a .at) (a .n) _ (t .long) (t .past))
+    past-refused (a .n) (a .version) (a .out .now) (a .at) (omega arith) t _ _
 
--- src/lib.rt:193:1
+-- src/lib.rt:272:1
 same-length-2 : tie.Need-same-length-2
 same-length-2 c = search needs
 
--- src/lib.rt:193:1
+-- src/lib.rt:272:1
 same-length-3 : tie.Need-same-length-3
 same-length-3 c = search needs
 
--- src/lib.rt:193:1
+-- src/lib.rt:272:1
 returns-3 : tie.Need-returns-3
 returns-3 c =
     let st = c .before .before .before .before .before .before .before .before .before .before .before .before .before .before .before .before .before .before .before in
     let a = st .args in
     let t = rw (c .before .before .before .before .before .before .before .before .before .g .given .1) at (c .before .before .before .before .before .before .before .before .before .before .before .before .before .next-entry .ensures) in
-    let more : 0 < a .n = omega (arith, c .before .before .before .before .before .before .before .before .before .before .before .before .before .before .before .if1 .left) in
-    let x = c .before .before .before .before .put-stepped .ensures in
-    let least = c .before .before .before .before .before .before .least .ensures in (
-      λ k es m q before beside. past-laid (a .v) (a .b .now) (a .work .now) (a .c) _ _ t (a .n) more _ _ _ _ _ _ _ (x .0) k (a .kept) least before beside es m q,
-      step-leaves (a .v) (a .b .now) (a .work .now) (a .c) _ _ t (a .n) more (a .version) _ _ _ (a .n - 1 + 1) _ _ (omega arith) (x .1),
-    )
+    past-laid (a .n) (a .version) (a .out .now) (a .at) (omega (arith, c .before .before .before .before .before .before .before .before .before .before .before .before .before .before .before .if1 .left)) t (a .previous) (a .kept) (c .before .before .before .before .before .before .least .ensures) (c .before .before .before .before .put-stepped .ensures)
 
 pub put-past-spec : {M : Type 1} → statement M
 put-past-spec =
