@@ -2,20 +2,13 @@
 use borrow.Author.Needs.{needs}
 use Rattle.entries_edit.proofs.common_at.Statement.{statement}
 use Rattle.entries_edit.proofs.common_at.Tie as tie
-use Rattle.entries_edit.proofs.common_at.Reads as reads
-use Rattle.entries_edit.proofs.common_at.Lts as lts
-use Rattle.entries_write.proofs.name_at.Reads as name-at-reads
-use Rattle.fields.proofs.common.Reads as common-reads
 
--- src/lib.rt:112:20
 name-at-requires : tie.Need-name-at-requires
 name-at-requires c κs = search needs
 
--- src/lib.rt:112:5
 common-requires : tie.Need-common-requires
 common-requires c κs = search needs
 
--- src/lib.rt:108:1
 returns : tie.Need-returns
 returns c = rw (c .before .name-at .ensures) at (c .common .ensures .0)
 

@@ -1,37 +1,27 @@
 -- The proof that `put_after` meets its contract.
-use Rattle.entries_edit.proofs.Ways.{after-none, others-refused, after-kept, after-laid}
-use Rattle.entries_write.proofs.Stepping.{step-found, step-placed, step-room, step-common}
-use native.Mathlib.Omega.{arith}
 use mathlib.Core.Bool.{false}
+use native.Mathlib.Omega.{arith}
 use borrow.Author.Needs.{needs}
+use Rattle.entries_edit.proofs.Ways.{after-none, others-refused, after-kept, after-laid}
 use Rattle.entries_edit.proofs.put_after.Statement.{statement}
 use Rattle.entries_edit.proofs.put_after.Tie as tie
-use Rattle.entries_edit.proofs.put_after.Reads as reads
-use Rattle.entries_edit.proofs.put_after.Lts as lts
-use Rattle.entries_edit.proofs.common_at.Reads as common-at-reads
-use Rattle.entries_edit.proofs.put_stepped.Reads as put-stepped-reads
-use Rattle.entries_run.proofs.next_entry.Reads as next-entry-reads
+use Rattle.entries_write.proofs.Stepping.{step-found, step-placed, step-room}
 
--- src/lib.rt:189:9
 returns : tie.Need-returns
 returns c =
     let st = c .before .before .before .before .before in
     let a = st .args in
     after-none _ _ _ _ (a .n) (a .version) (a .out .now) (a .at) (c .if1 .taken) _
 
--- src/lib.rt:194:9
 next-entry-requires : tie.Need-next-entry-requires
 next-entry-requires c κs = search needs
 
--- src/lib.rt:196:25
 enum-told : tie.Need-enum-told
 enum-told c = search needs
 
--- src/lib.rt:200:20
 enum-known-g : tie.Need-enum-known-g
 enum-known-g c = search needs
 
--- src/lib.rt:201:17
 common-at-requires : tie.Need-common-at-requires
 common-at-requires c κs =
     let st = c .before .before .before .before .before .before .before .before .before .before .before .before .before in
@@ -39,11 +29,9 @@ common-at-requires c κs =
     let t = rw (c .before .before .g .given .1) at (c .before .before .before .before .before .before .next-entry .ensures) in
     (step-found t .next, step-room t (st .pre .2))
 
--- src/lib.rt:208:17
 sub-put-stepped : tie.Need-sub-put-stepped
 sub-put-stepped c = search needs
 
--- src/lib.rt:202:13
 put-stepped-requires : tie.Need-put-stepped-requires
 put-stepped-requires c κs =
     let st = c .before .before .before .before .before .before .before .before .before .before .before .before .before .before .before .before in
@@ -51,11 +39,9 @@ put-stepped-requires c κs =
     let t = rw (c .before .before .before .before .before .g .given .1) at (c .before .before .before .before .before .before .before .before .before .next-entry .ensures) in
     (omega arith, step-placed t, step-found t .next, step-room t (st .pre .2), after-kept t (st .pre .2) (a .name .now) (st .pre .3) (c .before .before .common-at .ensures))
 
--- src/lib.rt:174:1
 same-length : tie.Need-same-length
 same-length c = search needs
 
--- src/lib.rt:174:1
 returns-2 : tie.Need-returns-2
 returns-2 c =
     let st = c .before .before .before .before .before .before .before .before .before .before .before in
@@ -63,15 +49,12 @@ returns-2 c =
     let t = rw (c .enum-told .given .1) at (c .before .before .before .before .next-entry .ensures) in
     others-refused (a .n) (a .version) (a .out .now) (a .at) (omega arith) t false (a .name .now)
 
--- src/lib.rt:174:1
 same-length-2 : tie.Need-same-length-2
 same-length-2 c = search needs
 
--- src/lib.rt:174:1
 same-length-3 : tie.Need-same-length-3
 same-length-3 c = search needs
 
--- src/lib.rt:174:1
 returns-3 : tie.Need-returns-3
 returns-3 c =
     let st = c .before .before .before .before .before .before .before .before .before .before .before .before .before .before .before .before .before .before .before .before .before in

@@ -2,75 +2,55 @@
 use borrow.Author.Needs.{needs}
 use Rattle.entries_edit.proofs.put_edited.Statement.{statement}
 use Rattle.entries_edit.proofs.put_edited.Tie as tie
-use Rattle.entries_edit.proofs.put_edited.Reads as reads
-use Rattle.entries_edit.proofs.put_edited.Lts as lts
-use Rattle.entries_edit.proofs.put_kept.Reads as put-kept-reads
-use Rattle.entries_edit.proofs.put_with.Reads as put-with-reads
-use Rattle.entries_edit.proofs.put_without.Reads as put-without-reads
 
--- src/lib.rt:476:38
 enum-told : tie.Need-enum-told
 enum-told c = search needs
 
--- src/lib.rt:476:23
 put-kept-requires : tie.Need-put-kept-requires
 put-kept-requires c κs = search needs
 
--- src/lib.rt:477:19
 enum-known-edit : tie.Need-enum-known-edit
 enum-known-edit c = search needs
 
--- src/lib.rt:477:32
 put-with-requires : tie.Need-put-with-requires
 put-with-requires c κs =
     let st = c .before .before .before .before .before .before .before .before .before in
     let a = st .args in
     (st .pre .0, rw (c .before .before .before .edit .given .1) at (st .pre .1), st .pre .2, st .pre .3, st .pre .4)
 
--- src/lib.rt:490:22
 enum-known-edit-2 : tie.Need-enum-known-edit-2
 enum-known-edit-2 c = search needs
 
--- src/lib.rt:490:28
 put-without-requires : tie.Need-put-without-requires
 put-without-requires c κs =
     let st = c .before .before .before .before .before .before .before .before .before in
     let a = st .args in
     (st .pre .0, rw (c .before .before .before .edit2 .given .1) at (st .pre .1), st .pre .4)
 
--- src/lib.rt:460:1
 same-length : tie.Need-same-length
 same-length c = search needs
 
--- src/lib.rt:460:1
 same-length-2 : tie.Need-same-length-2
 same-length-2 c = search needs
 
--- src/lib.rt:460:1
 returns : tie.Need-returns
 returns c = rw (c .before .before .before .before .before .before .before .enum-told .given .1) (c .before .before .before .before .put-kept .ensures _)
 
--- src/lib.rt:460:1
 same-length-3 : tie.Need-same-length-3
 same-length-3 c = search needs
 
--- src/lib.rt:460:1
 same-length-4 : tie.Need-same-length-4
 same-length-4 c = search needs
 
--- src/lib.rt:460:1
 returns-2 : tie.Need-returns-2
 returns-2 c = rw (c .before .before .before .before .before .before .before .before .edit .given .1) (c .before .before .before .before .put-with .ensures)
 
--- src/lib.rt:460:1
 same-length-5 : tie.Need-same-length-5
 same-length-5 c = search needs
 
--- src/lib.rt:460:1
 same-length-6 : tie.Need-same-length-6
 same-length-6 c = search needs
 
--- src/lib.rt:460:1
 returns-3 : tie.Need-returns-3
 returns-3 c = rw (c .before .before .before .before .before .before .before .before .edit2 .given .1) (c .before .before .before .before .put-without .ensures _)
 

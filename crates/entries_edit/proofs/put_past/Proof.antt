@@ -1,44 +1,32 @@
 -- The proof that `put_past` meets its contract.
-use Rattle.entries_edit.proofs.Ways.{past-none, past-refused, past-kept, past-laid}
-use Rattle.entries_write.proofs.Stepping.{step-found, step-placed, step-room, step-common}
 use native.Mathlib.Omega.{arith}
 use borrow.Author.Needs.{needs}
+use Rattle.entries_edit.proofs.Ways.{past-none, past-refused, past-kept, past-laid}
 use Rattle.entries_edit.proofs.put_past.Statement.{statement}
 use Rattle.entries_edit.proofs.put_past.Tie as tie
-use Rattle.entries_edit.proofs.put_past.Reads as reads
-use Rattle.entries_edit.proofs.put_past.Lts as lts
-use Rattle.entries_edit.proofs.least.Reads as least-reads
-use Rattle.entries_edit.proofs.put_stepped.Reads as put-stepped-reads
-use Rattle.entries_run.proofs.next_entry.Reads as next-entry-reads
+use Rattle.entries_write.proofs.Stepping.{step-found, step-placed, step-room}
 
--- src/lib.rt:288:9
 returns : tie.Need-returns
 returns c =
     let st = c .before .before .before .before in
     let a = st .args in
     past-none _ _ _ _ (a .n) (a .version) (a .out .now) (a .at) (c .if1 .taken) _ _
 
--- src/lib.rt:293:9
 next-entry-requires : tie.Need-next-entry-requires
 next-entry-requires c κs = search needs
 
--- src/lib.rt:295:25
 enum-told : tie.Need-enum-told
 enum-told c = search needs
 
--- src/lib.rt:299:20
 enum-known-g : tie.Need-enum-known-g
 enum-known-g c = search needs
 
--- src/lib.rt:305:13
 sub-put-stepped : tie.Need-sub-put-stepped
 sub-put-stepped c = search needs
 
--- src/lib.rt:307:13
 least-requires : tie.Need-least-requires
 least-requires c κs = search needs
 
--- src/lib.rt:299:27
 put-stepped-requires : tie.Need-put-stepped-requires
 put-stepped-requires c κs =
     let st = c .before .before .before .before .before .before .before .before .before .before .before .before .before .before in
@@ -47,11 +35,9 @@ put-stepped-requires c κs =
     let kept = past-kept t (st .pre .2) (a .previous) (a .kept) (st .pre .1) (st .pre .3) (st .pre .4) (c .before .least .ensures) in
     (omega arith, step-placed t, step-found t .next, step-room t (st .pre .2), kept)
 
--- src/lib.rt:272:1
 same-length : tie.Need-same-length
 same-length c = search needs
 
--- src/lib.rt:272:1
 returns-2 : tie.Need-returns-2
 returns-2 c =
     let st = c .before .before .before .before .before .before .before .before .before .before in
@@ -59,15 +45,12 @@ returns-2 c =
     let t = rw (c .enum-told .given .1) at (c .before .before .before .before .next-entry .ensures) in
     past-refused (a .n) (a .version) (a .out .now) (a .at) (omega arith) t _ _
 
--- src/lib.rt:272:1
 same-length-2 : tie.Need-same-length-2
 same-length-2 c = search needs
 
--- src/lib.rt:272:1
 same-length-3 : tie.Need-same-length-3
 same-length-3 c = search needs
 
--- src/lib.rt:272:1
 returns-3 : tie.Need-returns-3
 returns-3 c =
     let st = c .before .before .before .before .before .before .before .before .before .before .before .before .before .before .before .before .before .before .before in

@@ -1,32 +1,23 @@
 -- The proof that `put_removed` meets its contract.
-use Rattle.entries_edit.proofs.Ways.{removed-refused, removed-laid}
-use Rattle.entries_write.proofs.Stepping.{step-found, step-placed, step-room, step-common}
 use native.Mathlib.Omega.{arith}
 use borrow.Author.Needs.{needs}
+use Rattle.entries_edit.proofs.Ways.{removed-refused, removed-laid}
 use Rattle.entries_edit.proofs.put_removed.Statement.{statement}
 use Rattle.entries_edit.proofs.put_removed.Tie as tie
-use Rattle.entries_edit.proofs.put_removed.Reads as reads
-use Rattle.entries_edit.proofs.put_removed.Lts as lts
-use Rattle.entries_edit.proofs.put_past.Reads as put-past-reads
-use Rattle.entries_run.proofs.next_entry.Reads as next-entry-reads
+use Rattle.entries_write.proofs.Stepping.{step-found, step-room, step-common}
 
--- src/lib.rt:329:9
 next-entry-requires : tie.Need-next-entry-requires
 next-entry-requires c κs = search needs
 
--- src/lib.rt:331:25
 enum-told : tie.Need-enum-told
 enum-told c = search needs
 
--- src/lib.rt:335:20
 enum-known-g : tie.Need-enum-known-g
 enum-known-g c = search needs
 
--- src/lib.rt:340:13
 sub-put-past : tie.Need-sub-put-past
 sub-put-past c = search needs
 
--- src/lib.rt:335:27
 put-past-requires : tie.Need-put-past-requires
 put-past-requires c κs =
     let st = c .before .before .before .before .before .before .before .before .before .before .before .before in
@@ -34,11 +25,9 @@ put-past-requires c κs =
     let t = rw (c .before .before .before .g .given .1) at (c .before .before .before .before .before .before .before .next-entry .ensures) in
     (omega arith, step-found t .next, step-room t (st .pre .2), st .pre .1 .short, step-common t (st .pre .2) (st .pre .1) .0)
 
--- src/lib.rt:316:1
 same-length : tie.Need-same-length
 same-length c = search needs
 
--- src/lib.rt:316:1
 returns : tie.Need-returns
 returns c =
     let st = c .before .before .before .before .before .before .before .before .before in
@@ -46,15 +35,12 @@ returns c =
     let t = rw (c .enum-told .given .1) at (c .before .before .before .before .next-entry .ensures) in
     removed-refused (a .n) (a .version) (a .out .now) (a .at) (omega arith) t
 
--- src/lib.rt:316:1
 same-length-2 : tie.Need-same-length-2
 same-length-2 c = search needs
 
--- src/lib.rt:316:1
 same-length-3 : tie.Need-same-length-3
 same-length-3 c = search needs
 
--- src/lib.rt:316:1
 returns-2 : tie.Need-returns-2
 returns-2 c =
     let st = c .before .before .before .before .before .before .before .before .before .before .before .before .before .before .before .before .before in

@@ -1,33 +1,24 @@
 -- The proof that `put_replaced` meets its contract.
-use Rattle.entries_edit.proofs.Ways.{others-refused, replaced-laid}
-use Rattle.entries_write.proofs.Stepping.{step-found, step-placed, step-room, step-common}
-use native.Mathlib.Omega.{arith}
 use mathlib.Core.Bool.{true}
+use native.Mathlib.Omega.{arith}
 use borrow.Author.Needs.{needs}
+use Rattle.entries_edit.proofs.Ways.{others-refused, replaced-laid}
 use Rattle.entries_edit.proofs.put_replaced.Statement.{statement}
 use Rattle.entries_edit.proofs.put_replaced.Tie as tie
-use Rattle.entries_edit.proofs.put_replaced.Reads as reads
-use Rattle.entries_edit.proofs.put_replaced.Lts as lts
-use Rattle.entries_run.proofs.next_entry.Reads as next-entry-reads
-use Rattle.entries_write.proofs.put_entries.Reads as put-entries-reads
+use Rattle.entries_write.proofs.Stepping.{step-found, step-room}
 
--- src/lib.rt:233:9
 next-entry-requires : tie.Need-next-entry-requires
 next-entry-requires c κs = search needs
 
--- src/lib.rt:235:25
 enum-told : tie.Need-enum-told
 enum-told c = search needs
 
--- src/lib.rt:239:20
 enum-known-g : tie.Need-enum-known-g
 enum-known-g c = search needs
 
--- src/lib.rt:240:72
 sub-put-entries : tie.Need-sub-put-entries
 sub-put-entries c = search needs
 
--- src/lib.rt:240:17
 put-entries-requires : tie.Need-put-entries-requires
 put-entries-requires c κs =
     let st = c .before .before .before .before .before .before .before .before .before .before .before .before in
@@ -35,11 +26,9 @@ put-entries-requires c κs =
     let t = rw (c .before .before .before .g .given .1) at (c .before .before .before .before .before .before .before .next-entry .ensures) in
     (step-found t .next, step-room t (st .pre .2), omega arith)
 
--- src/lib.rt:220:1
 same-length : tie.Need-same-length
 same-length c = search needs
 
--- src/lib.rt:220:1
 returns : tie.Need-returns
 returns c =
     let st = c .before .before .before .before .before .before .before .before .before in
@@ -47,15 +36,12 @@ returns c =
     let t = rw (c .enum-told .given .1) at (c .before .before .before .before .next-entry .ensures) in
     others-refused (a .n) (a .version) (a .out .now) (a .at) (omega arith) t true
 
--- src/lib.rt:220:1
 same-length-2 : tie.Need-same-length-2
 same-length-2 c = search needs
 
--- src/lib.rt:220:1
 same-length-3 : tie.Need-same-length-3
 same-length-3 c = search needs
 
--- src/lib.rt:220:1
 returns-2 : tie.Need-returns-2
 returns-2 c =
     let st = c .before .before .before .before .before .before .before .before .before .before .before .before .before .before .before .before .before in

@@ -1,36 +1,25 @@
 -- The proof that `put_stepped` meets its contract.
-use Rattle.entries_edit.proofs.Ways.{step-laid}
 use native.Mathlib.Omega.{arith}
 use borrow.Author.Needs.{needs}
+use Rattle.entries_edit.proofs.Ways.{step-laid}
 use Rattle.entries_edit.proofs.put_stepped.Statement.{statement}
 use Rattle.entries_edit.proofs.put_stepped.Tie as tie
-use Rattle.entries_edit.proofs.put_stepped.Reads as reads
-use Rattle.entries_edit.proofs.put_stepped.Lts as lts
-use Rattle.entries_write.proofs.either.Reads as either-reads
-use Rattle.entries_write.proofs.put_entries.Reads as put-entries-reads
-use Rattle.entries_write.proofs.put_step.Reads as put-step-reads
 
--- src/lib.rt:154:9
 put-step-requires : tie.Need-put-step-requires
 put-step-requires c κs = search needs
 
--- src/lib.rt:166:9
 put-entries-requires : tie.Need-put-entries-requires
 put-entries-requires c κs = search needs
 
--- src/lib.rt:169:19
 either-requires : tie.Need-either-requires
 either-requires c κs = search needs
 
--- src/lib.rt:138:1
 same-length : tie.Need-same-length
 same-length c = search needs
 
--- src/lib.rt:138:1
 same-length-2 : tie.Need-same-length-2
 same-length-2 c = search needs
 
--- src/lib.rt:138:1
 returns : tie.Need-returns
 returns c =
     let a = c .before .before .before .before .before .before .before .before .before .before .before .before .before .before .before .before .args in

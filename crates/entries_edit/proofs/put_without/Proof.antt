@@ -1,49 +1,35 @@
 -- The proof that `put_without` meets its contract.
-use Rattle.entries_edit.proofs.Ways.{without-laid}
-use Rattle.entries_run.proofs.Steps.{inside-first}
 use native.Mathlib.Omega.{arith}
 use borrow.Author.Needs.{needs}
+use Rattle.entries_run.proofs.Steps.{inside-first}
+use Rattle.entries_edit.proofs.Ways.{without-laid}
 use Rattle.entries_edit.proofs.put_without.Statement.{statement}
 use Rattle.entries_edit.proofs.put_without.Tie as tie
-use Rattle.entries_edit.proofs.put_without.Reads as reads
-use Rattle.entries_edit.proofs.put_without.Lts as lts
-use Rattle.entries_edit.proofs.or.Reads as or-reads
-use Rattle.entries_edit.proofs.put_removed.Reads as put-removed-reads
-use Rattle.entries_run.proofs.first.Reads as first-reads
-use Rattle.entries_write.proofs.put_entries.Reads as put-entries-reads
 
--- src/lib.rt:446:9
 first-requires : tie.Need-first-requires
 first-requires c κs = search needs
 
--- src/lib.rt:442:9
 put-entries-requires : tie.Need-put-entries-requires
 put-entries-requires c κs =
     let st = c .before .before .before .before .before .before in
     let a = st .args in
     rw (c .before .first .ensures) (inside-first (a .b .now) (a .work .now) (st .pre .0), omega arith, omega arith)
 
--- src/lib.rt:452:54
 sub-put-removed : tie.Need-sub-put-removed
 sub-put-removed c = search needs
 
--- src/lib.rt:452:9
 put-removed-requires : tie.Need-put-removed-requires
 put-removed-requires c κs = search needs
 
--- src/lib.rt:455:19
 or-requires : tie.Need-or-requires
 or-requires c κs = search needs
 
--- src/lib.rt:429:1
 same-length : tie.Need-same-length
 same-length c = search needs
 
--- src/lib.rt:429:1
 same-length-2 : tie.Need-same-length-2
 same-length-2 c = search needs
 
--- src/lib.rt:429:1
 returns : tie.Need-returns
 returns c =
     let st = c .before .before .before .before .before .before .before .before .before .before .before .before .before .before .before .before .before .before .before in
