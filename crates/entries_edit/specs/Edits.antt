@@ -90,7 +90,9 @@ pub record RemovedLaid (v : ℕ) (b work : List ℕ) (c : Cursor) (n version : �
 -- ---- all entries
 
 -- what the writing of the first count entries of the body b, edited, leaves behind; e is what is put
-pub record EntriesEdited (v : ℕ) (b work : List ℕ) (count : ℕ) (edit : Edit) (e : Entry) (version : ℕ) (out : List ℕ) (at : ℕ) (work′ out′ : List ℕ) (r : Laid) : Type 0 where
+pub record EntriesEdited
+    (v : ℕ) (b work : List ℕ) (count : ℕ) (edit : Edit) (e : Entry) (version : ℕ) (out : List ℕ) (at : ℕ) (work′ out′ : List ℕ) (r : Laid)
+    : Type 0 where
   pub edited-is : (es : List Entry) (m : ℕ) → readEntries 20 v count start 12 (drop 12 b) ≡ good es m → Replaces edit (e .name) es
       → Wrote out at (writeEntries 20 version [] (edited edit e es)) out′ (r .at) × (r .extended ≡ anyWord (edited edit e es))
   pub near : r .at ≤ at + (count + 1) * 8264

@@ -1,5 +1,6 @@
 -- The proof that `put_after` meets its contract.
 use mathlib.Core.Bool.{false}
+use Prim.Native.Nat.{_<_}
 use native.Mathlib.Omega.{arith}
 use borrow.Author.Needs.{needs}
 use Rattle.entries_edit.proofs.Ways.{after-none, others-refused, after-kept, after-laid}
@@ -9,8 +10,7 @@ use Rattle.entries_write.proofs.Stepping.{step-found, step-placed, step-room}
 
 returns : tie.Need-returns
 returns c =
-    let st = c .before .before .before .before .before in
-    let a = st .args in
+    let a = c .before .before .before .before .before .args in
     after-none _ _ _ _ (a .n) (a .version) (a .out .now) (a .at) (c .if1 .taken) _
 
 next-entry-requires : tie.Need-next-entry-requires
@@ -24,29 +24,35 @@ enum-known-g c = search needs
 
 common-at-requires : tie.Need-common-at-requires
 common-at-requires c κs =
-    let st = c .before .before .before .before .before .before .before .before .before .before .before .before .before in
-    let a = st .args in
-    let t = rw (c .before .before .g .given .1) at (c .before .before .before .before .before .before .next-entry .ensures) in
-    (step-found t .next, step-room t (st .pre .2))
+    let known = c .before .before in
+    let read = known .before .before .before .before in
+    let start = read .before .before .before .before .before .before .before in
+    let t = rw (known .g .given .1) at (read .next-entry .ensures) in
+    (step-found t .next, step-room t (start .pre .2))
 
 sub-put-stepped : tie.Need-sub-put-stepped
 sub-put-stepped c = search needs
 
 put-stepped-requires : tie.Need-put-stepped-requires
 put-stepped-requires c κs =
-    let st = c .before .before .before .before .before .before .before .before .before .before .before .before .before .before .before .before in
-    let a = st .args in
-    let t = rw (c .before .before .before .before .before .g .given .1) at (c .before .before .before .before .before .before .before .before .before .next-entry .ensures) in
-    (omega arith, step-placed t, step-found t .next, step-room t (st .pre .2), after-kept t (st .pre .2) (a .name .now) (st .pre .3) (c .before .before .common-at .ensures))
+    let shared = c .before .before in
+    let known = shared .before .before .before in
+    let read = known .before .before .before .before in
+    let start = read .before .before .before .before .before .before .before in
+    let a = start .args in
+    let t = rw (known .g .given .1) at (read .next-entry .ensures) in
+    let kept = after-kept t (start .pre .2) (a .name .now) (start .pre .3) (shared .common-at .ensures) in
+    (omega arith, step-placed t, step-found t .next, step-room t (start .pre .2), kept)
 
 same-length : tie.Need-same-length
 same-length c = search needs
 
 returns-2 : tie.Need-returns-2
 returns-2 c =
-    let st = c .before .before .before .before .before .before .before .before .before .before .before in
-    let a = st .args in
-    let t = rw (c .enum-told .given .1) at (c .before .before .before .before .next-entry .ensures) in
+    let read = c .before .before .before .before in
+    let start = read .before .before .before .before .before .before .before in
+    let a = start .args in
+    let t = rw (c .enum-told .given .1) at (read .next-entry .ensures) in
     others-refused (a .n) (a .version) (a .out .now) (a .at) (omega arith) t false (a .name .now)
 
 same-length-2 : tie.Need-same-length-2
@@ -57,10 +63,16 @@ same-length-3 c = search needs
 
 returns-3 : tie.Need-returns-3
 returns-3 c =
-    let st = c .before .before .before .before .before .before .before .before .before .before .before .before .before .before .before .before .before .before .before .before .before in
-    let a = st .args in
-    let t = rw (c .before .before .before .before .before .before .before .before .before .before .g .given .1) at (c .before .before .before .before .before .before .before .before .before .before .before .before .before .before .next-entry .ensures) in
-    after-laid (a .n) (a .version) (a .out .now) (a .at) (omega (arith, c .before .before .before .before .before .before .before .before .before .before .before .before .before .before .before .before .if1 .left)) t (a .name .now) (c .before .before .before .before .before .before .before .common-at .ensures) (c .before .before .before .before .put-stepped .ensures)
+    let put = c .before .before .before .before in
+    let shared = put .before .before .before in
+    let known = shared .before .before .before in
+    let read = known .before .before .before .before in
+    let tested = read .before .before in
+    let start = tested .before .before .before .before .before in
+    let a = start .args in
+    let t = rw (known .g .given .1) at (read .next-entry .ensures) in
+    let more : 0 < a .n = omega (arith, tested .if1 .left) in
+    after-laid (a .n) (a .version) (a .out .now) (a .at) more t (a .name .now) (shared .common-at .ensures) (put .put-stepped .ensures)
 
 pub put-after-spec : {M : Type 1} → statement M
 put-after-spec =

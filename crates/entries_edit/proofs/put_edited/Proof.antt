@@ -14,18 +14,18 @@ enum-known-edit c = search needs
 
 put-with-requires : tie.Need-put-with-requires
 put-with-requires c κs =
-    let st = c .before .before .before .before .before .before .before .before .before in
-    let a = st .args in
-    (st .pre .0, rw (c .before .before .before .edit .given .1) at (st .pre .1), st .pre .2, st .pre .3, st .pre .4)
+    let known = c .before .before .before in
+    let start = known .before .before .before .before .before .before in
+    (start .pre .0, rw (known .edit .given .1) at (start .pre .1), start .pre .2, start .pre .3, start .pre .4)
 
 enum-known-edit-2 : tie.Need-enum-known-edit-2
 enum-known-edit-2 c = search needs
 
 put-without-requires : tie.Need-put-without-requires
 put-without-requires c κs =
-    let st = c .before .before .before .before .before .before .before .before .before in
-    let a = st .args in
-    (st .pre .0, rw (c .before .before .before .edit2 .given .1) at (st .pre .1), st .pre .4)
+    let known = c .before .before .before in
+    let start = known .before .before .before .before .before .before in
+    (start .pre .0, rw (known .edit2 .given .1) at (start .pre .1), start .pre .4)
 
 same-length : tie.Need-same-length
 same-length c = search needs
@@ -34,7 +34,10 @@ same-length-2 : tie.Need-same-length-2
 same-length-2 c = search needs
 
 returns : tie.Need-returns
-returns c = rw (c .before .before .before .before .before .before .before .enum-told .given .1) (c .before .before .before .before .put-kept .ensures _)
+returns c =
+    let put = c .before .before .before .before in
+    let told = put .before .before .before in
+    rw (told .enum-told .given .1) (put .put-kept .ensures _)
 
 same-length-3 : tie.Need-same-length-3
 same-length-3 c = search needs
@@ -43,7 +46,10 @@ same-length-4 : tie.Need-same-length-4
 same-length-4 c = search needs
 
 returns-2 : tie.Need-returns-2
-returns-2 c = rw (c .before .before .before .before .before .before .before .before .edit .given .1) (c .before .before .before .before .put-with .ensures)
+returns-2 c =
+    let put = c .before .before .before .before in
+    let known = put .before .before .before .before in
+    rw (known .edit .given .1) (put .put-with .ensures)
 
 same-length-5 : tie.Need-same-length-5
 same-length-5 c = search needs
@@ -52,7 +58,10 @@ same-length-6 : tie.Need-same-length-6
 same-length-6 c = search needs
 
 returns-3 : tie.Need-returns-3
-returns-3 c = rw (c .before .before .before .before .before .before .before .before .edit2 .given .1) (c .before .before .before .before .put-without .ensures _)
+returns-3 c =
+    let put = c .before .before .before .before in
+    let known = put .before .before .before .before in
+    rw (known .edit2 .given .1) (put .put-without .ensures _)
 
 pub put-edited-spec : {M : Type 1} → statement M
 put-edited-spec =

@@ -24,10 +24,15 @@ same-length c = search needs
 
 returns : tie.Need-returns
 returns c =
-    let x = c .before .before .before .before .before .before .before .before .before .before .before .before .put-five .ensures in
-    let y = c .before .before .before .before .before .before .before .before .put-five2 .ensures in
-    let z = c .before .before .put-bytes .ensures in
-    let twenty : 20 ≡ length (c .before .before .before .before .before .before .before .before .before .before .before .before .before .before .before .args .fields .object) = slice-aggregate-put-bytes (c .before .before .before) in
+    let last = c .before .before in
+    let lent = last .before in
+    let second = lent .before .before .before .before .before in
+    let first = second .before .before .before .before in
+    let start = first .before .before .before in
+    let x = first .put-five .ensures in
+    let y = second .put-five2 .ensures in
+    let z = last .put-bytes .ensures in
+    let twenty : 20 ≡ length (start .args .fields .object) = slice-aggregate-put-bytes lent in
     let end = z .end in
     (fields-wrote _ _ _ (x .0) (y .0) z, omega arith)
 

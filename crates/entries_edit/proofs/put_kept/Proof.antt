@@ -11,9 +11,9 @@ first-requires c κs = search needs
 
 put-entries-requires : tie.Need-put-entries-requires
 put-entries-requires c κs =
-    let st = c .before .before .before .before .before .before in
-    let a = st .args in
-    rw (c .before .first .ensures) (inside-first (a .b .now) (a .work .now) (st .pre .0), omega arith, omega arith)
+    let start = c .before .before .before .before .before .before in
+    let a = start .args in
+    rw (c .before .first .ensures) (inside-first (a .b .now) (a .work .now) (start .pre .0), omega arith, omega arith)
 
 same-length : tie.Need-same-length
 same-length c = search needs
@@ -22,7 +22,10 @@ same-length-2 : tie.Need-same-length-2
 same-length-2 c = search needs
 
 returns : tie.Need-returns
-returns c = kept-laid (rw (c .before .before .before .before .before .before .first .ensures) at (c .before .before .before .before .put-entries .ensures))
+returns c =
+    let put = c .before .before .before .before in
+    let first = put .before .before in
+    kept-laid (rw (first .first .ensures) at (put .put-entries .ensures))
 
 pub put-kept-spec : {M : Type 1} → statement M
 put-kept-spec =

@@ -5,9 +5,9 @@ use Rattle.entries_edit.proofs.put_others.Tie as tie
 
 put-replaced-requires : tie.Need-put-replaced-requires
 put-replaced-requires c κs =
-    let st = c .before .before .before .before .before .before .before in
-    let a = st .args in
-    (st .pre .0, st .pre .1, st .pre .2, rw (c .before .before .if1 .taken) at (st .pre .4))
+    let tested = c .before .before in
+    let start = tested .before .before .before .before .before in
+    (start .pre .0, start .pre .1, start .pre .2, rw (tested .if1 .taken) at (start .pre .4))
 
 same-length : tie.Need-same-length
 same-length c = search needs
@@ -16,7 +16,10 @@ same-length-2 : tie.Need-same-length-2
 same-length-2 c = search needs
 
 returns : tie.Need-returns
-returns c = rw (c .before .before .before .before .before .before .before .if1 .taken) (c .before .before .before .before .put-replaced .ensures _)
+returns c =
+    let put = c .before .before .before .before in
+    let tested = put .before .before .before in
+    rw (tested .if1 .taken) (put .put-replaced .ensures _)
 
 put-after-requires : tie.Need-put-after-requires
 put-after-requires c κs = search needs
@@ -28,7 +31,10 @@ same-length-4 : tie.Need-same-length-4
 same-length-4 c = search needs
 
 returns-2 : tie.Need-returns-2
-returns-2 c = rw (c .before .before .before .before .before .before .before .if1 .left) (c .before .before .before .before .put-after .ensures)
+returns-2 c =
+    let put = c .before .before .before .before in
+    let tested = put .before .before .before in
+    rw (tested .if1 .left) (put .put-after .ensures)
 
 pub put-others-spec : {M : Type 1} → statement M
 put-others-spec =

@@ -1,4 +1,5 @@
 -- The proof that `put_past` meets its contract.
+use Prim.Native.Nat.{_<_}
 use native.Mathlib.Omega.{arith}
 use borrow.Author.Needs.{needs}
 use Rattle.entries_edit.proofs.Ways.{past-none, past-refused, past-kept, past-laid}
@@ -8,8 +9,7 @@ use Rattle.entries_write.proofs.Stepping.{step-found, step-placed, step-room}
 
 returns : tie.Need-returns
 returns c =
-    let st = c .before .before .before .before in
-    let a = st .args in
+    let a = c .before .before .before .before .args in
     past-none _ _ _ _ (a .n) (a .version) (a .out .now) (a .at) (c .if1 .taken) _ _
 
 next-entry-requires : tie.Need-next-entry-requires
@@ -29,20 +29,24 @@ least-requires c κs = search needs
 
 put-stepped-requires : tie.Need-put-stepped-requires
 put-stepped-requires c κs =
-    let st = c .before .before .before .before .before .before .before .before .before .before .before .before .before .before in
-    let a = st .args in
-    let t = rw (c .before .before .before .before .g .given .1) at (c .before .before .before .before .before .before .before .before .next-entry .ensures) in
-    let kept = past-kept t (st .pre .2) (a .previous) (a .kept) (st .pre .1) (st .pre .3) (st .pre .4) (c .before .least .ensures) in
-    (omega arith, step-placed t, step-found t .next, step-room t (st .pre .2), kept)
+    let shared = c .before in
+    let known = shared .before .before .before in
+    let read = known .before .before .before .before in
+    let start = read .before .before .before .before .before .before in
+    let a = start .args in
+    let t = rw (known .g .given .1) at (read .next-entry .ensures) in
+    let kept = past-kept t (start .pre .2) (a .previous) (a .kept) (start .pre .1) (start .pre .3) (start .pre .4) (shared .least .ensures) in
+    (omega arith, step-placed t, step-found t .next, step-room t (start .pre .2), kept)
 
 same-length : tie.Need-same-length
 same-length c = search needs
 
 returns-2 : tie.Need-returns-2
 returns-2 c =
-    let st = c .before .before .before .before .before .before .before .before .before .before in
-    let a = st .args in
-    let t = rw (c .enum-told .given .1) at (c .before .before .before .before .next-entry .ensures) in
+    let read = c .before .before .before .before in
+    let start = read .before .before .before .before .before .before in
+    let a = start .args in
+    let t = rw (c .enum-told .given .1) at (read .next-entry .ensures) in
     past-refused (a .n) (a .version) (a .out .now) (a .at) (omega arith) t _ _
 
 same-length-2 : tie.Need-same-length-2
@@ -53,10 +57,16 @@ same-length-3 c = search needs
 
 returns-3 : tie.Need-returns-3
 returns-3 c =
-    let st = c .before .before .before .before .before .before .before .before .before .before .before .before .before .before .before .before .before .before .before in
-    let a = st .args in
-    let t = rw (c .before .before .before .before .before .before .before .before .before .g .given .1) at (c .before .before .before .before .before .before .before .before .before .before .before .before .before .next-entry .ensures) in
-    past-laid (a .n) (a .version) (a .out .now) (a .at) (omega (arith, c .before .before .before .before .before .before .before .before .before .before .before .before .before .before .before .if1 .left)) t (a .previous) (a .kept) (c .before .before .before .before .before .before .least .ensures) (c .before .before .before .before .put-stepped .ensures)
+    let put = c .before .before .before .before in
+    let shared = put .before .before in
+    let known = shared .before .before .before in
+    let read = known .before .before .before .before in
+    let tested = read .before .before in
+    let start = tested .before .before .before .before in
+    let a = start .args in
+    let t = rw (known .g .given .1) at (read .next-entry .ensures) in
+    let more : 0 < a .n = omega (arith, tested .if1 .left) in
+    past-laid (a .n) (a .version) (a .out .now) (a .at) more t (a .previous) (a .kept) (shared .least .ensures) (put .put-stepped .ensures)
 
 pub put-past-spec : {M : Type 1} → statement M
 put-past-spec =

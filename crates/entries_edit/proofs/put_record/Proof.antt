@@ -25,21 +25,31 @@ bit-of-requires-3 : tie.Need-bit-of-requires-3
 bit-of-requires-3 c κs = search needs
 
 add-word : tie.Need-add-word
-add-word c = let x = c .before .before .before .before .before .before .before .before .before .before .args .fields in omega (arith, bit-below (x .«skip_worktree»), bit-below (x .«intent_to_add»))
+add-word c =
+    let start = c .before .before .before .before .before .before .before .before .before .before in
+    let x = start .args .fields in
+    omega (arith, bit-below (x .«skip_worktree»), bit-below (x .«intent_to_add»))
 
 put-rest-requires : tie.Need-put-rest-requires
 put-rest-requires c κs =
-    let x = c .before .before .before .before .before .before .before .before .before .before .before .args .fields in
-    (omega arith, omega (arith, bit-below (x .«assume_valid»)), c .before .before .before .before .before .before .before .before .before .before .before .pre .2)
+    let start = c .before .before .before .before .before .before .before .before .before .before .before in
+    let x = start .args .fields in
+    (omega arith, omega (arith, bit-below (x .«assume_valid»)), start .pre .2)
 
 same-length : tie.Need-same-length
 same-length c = search needs
 
 returns : tie.Need-returns
 returns c =
-    let a = c .before .before .before .before .before .before .before .before .before .before .before .before .before .before .args in
-    let first = c .before .before .before .before .before .before .before .before .before .before .put-fields .ensures in
-    record-wrote (a .fields) (a .name .now) _ _ _ (first .0) (first .1) (c .before .before .before .before .before .before .before .bit-of .ensures) (c .before .before .before .before .before .bit-of2 .ensures) (c .before .before .before .before .bit-of3 .ensures) (c .before .before .put-rest .ensures)
+    let rest = c .before .before in
+    let intent = rest .before .before in
+    let skip = intent .before in
+    let assume = skip .before .before in
+    let fixed = assume .before .before .before in
+    let start = fixed .before .before .before .before in
+    let a = start .args in
+    let first = fixed .put-fields .ensures in
+    record-wrote (a .fields) (a .name .now) _ _ _ (first .0) (first .1) (assume .bit-of .ensures) (skip .bit-of2 .ensures) (intent .bit-of3 .ensures) (rest .put-rest .ensures)
 
 pub put-record-spec : {M : Type 1} → statement M
 put-record-spec =

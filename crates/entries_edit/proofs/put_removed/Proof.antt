@@ -20,19 +20,22 @@ sub-put-past c = search needs
 
 put-past-requires : tie.Need-put-past-requires
 put-past-requires c κs =
-    let st = c .before .before .before .before .before .before .before .before .before .before .before .before in
-    let a = st .args in
-    let t = rw (c .before .before .before .g .given .1) at (c .before .before .before .before .before .before .before .next-entry .ensures) in
-    (omega arith, step-found t .next, step-room t (st .pre .2), st .pre .1 .short, step-common t (st .pre .2) (st .pre .1) .0)
+    let known = c .before .before .before in
+    let read = known .before .before .before .before in
+    let start = read .before .before .before .before .before in
+    let t = rw (known .g .given .1) at (read .next-entry .ensures) in
+    let fits = step-common t (start .pre .2) (start .pre .1) .0 in
+    (omega arith, step-found t .next, step-room t (start .pre .2), start .pre .1 .short, fits)
 
 same-length : tie.Need-same-length
 same-length c = search needs
 
 returns : tie.Need-returns
 returns c =
-    let st = c .before .before .before .before .before .before .before .before .before in
-    let a = st .args in
-    let t = rw (c .enum-told .given .1) at (c .before .before .before .before .next-entry .ensures) in
+    let read = c .before .before .before .before in
+    let start = read .before .before .before .before .before in
+    let a = start .args in
+    let t = rw (c .enum-told .given .1) at (read .next-entry .ensures) in
     removed-refused (a .n) (a .version) (a .out .now) (a .at) (omega arith) t
 
 same-length-2 : tie.Need-same-length-2
@@ -43,10 +46,13 @@ same-length-3 c = search needs
 
 returns-2 : tie.Need-returns-2
 returns-2 c =
-    let st = c .before .before .before .before .before .before .before .before .before .before .before .before .before .before .before .before .before in
-    let a = st .args in
-    let t = rw (c .before .before .before .before .before .before .before .before .g .given .1) at (c .before .before .before .before .before .before .before .before .before .before .before .before .next-entry .ensures) in
-    removed-laid (a .n) (a .version) (a .out .now) (a .at) (omega arith) t (st .pre .2) (st .pre .1) (c .before .before .before .before .put-past .ensures)
+    let put = c .before .before .before .before in
+    let known = put .before .before .before .before in
+    let read = known .before .before .before .before in
+    let start = read .before .before .before .before .before in
+    let a = start .args in
+    let t = rw (known .g .given .1) at (read .next-entry .ensures) in
+    removed-laid (a .n) (a .version) (a .out .now) (a .at) (omega arith) t (start .pre .2) (start .pre .1) (put .put-past .ensures)
 
 pub put-removed-spec : {M : Type 1} → statement M
 put-removed-spec =

@@ -21,19 +21,21 @@ sub-put-entries c = search needs
 
 put-entries-requires : tie.Need-put-entries-requires
 put-entries-requires c κs =
-    let st = c .before .before .before .before .before .before .before .before .before .before .before .before in
-    let a = st .args in
-    let t = rw (c .before .before .before .g .given .1) at (c .before .before .before .before .before .before .before .next-entry .ensures) in
-    (step-found t .next, step-room t (st .pre .2), omega arith)
+    let known = c .before .before .before in
+    let read = known .before .before .before .before in
+    let start = read .before .before .before .before .before in
+    let t = rw (known .g .given .1) at (read .next-entry .ensures) in
+    (step-found t .next, step-room t (start .pre .2), omega arith)
 
 same-length : tie.Need-same-length
 same-length c = search needs
 
 returns : tie.Need-returns
 returns c =
-    let st = c .before .before .before .before .before .before .before .before .before in
-    let a = st .args in
-    let t = rw (c .enum-told .given .1) at (c .before .before .before .before .next-entry .ensures) in
+    let read = c .before .before .before .before in
+    let start = read .before .before .before .before .before in
+    let a = start .args in
+    let t = rw (c .enum-told .given .1) at (read .next-entry .ensures) in
     others-refused (a .n) (a .version) (a .out .now) (a .at) (omega arith) t true
 
 same-length-2 : tie.Need-same-length-2
@@ -44,10 +46,13 @@ same-length-3 c = search needs
 
 returns-2 : tie.Need-returns-2
 returns-2 c =
-    let st = c .before .before .before .before .before .before .before .before .before .before .before .before .before .before .before .before .before in
-    let a = st .args in
-    let t = rw (c .before .before .before .before .before .before .before .before .g .given .1) at (c .before .before .before .before .before .before .before .before .before .before .before .before .next-entry .ensures) in
-    replaced-laid (a .n) (a .version) (a .out .now) (a .at) (omega arith) t (c .before .before .before .before .put-entries .ensures)
+    let put = c .before .before .before .before in
+    let known = put .before .before .before .before in
+    let read = known .before .before .before .before in
+    let start = read .before .before .before .before .before in
+    let a = start .args in
+    let t = rw (known .g .given .1) at (read .next-entry .ensures) in
+    replaced-laid (a .n) (a .version) (a .out .now) (a .at) (omega arith) t (put .put-entries .ensures)
 
 pub put-replaced-spec : {M : Type 1} → statement M
 put-replaced-spec =

@@ -22,10 +22,11 @@ same-length-2 c = search needs
 
 returns : tie.Need-returns
 returns c =
-    let a = c .before .before .before .before .before .before .before .before .before .before .before .before .before .before .before .before .args in
-    let x = c .before .before .before .before .before .before .before .before .before .before .put-step .ensures in
-    let y = c .before .before .before .before .before .put-entries .ensures in
-    step-laid (a .v) (a .b .now) (a .work .now) (a .from) (a .st) x y (c .either .ensures) (omega arith)
+    let rest = c .before .before .before .before .before in
+    let one = rest .before .before .before .before .before in
+    let start = one .before .before .before .before .before .before in
+    let a = start .args in
+    step-laid (a .v) (a .b .now) (a .work .now) (a .from) (a .st) (one .put-step .ensures) (rest .put-entries .ensures) (c .either .ensures) (omega arith)
 
 pub put-stepped-spec : {M : Type 1} → statement M
 put-stepped-spec =

@@ -13,34 +13,38 @@ first-requires c κs = search needs
 
 put-entries-requires : tie.Need-put-entries-requires
 put-entries-requires c κs =
-    let st = c .before .before .before .before .before .before .before in
-    let a = st .args in
-    rw (c .before .first .ensures) (inside-first (a .b .now) (a .work .now) (st .pre .0), omega arith, omega arith)
+    let start = c .before .before .before .before .before .before .before in
+    let a = start .args in
+    rw (c .before .first .ensures) (inside-first (a .b .now) (a .work .now) (start .pre .0), omega arith, omega arith)
 
 common-at-requires : tie.Need-common-at-requires
 common-at-requires c κs = search needs
 
 put-record-requires : tie.Need-put-record-requires
 put-record-requires c κs =
-    let st = c .before .before .before .before .before .before .before .before .before .before .before .before .before .before .before in
-    let a = st .args in
-    let front = c .before .before .before .before .before .before .before .put-entries .ensures in
+    let shared = c .before in
+    let put = shared .before .before .before .before .before .before in
+    let start = put .before .before .before .before .before .before .before .before in
+    let a = start .args in
+    let front = put .put-entries .ensures in
     let near = front .near in
     let long = front .long in
-    (omega arith, st .pre .2, cursor-kept _ (a .b .now) _ _ (a .name .now) (front .inside) (omega arith) (st .pre .3) (c .before .common-at .ensures))
+    let kept = cursor-kept _ (a .b .now) _ _ (a .name .now) (front .inside) (omega arith) (start .pre .3) (shared .common-at .ensures) in
+    (omega arith, start .pre .2, kept)
 
 sub-put-others : tie.Need-sub-put-others
 sub-put-others c = search needs
 
 put-others-requires : tie.Need-put-others-requires
 put-others-requires c κs =
-    let st = c .before .before .before .before .before .before .before .before .before .before .before .before .before .before .before .before .before .before .before .before in
-    let a = st .args in
-    let front = c .before .before .before .before .before .before .before .before .before .before .before .before .put-entries .ensures in
+    let record-put = c .before .before .before .before in
+    let put = record-put .before .before .before .before .before .before .before .before in
+    let start = put .before .before .before .before .before .before .before .before in
+    let front = put .put-entries .ensures in
     let near = front .near in
     let long = front .long in
-    let one = c .before .before .before .before .put-record .ensures .near in
-    (omega arith, front .inside, omega arith, st .pre .3, omega arith)
+    let one = record-put .put-record .ensures .near in
+    (omega arith, front .inside, omega arith, start .pre .3, omega arith)
 
 or-requires : tie.Need-or-requires
 or-requires c κs = search needs
@@ -59,15 +63,23 @@ same-length-2 c = search needs
 
 returns : tie.Need-returns
 returns c =
-    let st = c .before .before .before .before .before .before .before .before .before .before .before .before .before .before .before .before .before .before .before .before .before .before .before .before .before .before .before .before in
-    let a = st .args in
-    let called = c .before .before .before .before .before .before .before .before .before .before .before .before .before .before .before .before .before .before .before .before in
-    let front = rw (c .before .before .before .before .before .before .before .before .before .before .before .before .before .before .before .before .before .before .before .before .before .before .first .ensures) at (called .put-entries .ensures) in
+    let two = c .before in
+    let one = two .before in
+    let others = one .before .before .before .before .before in
+    let record-put = others .before .before .before .before .before in
+    let shared = record-put .before .before in
+    let put = shared .before .before .before .before .before .before in
+    let first = put .before .before in
+    let start = first .before .before .before .before .before .before in
+    let a = start .args in
+    let front = rw (first .first .ensures) at (put .put-entries .ensures) in
     let long = front .long in
-    let put = c .before .before .before .before .before .before .before .before .before .before .before .before in
-    let others = c .before .before .before .before .before .before .before in
-    let word = put-word (a .fields) (a .name .now) (called .put-entries .result .extended) (c .before .before .or .result) (others .put-others .result .extended) (c .before .or2 .result) (c .or3 .result) (c .before .before .or .ensures) (c .before .or2 .ensures) (c .or3 .ensures) in
-    with-laid (a .count) (omega (arith, st .pre .1)) front (entryWith (a .fields) (a .name .now)) (a .there) (omega (arith, st .pre .0 .room)) (c .before .before .before .before .before .before .before .before .before .before .before .before .before .before .common-at .ensures) (put .put-record .ensures) (put .put-record .kept .0) (others .put-others .ensures) word
+    let before = put .put-entries .result .extended in
+    let after = others .put-others .result .extended in
+    let word = put-word (a .fields) (a .name .now) before (one .or .result) after (two .or2 .result) (c .or3 .result) (one .or .ensures) (two .or2 .ensures) (c .or3 .ensures) in
+    let x = record-put .put-record in
+    with-laid (a .count) (omega (arith, start .pre .1)) front (entryWith (a .fields) (a .name .now)) (a .there) (omega (arith, start .pre .0 .room))
+    (shared .common-at .ensures) (x .ensures) (x .kept .0) (others .put-others .ensures) word
 
 pub put-with-spec : {M : Type 1} → statement M
 put-with-spec =

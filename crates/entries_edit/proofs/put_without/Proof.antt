@@ -11,9 +11,9 @@ first-requires c κs = search needs
 
 put-entries-requires : tie.Need-put-entries-requires
 put-entries-requires c κs =
-    let st = c .before .before .before .before .before .before in
-    let a = st .args in
-    rw (c .before .first .ensures) (inside-first (a .b .now) (a .work .now) (st .pre .0), omega arith, omega arith)
+    let start = c .before .before .before .before .before .before in
+    let a = start .args in
+    rw (c .before .first .ensures) (inside-first (a .b .now) (a .work .now) (start .pre .0), omega arith, omega arith)
 
 sub-put-removed : tie.Need-sub-put-removed
 sub-put-removed c = search needs
@@ -32,10 +32,12 @@ same-length-2 c = search needs
 
 returns : tie.Need-returns
 returns c =
-    let st = c .before .before .before .before .before .before .before .before .before .before .before .before .before .before .before .before .before .before .before in
-    let a = st .args in
-    let front = rw (c .before .before .before .before .before .before .before .before .before .before .before .before .before .before .first .ensures) at (c .before .before .before .before .before .before .before .before .before .before .before .before .put-entries .ensures) in
-    without-laid (a .count) (omega (arith, st .pre .1)) front (c .before .before .before .before .before .put-removed .ensures) (c .or .ensures)
+    let removed = c .before .before .before .before .before in
+    let put = removed .before .before .before .before .before .before .before in
+    let first = put .before .before in
+    let start = first .before .before .before .before .before in
+    let front = rw (first .first .ensures) at (put .put-entries .ensures) in
+    without-laid (start .args .count) (omega (arith, start .pre .1)) front (removed .put-removed .ensures) (c .or .ensures)
 
 pub put-without-spec : {M : Type 1} → statement M
 put-without-spec =
