@@ -362,7 +362,8 @@ fn put_kept(
     requires { ⌜ Room (now b) (now work) × (at ≤ 16777216) ⌝ }
     ensures { λ r. ⌜ ((e : Entry) → EntriesEdited v (now (b .entry)) (now (work .entry)) count E.Keep e version (now (out .entry)) at (now (work .exit)) (now (out .exit)) r) ⌝ }
 {
-    let all = entries_write::put_entries(b, v, work, entries_run::first(), count, version, out, at);
+    let start = entries_run::first();
+    let all = entries_write::put_entries(b, v, work, start, count, version, out, at);
     Laid {
         at: all.at,
         extended: all.extended,
@@ -386,38 +387,12 @@ fn put_with(
     requires { ⌜ Room (now b) (now work) × (k + bit there ≤ count) × (fields .stage ≤ 3) × (length (now name) ≤ 8192) × (at ≤ 16777216) ⌝ }
     ensures { λ r. ⌜ EntriesEdited v (now (b .entry)) (now (work .entry)) count (E.Put k there) (entryWith fields (now (name .entry))) version (now (out .entry)) at (now (work .exit)) (now (out .exit)) r ⌝ }
 {
-    let front = entries_write::put_entries(
-        b,
-        v,
-        &mut *work,
-        entries_run::first(),
-        k,
-        version,
-        &mut *out,
-        at,
-    );
-    let kept = common_at(b, v, &*work, front.cursor, name);
-    let middle = put_record(
-        &mut *out,
-        front.at,
-        version,
-        fields,
-        name,
-        front.cursor.len,
-        kept,
-    );
-    let rest = put_others(
-        b,
-        v,
-        work,
-        front.cursor,
-        count - k,
-        there,
-        name,
-        version,
-        out,
-        middle,
-    );
+    let start = entries_run::first();
+    let front = entries_write::put_entries(b, v, &mut *work, start, k, version, &mut *out, at);
+    let c = front.cursor;
+    let kept = common_at(b, v, &*work, c, name);
+    let middle = put_record(&mut *out, front.at, version, fields, name, c.len, kept);
+    let rest = put_others(b, v, work, c, count - k, there, name, version, out, middle);
     let word = or(fields.skip_worktree, fields.intent_to_add);
     Laid {
         at: rest.at,
@@ -439,16 +414,8 @@ fn put_without(
     requires { ⌜ Room (now b) (now work) × (k + 1 ≤ count) × (at ≤ 16777216) ⌝ }
     ensures { λ r. ⌜ ((e : Entry) → EntriesEdited v (now (b .entry)) (now (work .entry)) count (E.Remove k) e version (now (out .entry)) at (now (work .exit)) (now (out .exit)) r) ⌝ }
 {
-    let front = entries_write::put_entries(
-        b,
-        v,
-        &mut *work,
-        entries_run::first(),
-        k,
-        version,
-        &mut *out,
-        at,
-    );
+    let start = entries_run::first();
+    let front = entries_write::put_entries(b, v, &mut *work, start, k, version, &mut *out, at);
     let rest = put_removed(b, v, work, front.cursor, count - k, version, out, front.at);
     Laid {
         at: rest.at,

@@ -13,7 +13,7 @@ put-entries-requires : tie.Need-put-entries-requires
 put-entries-requires c κs =
     let start = c .before .before .before .before .before .before in
     let a = start .args in
-    rw (c .before .first .ensures) (inside-first (a .b .now) (a .work .now) (start .pre .0), omega arith, omega arith)
+    rw (c .before .before .first .ensures) (inside-first (a .b .now) (a .work .now) (start .pre .0), omega arith, omega arith)
 
 same-length : tie.Need-same-length
 same-length c = search needs
@@ -24,7 +24,7 @@ same-length-2 c = search needs
 returns : tie.Need-returns
 returns c =
     let put = c .before .before .before .before in
-    let first = put .before .before in
+    let first = put .before .before .before in
     kept-laid (rw (first .first .ensures) at (put .put-entries .ensures))
 
 pub put-kept-spec : {M : Type 1} → statement M

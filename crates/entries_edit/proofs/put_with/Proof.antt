@@ -15,7 +15,7 @@ put-entries-requires : tie.Need-put-entries-requires
 put-entries-requires c κs =
     let start = c .before .before .before .before .before .before .before in
     let a = start .args in
-    rw (c .before .first .ensures) (inside-first (a .b .now) (a .work .now) (start .pre .0), omega arith, omega arith)
+    rw (c .before .before .first .ensures) (inside-first (a .b .now) (a .work .now) (start .pre .0), omega arith, omega arith)
 
 common-at-requires : tie.Need-common-at-requires
 common-at-requires c κs = search needs
@@ -23,7 +23,7 @@ common-at-requires c κs = search needs
 put-record-requires : tie.Need-put-record-requires
 put-record-requires c κs =
     let shared = c .before in
-    let put = shared .before .before .before .before .before .before in
+    let put = shared .before .before .before .before .before .before .before in
     let start = put .before .before .before .before .before .before .before .before in
     let a = start .args in
     let front = put .put-entries .ensures in
@@ -38,7 +38,7 @@ sub-put-others c = search needs
 put-others-requires : tie.Need-put-others-requires
 put-others-requires c κs =
     let record-put = c .before .before .before .before in
-    let put = record-put .before .before .before .before .before .before .before .before in
+    let put = record-put .before .before .before .before .before .before .before .before .before in
     let start = put .before .before .before .before .before .before .before .before in
     let front = put .put-entries .ensures in
     let near = front .near in
@@ -68,9 +68,9 @@ returns c =
     let others = one .before .before .before .before .before in
     let record-put = others .before .before .before .before .before in
     let shared = record-put .before .before in
-    let put = shared .before .before .before .before .before .before in
-    let first = put .before .before in
-    let start = first .before .before .before .before .before .before in
+    let put = shared .before .before .before .before .before .before .before in
+    let first = put .before .before .before in
+    let start = first .before .before .before .before .before in
     let a = start .args in
     let front = rw (first .first .ensures) at (put .put-entries .ensures) in
     let long = front .long in

@@ -13,7 +13,7 @@ put-entries-requires : tie.Need-put-entries-requires
 put-entries-requires c κs =
     let start = c .before .before .before .before .before .before in
     let a = start .args in
-    rw (c .before .first .ensures) (inside-first (a .b .now) (a .work .now) (start .pre .0), omega arith, omega arith)
+    rw (c .before .before .first .ensures) (inside-first (a .b .now) (a .work .now) (start .pre .0), omega arith, omega arith)
 
 sub-put-removed : tie.Need-sub-put-removed
 sub-put-removed c = search needs
@@ -34,8 +34,8 @@ returns : tie.Need-returns
 returns c =
     let removed = c .before .before .before .before .before in
     let put = removed .before .before .before .before .before .before .before in
-    let first = put .before .before in
-    let start = first .before .before .before .before .before in
+    let first = put .before .before .before in
+    let start = first .before .before .before .before in
     let front = rw (first .first .ensures) at (put .put-entries .ensures) in
     without-laid (start .args .count) (omega (arith, start .pre .1)) front (removed .put-removed .ensures) (c .or .ensures)
 
