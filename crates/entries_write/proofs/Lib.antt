@@ -2,4 +2,5 @@
 pub mod Names
 pub mod Words
 pub mod Lists
+pub mod Stepping
 pub mod Runs

@@ -6,7 +6,6 @@ use Prim.Native.Nat.{ℕ, _+_, _-_, _*_, _≤_, _<_}
 use native.Mathlib.Omega.{arith}
 use lib.ListN.{length, take, drop, length-append}
 use lib.Seq.{take-at, drop-at}
-use Rattle.format.specs.Names.{common}
 use Rattle.format.specs.Records.{Entry}
 use Rattle.format.specs.Reading.{good}
 use Rattle.format.specs.Reader.{isSet, entryOf}
@@ -18,11 +17,11 @@ use Rattle.output.proofs.Laws.{wrote-nothing, wrote-then}
 use Rattle.entries_run.specs.declared.Cursor.{Cursor}
 use Rattle.entries_run.specs.declared.Step.{Step}
 use Rattle.entries_run.specs.declared.Next.the-variants as N
-use Rattle.entries_run.specs.Steps.{nameAt, keyAt, entryAt, Inside, Found, Stepped, Placed, runFrom}
-use Rattle.entries_run.proofs.Steps.{entries-bad, entries-good, entryAt-name}
-use Rattle.entries_write.specs.Parts.{Kept, Beside, EntryWritten, lastName, EntriesWritten}
-use Rattle.entries_write.proofs.Names.{common-le, nameAt-length}
+use Rattle.entries_run.specs.Steps.{keyAt, entryAt, Inside, Stepped, runFrom}
+use Rattle.entries_run.proofs.Steps.{entries-bad, entries-good}
+use Rattle.entries_write.specs.Parts.{EntryWritten, lastName, EntriesWritten}
 use Rattle.entries_write.proofs.Lists.{entries-append, entries-one, anyWord-append, anyWord-one, lastName-append, lastName-one}
+use Rattle.entries_write.proofs.Stepping.{step-found, step-name, step-beside}
 
 -- of the entries all, those after es are left at a cursor, k of them
 pub record Left (v : ℕ) (b work : List ℕ) (c : Cursor) (k : ℕ) (es all : List Entry) : Type 0 where
@@ -107,40 +106,15 @@ module _ {v : ℕ} {b work₀ : List ℕ} {c₀ : Cursor} {n version : ℕ} {out
 
     -- the next one is read
     module _ {st : Step} (t : Stepped v b work c work′ (N.Good st)) (room : 8192 ≤ length work) where
-      found : Found v b work c work′ st
-      found = t .found st refl
-
-      abbrev pub entry : Entry
+      abbrev entry : Entry
       entry = entryAt v b work′ (c .at) st
-
-      pub step-placed : Placed b (c .at) st
-      step-placed = let f = found in record { fixed = omega arith; name = omega arith; short = f .next .short; stage = f .stage }
-
-      named : entry .name ≡ nameAt v b work′ (st .next .start) (st .next .len)
-      named = entryAt-name v b work′ (c .at) st
-
-      pub step-kept : Kept (entry .name) (c .len) (st .common)
-      step-kept =
-          let f = found in
-          let long = t .long in
-          let room′ : 8192 ≤ length work′ = omega arith in
-          let size : length (nameAt v b work′ (st .next .start) (st .next .len)) ≡ st .next .len = nameAt-length v b work′ (st .next) (f .next) room′ in
-          let before : length (nameAt v b work (c .start) (c .len)) ≡ c .len = nameAt-length v b work c (h .inside) room in
-          let (fits, within) = common-le (nameAt v b work (c .start) (c .len)) (nameAt v b work′ (st .next .start) (st .next .len)) in
-          let is = f .common in
-          rw
-          named
-          (record { short = let most = f .next .short in omega arith; before-short = h .inside .short; fits = omega arith; within = omega arith })
 
       -- and written
       module _ {out′ : List ℕ} {end′ : ℕ} (x : EntryWritten out end version entry (c .len) (st .common) out′ end′) where
-        beside : Beside (keyAt v b work c .name) (entry .name) (c .len) (st .common)
-        beside = rw named (record { long = nameAt-length v b work c (h .inside) room; shared = sym (found .common) })
-
         wrote-more : Wrote out₀ at (writeEntries 20 version (keyAt v b work₀ c₀ .name) (h .es ++ (entry ∷ []))) out′ end′
         wrote-more =
             let p : List ℕ = keyAt v b work₀ c₀ .name in
-            let last : Wrote out end (writeEntry 20 version (lastName p (h .es)) entry) out′ end′ = rw (h .last) at (x .wrote (keyAt v b work c .name) beside) in
+            let last : Wrote out end (writeEntry 20 version (lastName p (h .es)) entry) out′ end′ = rw (h .last) at (x .wrote (keyAt v b work c .name) (step-beside t room (h .inside))) in
             rw
             (entries-append 20 version p (h .es) (entry ∷ []), entries-one 20 version (lastName p (h .es)) entry)
             (wrote-then out₀ (writeEntries 20 version p (h .es)) _ out out′ at end end′ (h .wrote) last)
@@ -152,7 +126,7 @@ module _ {v : ℕ} {b work₀ : List ℕ} {c₀ : Cursor} {n version : ℕ} {out
             ∙ sym (anyWord-append (h .es) (entry ∷ []) ∙ ap (λ (t : Bool). anyWord (h .es) || t) (anyWord-one entry))
 
         last-more : keyAt v b work′ (st .next) .name ≡ lastName (keyAt v b work₀ c₀ .name) (h .es ++ (entry ∷ []))
-        last-more = rw (lastName-append (keyAt v b work₀ c₀ .name) (h .es) (entry ∷ []), lastName-one) (sym named)
+        last-more = rw (lastName-append (keyAt v b work₀ c₀ .name) (h .es) (entry ∷ []), lastName-one) (sym (step-name t))
 
         whole-more : (j : ℕ) (all : List Entry) (m : ℕ) → runFrom v (n + j) b work₀ c₀ ≡ good all m → Left v b work′ (st .next) (left - 1 + j) (h .es ++ (entry ∷ [])) all
         whole-more j all m e =
@@ -175,7 +149,7 @@ module _ {v : ℕ} {b work₀ : List ℕ} {c₀ : Cursor} {n version : ℕ} {out
               wrote = wrote-more;
               any = is ∙ any-more;
               last = last-more;
-              inside = found .next;
+              inside = step-found t .next;
               near = omega arith;
               long = t .long ∙ h .long;
               past = t .past ∙ h .past;

@@ -97,7 +97,7 @@ pub fn put_rest(
 }
 
 // The name that a step told: first in the workspace in version 4, else at its start in the body.
-fn name_at<'a>(b: &'a [u8], v: u32, work: &'a [u8], start: usize, len: usize) -> &'a [u8]
+pub fn name_at<'a>(b: &'a [u8], v: u32, work: &'a [u8], start: usize, len: usize) -> &'a [u8]
     requires { ⌜ (start + len ≤ length (now b)) × (len ≤ length (now work)) ⌝ }
     ensures { λ r. ⌜ now r ≡ nameAt v (now (b .entry)) (now (work .entry)) start len ⌝ }
 {
@@ -134,7 +134,7 @@ pub fn put_step<'a>(
 }
 
 // Whether an entry with this extended word, or 0 without one, needs it, or one before did.
-fn either(extended: bool, word: u32) -> bool
+pub fn either(extended: bool, word: u32) -> bool
     ensures { λ r. ⌜ r ≡ (extended || (isSet 16384 word || isSet 8192 word)) ⌝ }
 {
     if extended {

@@ -4,7 +4,8 @@ use Prim.Native.Nat.{_≤_}
 use native.Mathlib.Omega.{arith}
 use borrow.Author.Needs.{needs}
 use lib.ListN.{length}
-use Rattle.entries_write.proofs.Runs.{Writing, writing-start, writing-bad, step-placed, step-kept, writing-more, writing-end}
+use Rattle.entries_write.proofs.Runs.{Writing, writing-start, writing-bad, writing-more, writing-end}
+use Rattle.entries_write.proofs.Stepping.{step-placed, step-kept}
 use Rattle.entries_write.proofs.put_entries.Statement.{statement}
 use Rattle.entries_write.proofs.put_entries.Tie as tie
 
@@ -45,7 +46,6 @@ enum-known-g c = search needs
 put-step-requires : tie.Need-put-step-requires Inv-loop μ-loop
 put-step-requires c κs =
     let l = c .before .before .before .before .before .before .before .before .before .before in
-    let more = c .before .before .before .before .before .before .before .before .before .loop-test .taken in
     let t = rw (c .before .before .before .g .given .1) at (c .before .before .before .before .before .before .before .next-entry .ensures) in
     let long = t .long in
     let same = l .loop .inv .long in
@@ -53,9 +53,9 @@ put-step-requires c κs =
     let sum = l .loop .inv .count in
     let room : 8192 ≤ length (l .loop .work) = omega arith in (
       omega arith,
-      step-placed (l .loop .inv) more t room,
+      step-placed t,
       omega arith,
-      step-kept (l .loop .inv) more t room,
+      step-kept t room (l .loop .inv .inside),
     )
 
 either-requires : tie.Need-either-requires Inv-loop μ-loop

@@ -1,0 +1,99 @@
+-- The proof that `put_with` meets its contract.
+use native.Mathlib.Omega.{arith}
+use borrow.Author.Needs.{needs}
+use Rattle.entries_run.proofs.Steps.{inside-first}
+use Rattle.file.specs.Answers.{entryWith}
+use Rattle.entries_edit.proofs.Puts.{put-word}
+use Rattle.entries_edit.proofs.Ways.{cursor-kept, with-laid}
+use Rattle.entries_edit.proofs.put_with.Statement.{statement}
+use Rattle.entries_edit.proofs.put_with.Tie as tie
+
+first-requires : tie.Need-first-requires
+first-requires c κs = search needs
+
+put-entries-requires : tie.Need-put-entries-requires
+put-entries-requires c κs =
+    let start = c .before .before .before .before .before .before .before in
+    let a = start .args in
+    rw (c .before .before .first .ensures) (inside-first (a .b .now) (a .work .now) (start .pre .0), omega arith, omega arith)
+
+common-at-requires : tie.Need-common-at-requires
+common-at-requires c κs = search needs
+
+put-record-requires : tie.Need-put-record-requires
+put-record-requires c κs =
+    let shared = c .before in
+    let put = shared .before .before .before .before .before .before .before in
+    let start = put .before .before .before .before .before .before .before .before in
+    let a = start .args in
+    let front = put .put-entries .ensures in
+    let near = front .near in
+    let long = front .long in
+    let kept = cursor-kept _ (a .b .now) _ _ (a .name .now) (front .inside) (omega arith) (start .pre .3) (shared .common-at .ensures) in
+    (omega arith, start .pre .2, kept)
+
+sub-put-others : tie.Need-sub-put-others
+sub-put-others c = search needs
+
+put-others-requires : tie.Need-put-others-requires
+put-others-requires c κs =
+    let record-put = c .before .before .before .before in
+    let put = record-put .before .before .before .before .before .before .before .before .before in
+    let start = put .before .before .before .before .before .before .before .before in
+    let front = put .put-entries .ensures in
+    let near = front .near in
+    let long = front .long in
+    let one = record-put .put-record .ensures .near in
+    (omega arith, front .inside, omega arith, start .pre .3, omega arith)
+
+or-requires : tie.Need-or-requires
+or-requires c κs = search needs
+
+or-requires-2 : tie.Need-or-requires-2
+or-requires-2 c κs = search needs
+
+or-requires-3 : tie.Need-or-requires-3
+or-requires-3 c κs = search needs
+
+same-length : tie.Need-same-length
+same-length c = search needs
+
+same-length-2 : tie.Need-same-length-2
+same-length-2 c = search needs
+
+returns : tie.Need-returns
+returns c =
+    let two = c .before in
+    let one = two .before in
+    let others = one .before .before .before .before .before in
+    let record-put = others .before .before .before .before .before in
+    let shared = record-put .before .before in
+    let put = shared .before .before .before .before .before .before .before in
+    let first = put .before .before .before in
+    let start = first .before .before .before .before .before in
+    let a = start .args in
+    let front = rw (first .first .ensures) at (put .put-entries .ensures) in
+    let long = front .long in
+    let before = put .put-entries .result .extended in
+    let after = others .put-others .result .extended in
+    let word = put-word (a .fields) (a .name .now) before (one .or .result) after (two .or2 .result) (c .or3 .result) (one .or .ensures) (two .or2 .ensures) (c .or3 .ensures) in
+    let x = record-put .put-record in
+    with-laid (a .count) (omega (arith, start .pre .1)) front (entryWith (a .fields) (a .name .now)) (a .there) (omega (arith, start .pre .0 .room))
+    (shared .common-at .ensures) (x .ensures) (x .kept .0) (others .put-others .ensures) word
+
+pub put-with-spec : {M : Type 1} → statement M
+put-with-spec =
+    tie.close
+    (tie.spec
+    first-requires
+    put-entries-requires
+    common-at-requires
+    put-record-requires
+    sub-put-others
+    put-others-requires
+    or-requires
+    or-requires-2
+    or-requires-3
+    same-length
+    same-length-2
+    returns)

@@ -1,0 +1,53 @@
+-- The proof that `put_without` meets its contract.
+use native.Mathlib.Omega.{arith}
+use borrow.Author.Needs.{needs}
+use Rattle.entries_run.proofs.Steps.{inside-first}
+use Rattle.entries_edit.proofs.Ways.{without-laid}
+use Rattle.entries_edit.proofs.put_without.Statement.{statement}
+use Rattle.entries_edit.proofs.put_without.Tie as tie
+
+first-requires : tie.Need-first-requires
+first-requires c κs = search needs
+
+put-entries-requires : tie.Need-put-entries-requires
+put-entries-requires c κs =
+    let start = c .before .before .before .before .before .before in
+    let a = start .args in
+    rw (c .before .before .first .ensures) (inside-first (a .b .now) (a .work .now) (start .pre .0), omega arith, omega arith)
+
+sub-put-removed : tie.Need-sub-put-removed
+sub-put-removed c = search needs
+
+put-removed-requires : tie.Need-put-removed-requires
+put-removed-requires c κs = search needs
+
+or-requires : tie.Need-or-requires
+or-requires c κs = search needs
+
+same-length : tie.Need-same-length
+same-length c = search needs
+
+same-length-2 : tie.Need-same-length-2
+same-length-2 c = search needs
+
+returns : tie.Need-returns
+returns c =
+    let removed = c .before .before .before .before .before in
+    let put = removed .before .before .before .before .before .before .before in
+    let first = put .before .before .before in
+    let start = first .before .before .before .before in
+    let front = rw (first .first .ensures) at (put .put-entries .ensures) in
+    without-laid (start .args .count) (omega (arith, start .pre .1)) front (removed .put-removed .ensures) (c .or .ensures)
+
+pub put-without-spec : {M : Type 1} → statement M
+put-without-spec =
+    tie.close
+    (tie.spec
+    first-requires
+    put-entries-requires
+    sub-put-removed
+    put-removed-requires
+    or-requires
+    same-length
+    same-length-2
+    returns)
