@@ -2,6 +2,6 @@
 pub mod Tests
 pub mod Lists
 pub mod Numbers
-pub mod Texts
 pub mod Names
 pub mod Readings
+pub mod Texts
