@@ -2,8 +2,8 @@
 pub mod Tests
 pub mod Lists
 pub mod Numbers
-pub mod Texts
 pub mod Names
 pub mod Readings
+pub mod Texts
 pub mod Orders
 pub mod Keys

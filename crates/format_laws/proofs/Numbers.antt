@@ -14,6 +14,7 @@ use Rattle.format_laws.proofs.Lists.{take-two}
 pub suc-pred : (n : ℕ) → 0 < n → n ≡ suc (n - 1)
 suc-pred n h = omega arith
 
+-- a bit as a number
 pub bit-below : (t : Bool) → bit t < 2
 bit-below true = omega arith
 bit-below false = omega arith

@@ -2,7 +2,7 @@
 use mathlib.Core.Path.{_≡_, refl, ap}
 use mathlib.Core.List.{List, [], _∷_, _++_, append-assoc}
 use mathlib.Core.Bool.{Bool, true, false, cond}
-use mathlib.Core.Option.{Option, none, some}
+use mathlib.Core.Option.{Option, none, some, Option·none-ne-some}
 use Prim.Native.Nat.{ℕ, _+_}
 use native.Mathlib.Nat.{add-assoc}
 use native.Mathlib.Omega.{arith}
@@ -15,7 +15,7 @@ pub bad-good {ℓ} : {A : Type 0} {X : Type ℓ} (n p : ℕ) (a : A) (m : ℕ) �
 bad-good n p a m e = let z : _≡_ {A = ℕ} 0 1 = cc in absurd (omega arith)
 
 pub none-some {ℓ} : {A : Type 0} {X : Type ℓ} {a : A} → none ≡ some a → X
-none-some e = let z : _≡_ {A = ℕ} 0 1 = cc in absurd (omega arith)
+none-some {a = a} e = absurd (Option·none-ne-some a e)
 
 pub same-size : {A : Type 0} {a : A} {m n : ℕ} → m ≡ n → good a m ≡ good a n
 same-size {a = a} e = ap (λ x. good a x) e

@@ -1,17 +1,18 @@
 -- Laws of texts: the bytes before the first b, and the reading of a text that the byte b ends.
-use mathlib.Core.Path.{_≡_, refl, sym, ap}
+use mathlib.Core.Path.{_≡_, refl, sym, ap, _∙_}
 use mathlib.Core.List.{List, [], _∷_, _++_}
 use mathlib.Core.Bool.{Bool, true, false}
 use Prim.Native.Nat.{ℕ, suc, _+_, _-_, _≤_, _<_}
 use native.Mathlib.Omega.{arith}
 use lib.ListN.{length, take, drop, length-drop}
-use lib.Seq.{drop-append-add}
+use lib.Seq.{length-take-le, take-append-add, drop-append-add}
 use lib.Dec.{eqb}
-use borrow.Author.Tests.{eqb-true, eq-eqb, ne-eqb, lt-ltb, le-ltb}
+use borrow.Author.Tests.{eqb-true, eq-eqb, ne-eqb, ltb-true, lt-ltb, le-ltb}
 use Rattle.format.specs.Bytes.{before, lacks}
 use Rattle.format.specs.Reading.{bad, good, need}
 use Rattle.format.specs.Reader.{readText}
 use Rattle.format_laws.proofs.Tests.{false-true, cond-inv, by-cond}
+use Rattle.format_laws.proofs.Readings.{good-inv, need-inv}
 
 -- ---- the bytes before the first b
 
@@ -34,6 +35,7 @@ unfolding before
 before-le b [] = omega arith
 before-le b (x ∷ s) = by-cond (λ n. n ≤ suc (length s)) (eqb x b) 0 (suc (before b s)) (λ p. omega arith) (λ p. omega (arith, before-le b s))
 
+-- the first b and what stands on either side of it
 pub split-before : (b : ℕ) (s : List ℕ) → before b s < length s → s ≡ take (before b s) s ++ b ∷ drop (suc (before b s)) s
 unfolding before
 split-before b [] h = absurd (omega arith)
@@ -43,17 +45,12 @@ split-before b (x ∷ s) h =
     (λ p l. ap (λ (t : List ℕ). x ∷ t) (split-before b s (omega arith)))
     h
 
--- the same, with the first b taken too
 pub take-before : (b : ℕ) (s : List ℕ) → before b s < length s → take (before b s + 1) s ≡ take (before b s) s ++ (b ∷ [])
-unfolding before
-take-before b [] h = absurd (omega arith)
-take-before b (x ∷ s) h =
-    by-cond (λ n. n < suc (length s) → take (n + 1) (x ∷ s) ≡ take n (x ∷ s) ++ (b ∷ [])) (eqb x b) 0 (suc (before b s))
-    (λ p l. rw (eqb-true x b p) refl)
-    (λ p l.
-    let next : suc (before b s) + 1 ≡ suc (before b s + 1) = omega arith in
-    rw next (ap (λ (t : List ℕ). x ∷ t) (take-before b s (omega arith))))
-    h
+take-before b s h =
+    let front : List ℕ = take (before b s) s in
+    let back : List ℕ = drop (suc (before b s)) s in
+    let size : length front ≡ before b s = length-take-le (before b s) s (omega arith) in
+    ap (take (before b s + 1)) (split-before b s h) ∙ ap (λ (n : ℕ). take (n + 1) (front ++ b ∷ back)) (sym size) ∙ take-append-add front (b ∷ back) 1
 
 -- what follows a text and the byte that ends it
 pub after-text : (s : List ℕ) (b : ℕ) (r : List ℕ) → drop (length s + 1) (s ++ b ∷ r) ≡ r
@@ -84,8 +81,17 @@ module _ (b : ℕ) where
   pub lacks-end : (s : List ℕ) → eqb (before b s) (length s) ≡ lacks b s
   lacks-end s = lacks-by s (lacks b s) refl
 
--- ---- the reading of a text from at on; e is the place of the first byte b there
+-- ---- the reading of a text
 
+pub text-inv {ℓ} : {X : Type ℓ} (b n p : ℕ) (s t : List ℕ) (m : ℕ) → readText b n p s ≡ good t m
+    → (before b s < length s → take (before b s) s ≡ t → before b s + 1 ≡ m → X) → X
+unfolding readText
+text-inv b n p s t m e f =
+    need-inv _ _ _ _ _ _ e λ fits e₁.
+    good-inv _ _ _ _ e₁ λ is size.
+    f (ltb-true _ _ fits) is size
+
+-- from the place at on; e is the place of the first byte b there
 module _ (b n p : ℕ) (d : List ℕ) (at e : ℕ) (is : e ≡ at + before b (drop at d)) where
   pub text-none : e ≡ length d → readText b n p (drop at d) ≡ bad n p
   unfolding readText need

@@ -11,10 +11,10 @@ use borrow.Author.Tests.{ltb-true, ltb-false, lt-ltb, le-ltb, eqb-true, eqb-fals
 use Rattle.format.specs.Bytes.{before}
 use Rattle.format.specs.Records.{Undo}
 use Rattle.format.specs.Reading.{Read, bad, good, shift, bind}
-use Rattle.format.specs.Reader.{readText, readUndo, readUndos}
+use Rattle.format.specs.Reader.{readUndo, readUndos}
 use Rattle.format_laws.proofs.Tests.{by-test}
-use Rattle.format_laws.proofs.Texts.{before-le}
-use Rattle.format_laws.proofs.Readings.{good-inv, need-inv, bind-inv}
+use Rattle.format_laws.proofs.Texts.{before-le, text-inv}
+use Rattle.format_laws.proofs.Readings.{need-inv, bind-inv}
 use Rattle.spelling_extensions.proofs.Undo.{undosOf, undosOf-end, undosOf-step}
 use Rattle.resolve_undo.specs.declared.Record.{Record}
 use Rattle.resolve_undo.specs.declared.RecordRead.the-variants as R
@@ -36,11 +36,9 @@ first-path w p path s u k wide q =
 -- it begins with its path
 pub undo-begins : (w p : ℕ) (previous s : List ℕ) (u : Undo) (k : ℕ) → 1 ≤ w → readUndo w p previous s ≡ good u k
     → (take (length (u .path)) s ≡ u .path) × (length (u .path) ≤ length s)
-unfolding readText
 undo-begins w p previous s u k wide q =
     bind-inv _ _ _ _ (sym (undo-is w p previous s) ∙ q) λ path i₀ j₀ pathq q₁ size₀.
-    need-inv _ _ _ _ _ _ pathq λ fits q₂.
-    good-inv _ _ _ _ q₂ λ is size₁.
+    text-inv 0 17 p s path i₀ pathq λ fits is size₁.
     need-inv _ _ _ _ _ _ q₁ λ ok q₃.
     let l = before-le 0 s in
     let path-is : u .path ≡ take (before 0 s) s = first-path w p path _ u j₀ wide q₃ ∙ sym is in

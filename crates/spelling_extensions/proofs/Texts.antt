@@ -8,15 +8,15 @@ use native.Mathlib.Omega.{arith}
 use lib.ListN.{length, take, drop, length-append, length-drop}
 use lib.Seq.{take-append-seam, take-add}
 use lib.Dec.{eqb, leb, ltb}
-use borrow.Author.Tests.{ltb-true, lt-ltb, leb-true, le-leb, eqb-true, ne-eqb}
-use Rattle.format.specs.Bytes.{before, lacks, digits, decimal, value}
+use borrow.Author.Tests.{lt-ltb, leb-true, le-leb, eqb-true, ne-eqb}
+use Rattle.format.specs.Bytes.{lacks, digits, decimal, value}
 use Rattle.format.specs.Records.{Count, valid, invalid}
 use Rattle.format.specs.Layout.{CountText}
 use Rattle.format.specs.Reading.{good, need, shift, bind}
 use Rattle.format.specs.Reader.{readText, countIn, needSome}
 use Rattle.format_laws.proofs.Tests.{false-true, and-inv, cond-inv}
-use Rattle.format_laws.proofs.Texts.{before-at, lacks-before, take-before}
-use Rattle.format_laws.proofs.Readings.{good-inv, need-inv, bind-inv, same-size, none-some, needSome-inv}
+use Rattle.format_laws.proofs.Texts.{before-at, lacks-before, take-before, text-inv}
+use Rattle.format_laws.proofs.Readings.{good-inv, bind-inv, same-size, none-some, needSome-inv}
 
 -- ---- a text that the byte b ends
 
@@ -28,12 +28,9 @@ read-text b n p t rest e =
     simp (before-at b t rest e, fits, take-append-seam)
 
 pub text-read : (b n p : ℕ) (s t : List ℕ) (m : ℕ) → readText b n p s ≡ good t m → (m ≤ length s) × (take m s ≡ t ++ (b ∷ [])) × (lacks b t ≡ true)
-unfolding readText
 text-read b n p s t m q =
-    need-inv _ _ _ _ _ _ q λ fits q₁.
-    good-inv _ _ _ _ q₁ λ is size.
-    let l : before b s < length s = ltb-true _ _ fits in
-    rw (← is, ← size) (omega arith, take-before b s l, lacks-before b s)
+    text-inv b n p s t m q λ fits is size.
+    rw (← is, ← size) (omega arith, take-before b s fits, lacks-before b s)
 
 -- the same where f says what the text stands for
 pub read-decoded : {A : Type 0} (f : List ℕ → Option A) (b n p : ℕ) (t rest : List ℕ) (a : A) → lacks b t ≡ true → f t ≡ some a

@@ -8,14 +8,14 @@ use native.Mathlib.Nat.{add-zero, add-assoc}
 use native.Mathlib.Omega.{arith}
 use lib.ListN.{length, getD, take, drop, replicate, length-take, length-drop}
 use lib.Seq.{take-all, drop-drop}
-use lib.Dec.{leb, ltb}
-use borrow.Author.Tests.{eq-eqb, ne-eqb, le-leb, lt-leb, ltb-true}
+use lib.Dec.{leb}
+use borrow.Author.Tests.{eq-eqb, ne-eqb, le-leb, lt-leb}
 use Rattle.format.specs.Bytes.{before, decimal, value}
 use Rattle.format.specs.Records as Records
 use Rattle.format.specs.Reading.{Read, bad, good, need, shift, bind}
 use Rattle.format.specs.Reader.{readText, countIn, needSome, readCount, readSubtrees, readObject, Head, readNode}
 use Rattle.format_laws.proofs.Lists.{drop-to}
-use Rattle.format_laws.proofs.Texts.{text-none, text-some}
+use Rattle.format_laws.proofs.Texts.{text-inv, text-none, text-some}
 use Rattle.format_laws.proofs.Readings.{need-inv, bind-inv}
 use Rattle.tree_nodes.specs.declared.number.Number.{Number}
 use Rattle.tree_nodes.specs.declared.number.Number.the-variants as N
@@ -334,10 +334,6 @@ pub record NodeIs (d : List ℕ) (at : ℕ) (node : Node) : Type 0 where
   pub ended : node .nul < node .next
   pub within : node .next ≤ length d
 
-text-is : (b n p : ℕ) (s t : List ℕ) (m : ℕ) → readText b n p s ≡ good t m → (t ≡ take (before b s) s) × (m ≡ before b s + 1) × (before b s < length s)
-unfolding readText
-text-is b n p s t m e = need-inv (ltb (before b s) (length s)) n p _ t m e (λ l r. (cc, cc, ltb-true _ _ l))
-
 -- the name of a node that was read
 pub node-named : (w p : ℕ) (s : List ℕ) (h : Head) (m : ℕ) → readNode w p s ≡ good h m → (h .node .name ≡ take (before 0 s) s) × (before 0 s < m) × (before 0 s < length s)
 unfolding readNode
@@ -346,10 +342,9 @@ node-named w p s h m e =
     bind-inv (readCount p (drop a s)) _ h a′ r λ count b b′ q₁ r₁ i₁.
     bind-inv (readSubtrees p (drop b (drop a s))) _ h b′ r₁ λ k c c′ q₂ r₂ i₂.
     bind-inv (readObject w p count (drop c (drop b (drop a s)))) _ h c′ r₂ λ object o o′ q₃ r₃ i₃.
-    let t = text-is 0 15 p s name a q in
+    text-inv 0 15 p s name a q λ within text size.
     let same : record { node = record { name = name; count = count; object = object }; subtrees = k } ≡ h = cc in
-    let t₁ : a ≡ before 0 s + 1 = t .1 in
-    (sym (ap (λ (x : Head). x .node .name) same) ∙ t .0, omega arith, t .2)
+    (sym (ap (λ (x : Head). x .node .name) same) ∙ sym text, omega arith, within)
 
 module _ (d : List ℕ) (at : ℕ) (inside : at ≤ length d) where
   node-is-by : (node : Node) (x : Read Head) → readNode 20 0 (drop at d) ≡ x → R.Good node ≡ nodeAt at x → NodeIs d at node
