@@ -14,11 +14,11 @@ use Rattle.format.specs.Records.{Forest}
 use Rattle.format.specs.Layout.{distinct}
 use Rattle.tree_counts.specs.Judge.{child}
 use Rattle.cache_tree.proofs.Flat.{Reads}
-use Rattle.tree_walk.specs.declared.child.Child.{Child}
-use Rattle.tree_walk.specs.declared.child.Child.the-variants as C
+use Rattle.tree_search.specs.declared.child.Child.{Child}
+use Rattle.tree_search.specs.declared.child.Child.the-variants as C
 use Rattle.tree_walk.specs.declared.look.Look.{Look}
 use Rattle.tree_walk.specs.declared.look.Look.the-variants as L
-use Rattle.tree_walk.specs.Siblings.{Last, FoundAt, Sought}
+use Rattle.tree_search.specs.Siblings.{Last, FoundAt, Sought}
 use Rattle.tree_walk.specs.Components.{component, Component, LookedUp}
 
 pub take-length : (n : ℕ) (s : List ℕ) → n ≤ length s → length (take n s) ≡ n

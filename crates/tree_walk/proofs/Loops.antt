@@ -21,7 +21,7 @@ use Rattle.tree_walk.specs.declared.front.Front.{Front}
 use Rattle.tree_walk.specs.declared.walk.Tally.{Tally}
 use Rattle.tree_walk.specs.declared.walk.Part.{Part}
 use Rattle.tree_walk.specs.declared.walk.Part.the-variants as P
-use Rattle.tree_walk.specs.Siblings.{Last}
+use Rattle.tree_search.specs.Siblings.{Last}
 use Rattle.tree_walk.specs.Ahead.{Ahead}
 use Rattle.tree_walk.specs.Steps.{Ready, PartWalked, DirectoryWalked, Taken, BelowReady, Finished, roomBelow}
 use Rattle.tree_walk.proofs.Ahead.{stays-some}

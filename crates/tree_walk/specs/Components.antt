@@ -12,7 +12,7 @@ use Rattle.tree_counts.specs.Judge.{child}
 use Rattle.cache_tree.proofs.Flat.{Reads}
 use Rattle.tree_walk.specs.declared.look.Look.{Look}
 use Rattle.tree_walk.specs.declared.look.Look.the-variants as L
-use Rattle.tree_walk.specs.Siblings.{Last, FoundAt}
+use Rattle.tree_search.specs.Siblings.{Last, FoundAt}
 
 -- the bytes before the first "/"
 unfoldable pub component : List ℕ → List ℕ

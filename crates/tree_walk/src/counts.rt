@@ -10,13 +10,15 @@ use cache_tree::node::Node;
 use cache_tree::node::NodeRead;
 use cache_tree::node::read_node;
 use entries_run::first;
+use tree_search::keys::Table;
+use tree_search::table::reset;
 ghost use Prim.Native.Nat.{_≤_};
 ghost use lib.ListN.{length};
 ghost use Rattle.entries_run.specs.Steps.{Room};
 ghost use Rattle.tree_walk.specs.Answers.{RootWalked, CountsTold};
 
 // What the walk over all entries tests of the root and of what is below it, where met nodes have a count of at least 1.
-fn walk_root(d: &[u8], root: Node, met: u32, b: &[u8], v: u32, count: u32, work: &mut [u8]) -> bool
+fn walk_root(d: &[u8], root: Node, met: u32, b: &[u8], v: u32, count: u32, work: &mut [u8], seed: u64) -> bool
     requires { ⌜ (root .next ≤ length (now d)) × (length (now d) ≤ 16777216) × Room (now b) (now work) ⌝ }
     ensures { λ r. ⌜ RootWalked (now (d .entry)) root met (now (b .entry)) v count (now (work .entry)) (now (work .exit)) r ⌝ }
 {
@@ -30,6 +32,11 @@ fn walk_root(d: &[u8], root: Node, met: u32, b: &[u8], v: u32, count: u32, work:
     if front.ahead == 0 {
         return both(agrees(root.valid, root.count, 0), 0 == met);
     }
+    let mut near = [0u32; 2051];
+    let mut far = [0u32; 2051];
+    let m = (seed % 4294967291) as u32;
+    reset(&mut near, m);
+    reset(&mut far, m);
     let t = walk_directory(
         d,
         root.next,
@@ -40,13 +47,15 @@ fn walk_root(d: &[u8], root: Node, met: u32, b: &[u8], v: u32, count: u32, work:
         work,
         0,
         front,
+        &mut near,
+        &mut far,
     );
     let whole = both(t.ok, t.met == met);
     both(agrees(root.valid, root.count, t.count), whole)
 }
 
 // Whether the counts of the cache tree d are right for the first count entries of the body b of version v.
-pub fn counts_ok(d: &[u8], b: &[u8], v: u32, count: u32, work: &mut [u8]) -> bool
+pub fn counts_ok(d: &[u8], b: &[u8], v: u32, count: u32, work: &mut [u8], seed: u64) -> bool
     requires { ⌜ (length (now d) ≤ 16777216) × Room (now b) (now work) ⌝ }
     ensures { λ r. ⌜ CountsTold (now (d .entry)) (now (b .entry)) v count (now (work .entry)) (now (work .exit)) r ⌝ }
 {
@@ -57,7 +66,7 @@ pub fn counts_ok(d: &[u8], b: &[u8], v: u32, count: u32, work: &mut [u8]) -> boo
             let found = survey_trees(d, root.next, root.subtrees, root.valid);
             match found {
                 Survey::Untidy => false,
-                Survey::Tidy(met) => walk_root(d, root, met, b, v, count, work),
+                Survey::Tidy(met) => walk_root(d, root, met, b, v, count, work, seed),
             }
         }
     }

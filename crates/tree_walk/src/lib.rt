@@ -1,5 +1,4 @@
 // The counts of a cache tree against the entries: refusal 16.
-pub mod child;
 pub mod counts;
 pub mod front;
 pub mod look;

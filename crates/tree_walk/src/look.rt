@@ -1,40 +1,87 @@
 // The first entry ahead in a directory: its next component, and the sibling of that name.
-use crate::child::Child;
-use crate::child::find_child;
 use crate::front::Front;
+use crate::front::advance;
+use crate::front::stays;
+use fields::copy_to;
 use fields::find;
-ghost use mathlib.Core.Path.{_≡_};
-ghost use Prim.Native.Nat.{_≤_};
-ghost use lib.ListN.{length};
-ghost use Rattle.entries_run.specs.Steps.{nameAt};
-ghost use Rattle.tree_walk.specs.Ahead.{Fits};
-ghost use Rattle.tree_walk.specs.Components.{LookedUp};
+use tree_search::child::Answer;
+use tree_search::child::Child;
+use tree_search::child::is_long;
+use tree_search::keys::Table;
+use tree_search::keys::key_of;
+use tree_search::keys::want;
+use tree_search::table::clear;
+use tree_search::table::find_late;
+use tree_search::table::find_soon;
+use tree_search::table::settle;
 
-// The name has no further "/"; or the place in it after that "/", and no sibling has the component before; or one has it: where it is, and
-// how many there are from it on.
 pub enum Look {
     File,
     Missing(usize),
     Found(usize, usize, u32),
 }
 
-// The component of a name after its first q bytes, among k siblings; place and left are a hint to find_child.
-fn look_in(d: &[u8], at: usize, k: u32, place: usize, left: u32, name: &[u8], q: usize) -> Look
-    requires { ⌜ (at ≤ place) × (place ≤ length (now d)) × (length (now d) ≤ 16777216) × (q ≤ length (now name)) ⌝ }
-    ensures { λ r. ⌜ LookedUp (now (d .entry)) at k place left (now (name .entry)) (length (now (name .entry))) q r ⌝ }
+fn name_of<'a>(b: &'a [u8], v: u32, work: &'a [u8], start: usize, len: usize) -> &'a [u8]
+{
+    if v == 4 {
+        return &work[..len];
+    }
+    let e = start + len;
+    &b[start..e]
+}
+
+fn want_component(name: &[u8], q: usize, t: &mut Table) -> u32
 {
     let e = find(name, q, 47);
     if e == name.len() {
-        return Look::File;
+        return 0;
     }
-    let child = find_child(d, at, k, &name[q..e], place, left);
-    match child {
-        Child::Missing => Look::Missing(e + 1),
-        Child::Found(p, l) => Look::Found(e + 1, p, l),
+    let key = key_of(&name[q..e], t[2050]);
+    want(t, key)
+}
+
+fn gather_by(b: &[u8], v: u32, names: &mut [u8; 8192], q: usize, s: Front, steps: u32, t: &mut Table)
+{
+    let mut front = s;
+    let mut left = steps;
+    let mut count: u32 = 0;
+    while 0 < left {
+        let c = front.cursor;
+        let start = c.start;
+        let len = c.len;
+        let name = name_of(b, v, &names[..], start, len);
+        count += want_component(name, q, t);
+        if 768 <= count {
+            return;
+        }
+        front = advance(b, v, &mut names[..], front);
+        if stays(front, q) {
+            left -= 1;
+        } else {
+            return;
+        }
     }
 }
 
-// The same of the first name ahead, which is in the workspace in version 4, else in the body.
+fn gather(b: &[u8], v: u32, work: &[u8], q: usize, s: Front, steps: u32, t: &mut Table)
+{
+    let mut names = [0u8; 8192];
+    clear(t, 0);
+    if v == 4 {
+        let len = s.cursor.len;
+        copy_to(&mut names[..], 0, &work[..len]);
+    }
+    gather_by(b, v, &mut names, q, s, steps, t);
+}
+
+fn look_of(child: Child, e: usize) -> Look
+{
+    match child {
+        Child::Missing => Look::Missing(e),
+        Child::Found(p, l) => Look::Found(e, p, l),
+    }
+}
+
 pub fn look_up(
     d: &[u8],
     at: usize,
@@ -46,16 +93,32 @@ pub fn look_up(
     work: &[u8],
     q: usize,
     s: Front,
+    near: &mut Table,
+    far: &mut Table,
 ) -> Look
-    requires { ⌜ (at ≤ place) × (place ≤ length (now d)) × (length (now d) ≤ 16777216) × Fits (now b) s × (8192 ≤ length (now work)) × (q ≤ s .cursor .len) ⌝ }
-    ensures { λ r. ⌜ LookedUp (now (d .entry)) at k place left (nameAt v (now (b .entry)) (now (work .entry)) (s .cursor .start) (s .cursor .len)) (s .cursor .len) q r ⌝ }
 {
     let c = s.cursor;
+    let start = c.start;
     let len = c.len;
-    if v == 4 {
-        return look_in(d, at, k, place, left, &work[..len], q);
+    let name = name_of(b, v, work, start, len);
+    let e = find(name, q, 47);
+    if e == name.len() {
+        return Look::File;
     }
-    let a = c.start;
-    let e = a + len;
-    look_in(d, at, k, place, left, &b[a..e], q)
+    let soon = find_soon(d, at, k, &name[q..e], place, left, near, far);
+    match soon {
+        Answer::Known(child) => look_of(child, e + 1),
+        Answer::Unknown => {
+            if is_long(d, at, k, 524288) {
+                gather(b, v, work, q, s, 4096, far);
+                settle(d, at, k, far);
+                let child = find_late(d, at, k, &name[q..e], far);
+                return look_of(child, e + 1);
+            }
+            gather(b, v, work, q, s, 256, near);
+            settle(d, at, k, near);
+            let child = find_late(d, at, k, &name[q..e], near);
+            look_of(child, e + 1)
+        }
+    }
 }
