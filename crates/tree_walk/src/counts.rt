@@ -18,7 +18,16 @@ ghost use Rattle.entries_run.specs.Steps.{Room};
 ghost use Rattle.tree_walk.specs.Answers.{RootWalked, CountsTold};
 
 // What the walk over all entries tests of the root and of what is below it, where met nodes have a count of at least 1.
-fn walk_root(d: &[u8], root: Node, met: u32, b: &[u8], v: u32, count: u32, work: &mut [u8], seed: u64) -> bool
+fn walk_root(
+    d: &[u8],
+    root: Node,
+    met: u32,
+    b: &[u8],
+    v: u32,
+    count: u32,
+    work: &mut [u8],
+    seed: u64,
+) -> bool
     requires { ⌜ (root .next ≤ length (now d)) × (length (now d) ≤ 16777216) × Room (now b) (now work) ⌝ }
     ensures { λ r. ⌜ RootWalked (now (d .entry)) root met (now (b .entry)) v count (now (work .entry)) (now (work .exit)) r ⌝ }
 {
