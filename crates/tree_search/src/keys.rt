@@ -11,6 +11,9 @@ pub type Table = [u32; 2051];
 
 pub const SLOTS: usize = 1024;
 
+// Keys are below it.
+pub const PRIME: u64 = 4294967291;
+
 fn wide(x: u8) -> u64
     ensures { λ r. ⌜ (r ≡ x) × (r < 256) ⌝ }
 {
@@ -22,7 +25,7 @@ fn step_key(m: u32, h: u64, x: u64) -> u64
     requires { ⌜ (h < 4294967291) × (x < 256) ⌝ }
     ensures { λ r. ⌜ (r ≡ stepKey m h x) × (r < 4294967291) ⌝ }
 {
-    (h * m as u64 + x + 1) % 4294967291
+    (h * m as u64 + x + 1) % PRIME
 }
 
 // The key of a name.

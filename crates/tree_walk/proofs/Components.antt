@@ -16,9 +16,11 @@ use Rattle.tree_counts.specs.Judge.{child}
 use Rattle.cache_tree.proofs.Flat.{Reads}
 use Rattle.tree_search.specs.declared.child.Child.{Child}
 use Rattle.tree_search.specs.declared.child.Child.the-variants as C
+use Rattle.tree_walk.specs.declared.front.Front.{Front}
 use Rattle.tree_walk.specs.declared.look.Look.{Look}
 use Rattle.tree_walk.specs.declared.look.Look.the-variants as L
 use Rattle.tree_search.specs.Siblings.{Last, FoundAt, Sought, placeIn}
+use Rattle.tree_walk.specs.Ahead.{Fits}
 use Rattle.tree_walk.specs.Components.{component, Component, lookOf, LookedUp}
 
 pub take-length : (n : ℕ) (s : List ℕ) → n ≤ length s → length (take n s) ≡ n
@@ -34,7 +36,7 @@ module _ (v : ℕ) (b work : List ℕ) (start len : ℕ) where
   unfolding nameAt
   name-plain e n i = rw (ne-eqb v 4 e, i)
 
-  pub name-length : start + len ≤ length b → len ≤ length work → (x : List ℕ) → x ≡ nameAt v b work start len → length x ≡ len
+  name-length : start + len ≤ length b → len ≤ length work → (x : List ℕ) → x ≡ nameAt v b work start len → length x ≡ len
   unfolding nameAt
   name-length l k x e =
       by-test (eqb v 4)
@@ -45,6 +47,12 @@ module _ (v : ℕ) (b work : List ℕ) (start len : ℕ) where
   pub at-name : (d : List ℕ) (at k place left q : ℕ) (r : Look) (x : List ℕ) → x ≡ nameAt v b work start len → length x ≡ len
       → LookedUp d at k place left x (length x) q r → LookedUp d at k place left (nameAt v b work start len) len q r
   at-name d at k place left q r x e i h = rw (← e, ← i) h
+
+-- that of the first name ahead
+pub fits-length : (v : ℕ) (b work : List ℕ) (s : Front) → Fits b s → 8192 ≤ length work → (x : List ℕ) → x ≡ nameAt v b work (s .cursor .start) (s .cursor .len) → length x ≡ s .cursor .len
+fits-length v b work s fits room x e =
+    let i = fits .inside in
+    name-length v b work (s .cursor .start) (s .cursor .len) (omega (arith, i .behind, i .inside)) (omega (arith, i .short)) x e
 
 -- where the first "/" is
 lacks-all : (s : List ℕ) → before 47 s ≡ length s → lacks 47 s ≡ true

@@ -1,6 +1,6 @@
 -- The proof that `want_first` meets its contract.
 use native.Mathlib.Omega.{arith}
-use Rattle.tree_walk.proofs.Components.{name-length}
+use Rattle.tree_walk.proofs.Components.{fits-length}
 use borrow.Author.Needs.{needs}
 use Rattle.tree_walk.proofs.gather.want_first.Statement.{statement}
 use Rattle.tree_walk.proofs.gather.want_first.Tie as tie
@@ -11,9 +11,7 @@ name-of-requires c κs = search needs
 want-component-requires : tie.Need-want-component-requires
 want-component-requires c κs =
     let st = c .before .before .before .before .before in
-    let i = st .pre .0 .inside in
-    let a = st .args .s .cursor in
-    let n = name-length (st .args .v) (st .args .b .now) (st .args .work .now) (a .start) (a .len) (omega (arith, i .behind, i .inside)) (omega (arith, i .short, st .pre .1)) _ (c .before .name-of .ensures) in
+    let n = fits-length (st .args .v) (st .args .b .now) (st .args .work .now) (st .args .s) (st .pre .0) (st .pre .1) _ (c .before .name-of .ensures) in
     omega (arith, n, st .pre .2)
 
 returns : tie.Need-returns

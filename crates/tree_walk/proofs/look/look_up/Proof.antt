@@ -1,122 +1,114 @@
+-- The proof that `look_up` meets its contract.
+use Prim.Native.Nat.{_≤_, _<_}
+use native.Mathlib.Omega.{arith}
+use lib.ListN.{length}
+use Rattle.tree_walk.proofs.Components.{fits-length, at-name, look-file, look-child}
 use borrow.Author.Needs.{needs}
 use Rattle.tree_walk.proofs.look.look_up.Statement.{statement}
 use Rattle.tree_walk.proofs.look.look_up.Tie as tie
-use Rattle.tree_walk.proofs.look.look_up.Reads as reads
-use Rattle.tree_walk.proofs.look.look_up.Lts as lts
-use Rattle.fields.proofs.find.Reads as find-reads
-use Rattle.tree_search.proofs.child.is_long.Reads as is-long-reads
-use Rattle.tree_search.proofs.table.find_soon.Reads as find-soon-reads
-use Rattle.tree_walk.proofs.gather.name_of.Reads as name-of-reads
-use Rattle.tree_walk.proofs.look.find_by.Reads as find-by-reads
-use Rattle.tree_walk.proofs.look.look_of.Reads as look-of-reads
 
--- src/look.rt:88:9
 name-of-requires : tie.Need-name-of-requires
 name-of-requires c κs = search needs
 
--- src/look.rt:89:9
 find-requires : tie.Need-find-requires
-find-requires c κs = ?
+find-requires c κs =
+    let st = c .before .before .before .before .before in
+    let n = fits-length (st .args .v) (st .args .b .now) (st .args .work .now) (st .args .s) (st .pre .3) (st .pre .4) _ (c .name-of .ensures) in
+    omega (arith, n, st .pre .5)
 
--- src/look.rt:91:9
 returns : tie.Need-returns
-returns c = ?
+returns c =
+    let st = c .before .before .before .before .before .before .before in
+    let n = fits-length (st .args .v) (st .args .b .now) (st .args .work .now) (st .args .s) (st .pre .3) (st .pre .4) _ (c .before .before .name-of .ensures) in
+    (at-name _ _ _ _ _ _ _ _ _ _ _ _ _ (c .before .before .name-of .ensures) n (look-file _ _ _ (c .before .find .ensures .0) _ _ _ _ (st .pre .0) (st .pre .1) (omega (arith, n, st .pre .5)) _ (c .if1 .taken)), st .pre .6, st .pre .7)
 
--- src/look.rt:93:36
 sub-find-soon : tie.Need-sub-find-soon
 sub-find-soon c = search needs
 
--- src/look.rt:93:36
 part-find-soon-start : tie.Need-part-find-soon-start
 part-find-soon-start c = search needs
 
--- src/look.rt:93:36
 part-find-soon-end : tie.Need-part-find-soon-end
 part-find-soon-end c = search needs
 
--- src/look.rt:93:9
 find-soon-requires : tie.Need-find-soon-requires
 find-soon-requires c κs = search needs
 
--- src/look.rt:95:23
 enum-known-soon : tie.Need-enum-known-soon
 enum-known-soon c = search needs
 
--- src/look.rt:95:48
 add-look-of : tie.Need-add-look-of
 add-look-of c = search needs
 
--- src/look.rt:95:33
 look-of-requires : tie.Need-look-of-requires
 look-of-requires c κs = search needs
 
--- src/look.rt:97:16
 enum-told : tie.Need-enum-told
 enum-told c = search needs
 
--- src/look.rt:97:16
 is-long-requires : tie.Need-is-long-requires
 is-long-requires c κs = search needs
 
--- src/look.rt:98:47
 sub-find-by : tie.Need-sub-find-by
 sub-find-by c = search needs
 
--- src/look.rt:98:47
 part-find-by-start : tie.Need-part-find-by-start
 part-find-by-start c = search needs
 
--- src/look.rt:98:47
 part-find-by-end : tie.Need-part-find-by-end
 part-find-by-end c = search needs
 
--- src/look.rt:98:21
 find-by-requires : tie.Need-find-by-requires
-find-by-requires c κs = ?
+find-by-requires c κs =
+    let st = c .before .before .before .before .before .before .before .before .before .before .before .before .before .before .before .before .before in
+    (omega (arith, st .pre .0, st .pre .1), st .pre .2, st .pre .3, st .pre .4, st .pre .5, st .pre .7)
 
--- src/look.rt:99:39
 add-look-of-2 : tie.Need-add-look-of-2
 add-look-of-2 c = search needs
 
--- src/look.rt:99:17
 look-of-requires-2 : tie.Need-look-of-requires-2
 look-of-requires-2 c κs = search needs
 
--- src/look.rt:99:17
 returns-2 : tie.Need-returns-2
-returns-2 c = ?
+returns-2 c =
+    let st = c .before .before .before .before .before .before .before .before .before .before .before .before .before .before .before .before .before .before .before in
+    let n = fits-length (st .args .v) (st .args .b .now) (st .args .work .now) (st .args .s) (st .pre .3) (st .pre .4) _ (c .before .before .before .before .before .before .before .before .before .before .before .before .before .before .name-of .ensures) in
+    let t = c .before .find-by .ensures in
+    (rw (c .look-of2 .ensures) (at-name _ _ _ _ _ _ _ _ _ _ _ _ _ (c .before .before .before .before .before .before .before .before .before .before .before .before .before .before .name-of .ensures) n (look-child _ _ _ (c .before .before .before .before .before .before .before .before .before .before .before .before .before .find .ensures .0) _ _ _ _ (st .pre .0) (st .pre .1) (omega (arith, n, st .pre .5)) _ (omega (arith, c .before .before .before .before .before .before .before .before .before .before .before .before .if1 .left, c .before .before .before .before .before .before .before .before .before .before .before .before .before .find .ensures .1)) (c .before .find-by .result) (t .1) (t .2) (λ f m differ r last. t .3 f m differ r))), st .pre .6, t .0)
 
--- src/look.rt:101:43
 sub-find-by-2 : tie.Need-sub-find-by-2
 sub-find-by-2 c = search needs
 
--- src/look.rt:101:43
 part-find-by-start-2 : tie.Need-part-find-by-start-2
 part-find-by-start-2 c = search needs
 
--- src/look.rt:101:43
 part-find-by-end-2 : tie.Need-part-find-by-end-2
 part-find-by-end-2 c = search needs
 
--- src/look.rt:101:17
 find-by-requires-2 : tie.Need-find-by-requires-2
-find-by-requires-2 c κs = ?
+find-by-requires-2 c κs =
+    let st = c .before .before .before .before .before .before .before .before .before .before .before .before .before .before .before .before .before in
+    (omega (arith, st .pre .0, st .pre .1), st .pre .2, st .pre .3, st .pre .4, st .pre .5, st .pre .6)
 
--- src/look.rt:102:28
 add-look-of-3 : tie.Need-add-look-of-3
 add-look-of-3 c = search needs
 
--- src/look.rt:102:13
 look-of-requires-3 : tie.Need-look-of-requires-3
 look-of-requires-3 c κs = search needs
 
--- src/look.rt:68:1
 returns-3 : tie.Need-returns-3
-returns-3 c = ?
+returns-3 c =
+    let st = c .before .before .before .before .before .before .before .before .before .before .before .before .before .before .before in
+    let n = fits-length (st .args .v) (st .args .b .now) (st .args .work .now) (st .args .s) (st .pre .3) (st .pre .4) _ (c .before .before .before .before .before .before .before .before .before .before .name-of .ensures) in
+    let t = rw (c .before .before .soon .given .1) at (c .before .before .before .before .find-soon .ensures) in
+    (rw (c .look-of .ensures) (at-name _ _ _ _ _ _ _ _ _ _ _ _ _ (c .before .before .before .before .before .before .before .before .before .before .name-of .ensures) n (look-child _ _ _ (c .before .before .before .before .before .before .before .before .before .find .ensures .0) _ _ _ _ (st .pre .0) (st .pre .1) (omega (arith, n, st .pre .5)) _ (omega arith) (c .before .before .soon .given .0 .0) (t .0) (t .1) (t .2))), st .pre .6, st .pre .7)
 
--- src/look.rt:68:1
 returns-4 : tie.Need-returns-4
-returns-4 c = ?
+returns-4 c =
+    let st = c .before .before .before .before .before .before .before .before .before .before .before .before .before .before .before .before .before .before .before in
+    let n = fits-length (st .args .v) (st .args .b .now) (st .args .work .now) (st .args .s) (st .pre .3) (st .pre .4) _ (c .before .before .before .before .before .before .before .before .before .before .before .before .before .before .name-of .ensures) in
+    let t = c .before .find-by2 .ensures in
+    (rw (c .look-of3 .ensures) (at-name _ _ _ _ _ _ _ _ _ _ _ _ _ (c .before .before .before .before .before .before .before .before .before .before .before .before .before .before .name-of .ensures) n (look-child _ _ _ (c .before .before .before .before .before .before .before .before .before .before .before .before .before .find .ensures .0) _ _ _ _ (st .pre .0) (st .pre .1) (omega (arith, n, st .pre .5)) _ (omega (arith, c .before .before .before .before .before .before .before .before .before .before .before .before .if1 .left, c .before .before .before .before .before .before .before .before .before .before .before .before .before .find .ensures .1)) (c .before .find-by2 .result) (t .1) (t .2) (λ f m differ r last. t .3 f m differ r))), t .0, st .pre .7)
 
 pub look-up-spec : {M : Type 1} → statement M
 look-up-spec =
