@@ -64,15 +64,11 @@ pub fn is_long(d: &[u8], at: usize, k: u32, limit: usize) -> bool
             return true;
         }
         let read = read_node(d, place);
-        match read {
-            NodeRead::Bad => {
-                return true;
-            }
-            NodeRead::Good(node) => {
-                place = node.next;
-                pending = pending - 1 + node.subtrees as u64;
-            }
-        }
+        let NodeRead::Good(node) = read else {
+            return true;
+        };
+        place = node.next;
+        pending = pending - 1 + node.subtrees as u64;
     }
     false
 }
@@ -86,7 +82,7 @@ pub fn find_next(d: &[u8], name: &[u8], place: usize, left: u32) -> Answer
     if left < 2 {
         return Answer::Unknown;
     }
-    if is_long(d, place, 1, 65536) {
+    if is_long(d, place, 1, 16384) {
         return Answer::Unknown;
     }
     let next = after_tree(d, place);

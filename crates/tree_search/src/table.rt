@@ -161,7 +161,7 @@ pub fn find_soon(
     if let Answer::Known(_) = next {
         return next;
     }
-    if is_long(d, at, k, 2048) {
+    if is_long(d, at, k, 4096) {
         return Answer::Unknown;
     }
     let child = scan(d, at, k, name);

@@ -94,7 +94,7 @@ pub fn look_up<'a>(
     match soon {
         Answer::Known(child) => look_of(child, e + 1),
         Answer::Unknown => {
-            if is_long(d, at, k, 524288) {
+            if is_long(d, at, k, 131072) {
                 let child = find_by(d, at, k, &name[q..e], b, v, work, q, s, 4096, far);
                 return look_of(child, e + 1);
             }

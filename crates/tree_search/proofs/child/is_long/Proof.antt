@@ -26,14 +26,14 @@ returns c = search needs
 read-node-requires : tie.Need-read-node-requires Inv-loop μ-loop
 read-node-requires c κs = search needs
 
+enum-known-read : tie.Need-enum-known-read Inv-loop μ-loop
+enum-known-read c = search needs
+
 enum-told : tie.Need-enum-told Inv-loop μ-loop
 enum-told c = search needs
 
 returns-2 : tie.Need-returns-2 Inv-loop μ-loop
 returns-2 c = search needs
-
-enum-known-read : tie.Need-enum-known-read Inv-loop μ-loop
-enum-known-read c = search needs
 
 sub-pending : tie.Need-sub-pending Inv-loop μ-loop
 sub-pending c = search needs
@@ -77,9 +77,9 @@ is-long-spec =
     sub-if1
     returns
     read-node-requires
+    enum-known-read
     enum-told
     returns-2
-    enum-known-read
     sub-pending
     cast-pending
     add-pending
