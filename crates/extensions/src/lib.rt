@@ -168,7 +168,7 @@ fn add_tree(
             place,
             level,
         } => {
-            if counts_ok(&b[from..end], b, v, count, work) {
+            if counts_ok(&b[from..end], b, v, count, work, seed) {
                 return One::Good(
                     end,
                     Found {

@@ -6,7 +6,7 @@ use Prim.Native.Nat.{ℕ, _+_, _-_, _≤_, _<_}
 use native.Mathlib.Omega.{arith}
 use lib.ListN.{length, length-take}
 use lib.Dec.{eqb, leb, ltb}
-use borrow.Author.Tests.{lt-ltb, ltb-true}
+use borrow.Author.Tests.{lt-ltb, ltb-true, leb-true}
 use Rattle.format.specs.Names.{common, compare}
 use Rattle.format.specs.Layout.{names}
 use Rattle.format.specs.Reader.{entryOf}
@@ -92,6 +92,9 @@ stays-is v b work s last q _ (after-some {x} {xs} h e) i = rw (lt-ltb 0 (s .ahea
 
 pub stays-some : (s : Front) (k : ℕ) → (ltb 0 (s .ahead) && leb k (s .common)) ≡ true → 1 ≤ s .ahead
 stays-some s k e = ltb-true 0 (s .ahead) (and-inv (ltb 0 (s .ahead)) (leb k (s .common)) e .0)
+
+pub stays-long : (b : List ℕ) (s : Front) (k : ℕ) → Fits b s → (ltb 0 (s .ahead) && leb k (s .common)) ≡ true → k ≤ s .cursor .len
+stays-long b s k fits e = omega (arith, fits .short, leb-true k (s .common) (and-inv (ltb 0 (s .ahead)) (leb k (s .common)) e .1))
 
 -- it is there, and in the directory
 pub stays-in {ℓ} : {X : Type ℓ} (v : ℕ) (b work : List ℕ) (s : Front) (last q : List ℕ) (xs : List (List ℕ)) → After v b work s last xs → begins q last ≡ true

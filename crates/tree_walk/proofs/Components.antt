@@ -8,34 +8,51 @@ use lib.ListN.{length, take, drop, length-take, length-drop}
 use lib.Dec.{eqb}
 use borrow.Author.Tests.{eq-eqb, ne-eqb}
 use Rattle.format.specs.Bytes.{before, lacks}
+use Rattle.format_laws.proofs.Tests.{by-test}
 use Rattle.entries_run.specs.Steps.{nameAt}
 use Rattle.format.specs.Records.{Forest}
 use Rattle.format.specs.Layout.{distinct}
-use Rattle.format_laws.proofs.Tests.{by-test}
 use Rattle.tree_counts.specs.Judge.{child}
 use Rattle.cache_tree.specs.Flat.{Reads}
-use Rattle.tree_walk.specs.declared.child.Child.{Child}
-use Rattle.tree_walk.specs.declared.child.Child.the-variants as C
+use Rattle.tree_search.specs.declared.child.Child.{Child}
+use Rattle.tree_search.specs.declared.child.Child.the-variants as C
+use Rattle.tree_walk.specs.declared.front.Front.{Front}
 use Rattle.tree_walk.specs.declared.look.Look.{Look}
 use Rattle.tree_walk.specs.declared.look.Look.the-variants as L
-use Rattle.tree_walk.specs.Siblings.{Last, FoundAt, Sought}
-use Rattle.tree_walk.specs.Components.{component, Component, LookedUp}
+use Rattle.tree_search.specs.Siblings.{Last, FoundAt, Sought, placeIn}
+use Rattle.tree_walk.specs.Ahead.{Fits}
+use Rattle.tree_walk.specs.Components.{component, Component, lookOf, LookedUp}
 
 pub take-length : (n : ℕ) (s : List ℕ) → n ≤ length s → length (take n s) ≡ n
 take-length n s h = simp length-take (omega arith)
 
--- a look at a name that stands in the workspace, or in the body
-module _ (d : List ℕ) (at k place left v : ℕ) (b work : List ℕ) (start len q : ℕ) (r : Look) where
-  at-name : (y : List ℕ) (n : ℕ) → y ≡ nameAt v b work start len → n ≡ len → LookedUp d at k place left y n q r → LookedUp d at k place left (nameAt v b work start len) len q r
-  at-name y n e i h = rw (← e, ← i) h
-
-  pub look-packed : v ≡ 4 → len ≤ length work → LookedUp d at k place left (take len work) (length (take len work)) q r → LookedUp d at k place left (nameAt v b work start len) len q r
+-- a name that stands in the workspace, or in the body
+module _ (v : ℕ) (b work : List ℕ) (start len : ℕ) where
+  pub name-packed : v ≡ 4 → take len work ≡ nameAt v b work start len
   unfolding nameAt
-  look-packed e l h = at-name (take len work) _ (rw (eq-eqb v 4 e)) (simp length-take (omega arith)) h
+  name-packed e = rw (eq-eqb v 4 e)
 
-  pub look-plain : (v ≡ 4 → ⊥) → start + len ≤ length b → (n : ℕ) → n ≡ len → LookedUp d at k place left (take n (drop start b)) (length (take n (drop start b))) q r → LookedUp d at k place left (nameAt v b work start len) len q r
+  pub name-plain : (v ≡ 4 → ⊥) → (n : ℕ) → n ≡ len → take n (drop start b) ≡ nameAt v b work start len
   unfolding nameAt
-  look-plain e l n i h = at-name (take n (drop start b)) _ (rw (ne-eqb v 4 e, i)) (simp (length-take, length-drop) (omega arith)) h
+  name-plain e n i = rw (ne-eqb v 4 e, i)
+
+  name-length : start + len ≤ length b → len ≤ length work → (x : List ℕ) → x ≡ nameAt v b work start len → length x ≡ len
+  unfolding nameAt
+  name-length l k x e =
+      by-test (eqb v 4)
+      (λ q. ap length (rw q at e) ∙ simp length-take (omega arith))
+      (λ q. ap length (rw q at e) ∙ simp (length-take, length-drop) (omega arith))
+
+  -- what was looked up of it
+  pub at-name : (d : List ℕ) (at k place left q : ℕ) (r : Look) (x : List ℕ) → x ≡ nameAt v b work start len → length x ≡ len
+      → LookedUp d at k place left x (length x) q r → LookedUp d at k place left (nameAt v b work start len) len q r
+  at-name d at k place left q r x e i h = rw (← e, ← i) h
+
+-- that of the first name ahead
+pub fits-length : (v : ℕ) (b work : List ℕ) (s : Front) → Fits b s → 8192 ≤ length work → (x : List ℕ) → x ≡ nameAt v b work (s .cursor .start) (s .cursor .len) → length x ≡ s .cursor .len
+fits-length v b work s fits room x e =
+    let i = fits .inside in
+    name-length v b work (s .cursor .start) (s .cursor .len) (omega (arith, i .behind, i .inside)) (omega (arith, i .short)) x e
 
 -- where the first "/" is
 lacks-all : (s : List ℕ) → before 47 s ≡ length s → lacks 47 s ≡ true
@@ -75,7 +92,7 @@ module _ (x : List ℕ) (k e : ℕ) (is : e ≡ k + before 47 (drop k x)) where
       abbrev Told : Child → Type 0
       Told r = (f : Forest) (m : ℕ) → distinct f ≡ true → Reads (drop at d) f siblings m → Last d f place left → Sought d f (take (e - k) (drop k x)) r
 
-      pub look-missing : Told C.Missing → LookedUp d at siblings place left x (length x) k (L.Missing (e + 1))
+      look-missing : Told C.Missing → LookedUp d at siblings place left x (length x) k (L.Missing (e + 1))
       look-missing t = record {
         least = omega arith;
         most = omega arith;
@@ -83,10 +100,14 @@ module _ (x : List ℕ) (k e : ℕ) (is : e ≡ k + before 47 (drop k x)) where
         is = λ f m differ r last. (name-component l more, ap (λ (c : List ℕ). child c f) (sym component-is) ∙ t f m differ r last);
       }
 
-      pub look-found : (p n : ℕ) → at ≤ p → p ≤ length d → Told (C.Found p n) → LookedUp d at siblings place left x (length x) k (L.Found (e + 1) p n)
+      look-found : (p n : ℕ) → at ≤ p → p ≤ length d → Told (C.Found p n) → LookedUp d at siblings place left x (length x) k (L.Found (e + 1) p n)
       look-found p n least most t = record {
         least = least;
         most = most;
         within = omega arith;
         is = λ f m differ r last. (name-component l more, subst (λ (c : List ℕ). FoundAt d f c p n) component-is (t f m differ r last));
       }
+
+      pub look-child : (r : Child) → at ≤ placeIn (length d) r → placeIn (length d) r ≤ length d → Told r → LookedUp d at siblings place left x (length x) k (lookOf (e + 1) r)
+      look-child C.Missing least most t = look-missing t
+      look-child (C.Found p n) least most t = look-found p n least most t

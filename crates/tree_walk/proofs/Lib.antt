@@ -1,5 +1,4 @@
 -- Laws that the functions' proofs cite.
-pub mod Siblings
 pub mod Trees
 pub mod Ahead
 pub mod Components

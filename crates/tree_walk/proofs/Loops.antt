@@ -7,10 +7,8 @@ use Prim.Native.Nat.{ℕ, _+_, _-_, _*_, _≤_, _<_}
 use native.Mathlib.Omega.{arith}
 use lib.ListN.{length, drop, length-drop}
 use lib.Dec.{leb, ltb}
-use borrow.Author.Tests.{leb-true}
 use Rattle.format.specs.Records.{Forest, nil}
 use Rattle.format.specs.Layout.{distinct}
-use Rattle.format_laws.proofs.Tests.{and-inv}
 use Rattle.tree_nodes.proofs.Nodes.{node-is}
 use Rattle.cache_tree.specs.Flat.{Reads, reads-none}
 use Rattle.tree_counts.specs.Judge.{child, Sound}
@@ -20,10 +18,10 @@ use Rattle.tree_walk.specs.declared.front.Front.{Front}
 use Rattle.tree_walk.specs.declared.walk.Tally.{Tally}
 use Rattle.tree_walk.specs.declared.walk.Part.{Part}
 use Rattle.tree_walk.specs.declared.walk.Part.the-variants as P
-use Rattle.tree_walk.specs.Siblings.{Last}
+use Rattle.tree_search.specs.Siblings.{Last}
 use Rattle.tree_walk.specs.Ahead.{Ahead}
 use Rattle.tree_walk.specs.Steps.{Ready, PartWalked, DirectoryWalked, Taken, BelowReady, Finished, roomBelow}
-use Rattle.tree_walk.proofs.Ahead.{stays-some}
+use Rattle.tree_walk.proofs.Ahead.{stays-some, stays-long}
 use Rattle.tree_walk.proofs.Steps.{reads-most, Joined, Walking, Standing, walk-start, walk-join, walk-on, walk-end}
 use Rattle.tree_walk.proofs.Parts.{part-found}
 
@@ -121,7 +119,7 @@ module _ (d : List ℕ) (at k : ℕ) (valid : Bool) (b : List ℕ) (v : ℕ) (wo
             fits = fits;
             room = omega (arith, kept .long, h .ready .room);
             some = stays-some (r′ .front) q on;
-            long = omega (arith, fits .short, leb-true q (r′ .front .common) (and-inv (ltb 0 (r′ .front .ahead)) (leb q (r′ .front .common)) on .1));
+            long = stays-long b (r′ .front) q fits on;
           };
           fewer = rw (j .front, j .count) (omega (arith, kept .fewer, h .fewer));
           least = rw (j .place) (kept .least);

@@ -26,7 +26,7 @@ use Rattle.tree_walk.specs.declared.look.Look.{Look}
 use Rattle.tree_walk.specs.declared.look.Look.the-variants as L
 use Rattle.tree_walk.specs.declared.walk.Tally.{Tally}
 use Rattle.tree_walk.specs.declared.walk.Part.{Part}
-use Rattle.tree_walk.specs.Siblings.{Last, FoundAt}
+use Rattle.tree_search.specs.Siblings.{Last, FoundAt}
 use Rattle.tree_walk.specs.Ahead.{Ahead, Advanced, Went}
 use Rattle.tree_walk.specs.Components.{component, Component, Looked, LookedUp}
 use Rattle.tree_walk.specs.Steps.{NodeAdded, Moved, Tallied, Ready, PartWalked, DirectoryWalked}

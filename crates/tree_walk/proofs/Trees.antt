@@ -26,7 +26,7 @@ use Rattle.cache_tree.proofs.Flat.{reads-width}
 use Rattle.tree_walk.specs.declared.survey.Survey.{Survey}
 use Rattle.tree_walk.specs.declared.survey.Survey.the-variants as S
 use Rattle.tree_walk.specs.Trees.{surveyOf}
-use Rattle.tree_walk.proofs.Siblings.{First, reads-first, reads-empty}
+use Rattle.tree_search.proofs.Siblings.{First, reads-first, reads-empty}
 
 -- ---- two lists of siblings
 

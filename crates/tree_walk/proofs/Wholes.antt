@@ -34,7 +34,7 @@ use Rattle.tree_walk.specs.declared.front.Front.{Front}
 use Rattle.tree_walk.specs.declared.survey.Survey.{Survey}
 use Rattle.tree_walk.specs.declared.survey.Survey.the-variants as S
 use Rattle.tree_walk.specs.declared.walk.Tally.{Tally}
-use Rattle.tree_walk.specs.Siblings.{TreeAt}
+use Rattle.tree_search.specs.Siblings.{TreeAt}
 use Rattle.tree_walk.specs.Trees.{surveyOf}
 use Rattle.tree_walk.specs.Ahead.{Fits, Ahead, After, after-none, after-some}
 use Rattle.tree_walk.specs.Steps.{DirectoryWalked}

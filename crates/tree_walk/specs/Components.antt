@@ -12,7 +12,9 @@ use Rattle.tree_counts.specs.Judge.{child}
 use Rattle.cache_tree.specs.Flat.{Reads}
 use Rattle.tree_walk.specs.declared.look.Look.{Look}
 use Rattle.tree_walk.specs.declared.look.Look.the-variants as L
-use Rattle.tree_walk.specs.Siblings.{Last, FoundAt}
+use Rattle.tree_search.specs.declared.child.Child.{Child}
+use Rattle.tree_search.specs.declared.child.Child.the-variants as C
+use Rattle.tree_search.specs.Siblings.{Last, FoundAt}
 
 -- the bytes before the first "/"
 unfoldable pub component : List ℕ → List ℕ
@@ -38,6 +40,11 @@ abbrev pub endOfLook : Look → ℕ
 endOfLook L.File = 0
 endOfLook (L.Missing e) = e
 endOfLook (L.Found e place left) = e
+
+-- what was found of a component that ends before the place e
+abbrev pub lookOf : ℕ → Child → Look
+lookOf e C.Missing = L.Missing e
+lookOf e (C.Found place left) = L.Found e place left
 
 -- what a look at the name x of n bytes answers, where k siblings stand at a place and the last so many of them at another
 pub record LookedUp (d : List ℕ) (at k place left : ℕ) (x : List ℕ) (n q : ℕ) (r : Look) : Type 0 where

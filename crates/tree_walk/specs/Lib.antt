@@ -1,5 +1,4 @@
 -- What the crate's contracts cite.
-pub mod Siblings
 pub mod Trees
 pub mod Ahead
 pub mod Components

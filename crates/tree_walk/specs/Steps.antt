@@ -21,7 +21,7 @@ use Rattle.tree_walk.specs.declared.look.Look.the-variants as L
 use Rattle.tree_walk.specs.declared.walk.Tally.{Tally}
 use Rattle.tree_walk.specs.declared.walk.Part.{Part}
 use Rattle.tree_walk.specs.declared.walk.Part.the-variants as P
-use Rattle.tree_walk.specs.Siblings.{Last}
+use Rattle.tree_search.specs.Siblings.{Last}
 use Rattle.tree_walk.specs.Ahead.{Fits, Ahead, After, Left}
 use Rattle.tree_walk.specs.Components.{LookedUp}
 

@@ -65,20 +65,16 @@ pub fn survey_trees(d: &[u8], at: usize, k: u32, valid: bool) -> Survey
     let mut met: u32 = 0;
     while 0 < pending {
         let read = read_node(d, place);
-        match read {
-            NodeRead::Bad => {
-                return Survey::Untidy;
-            }
-            NodeRead::Good(node) => {
-                if is_wrong(strict, node.valid) {
-                    return Survey::Untidy;
-                }
-                strict = demand(strict, node.valid, node.subtrees);
-                met += weight(node.valid, node.count);
-                pending = pending - 1 + node.subtrees as u64;
-                place = node.next;
-            }
+        let NodeRead::Good(node) = read else {
+            return Survey::Untidy;
+        };
+        if is_wrong(strict, node.valid) {
+            return Survey::Untidy;
         }
+        strict = demand(strict, node.valid, node.subtrees);
+        met += weight(node.valid, node.count);
+        pending = pending - 1 + node.subtrees as u64;
+        place = node.next;
     }
     Survey::Tidy(met)
 }

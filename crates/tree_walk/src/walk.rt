@@ -9,11 +9,13 @@ use crate::survey::weight;
 use tree_nodes::node::Node;
 use tree_nodes::node::NodeRead;
 use tree_nodes::node::read_node;
+use tree_search::keys::Table;
 ghost use mathlib.Core.Path.{_≡_};
 ghost use mathlib.Core.Bool.{true, cond, _&&_};
 ghost use Prim.Native.Nat.{ℕ, _+_, _≤_, _<_};
 ghost use lib.ListN.{length};
 ghost use lib.Dec.{eqb};
+ghost use Rattle.tree_search.specs.Table.{Known};
 ghost use Rattle.tree_walk.specs.Steps.{NodeAdded, Ready, Taken, BelowReady, Finished, DirectoryWalked};
 
 // Whether the tests pass, how many nodes with a count of at least 1 were met, a hint to find_child, how many entries were passed, and what is
@@ -119,11 +121,26 @@ fn take_part(
     work: &mut [u8],
     q: usize,
     s: Front,
+    near: &mut Table,
+    far: &mut Table,
 ) -> Part
-    requires { ⌜ Ready (now d) at (now b) (now work) q s × (at ≤ place) × (place ≤ length (now d)) ⌝ }
-    ensures { λ r. ⌜ Taken (now (d .entry)) at k valid place left (now (b .entry)) v (now (work .entry)) q s (now (work .exit)) r ⌝ }
+    requires { ⌜ Ready (now d) at (now b) (now work) q s × (at ≤ place) × (place ≤ length (now d)) × Known (now d) (now near) × Known (now d) (now far) ⌝ }
+    ensures { λ r. ⌜ Taken (now (d .entry)) at k valid place left (now (b .entry)) v (now (work .entry)) q s (now (work .exit)) r × Known (now (d .entry)) (now (near .exit)) × Known (now (d .entry)) (now (far .exit)) ⌝ }
 {
-    let look = look_up(d, at, k, place as usize, left, b, v, &work[..], q, s);
+    let look = look_up(
+        d,
+        at,
+        k,
+        place as usize,
+        left,
+        b,
+        v,
+        &work[..],
+        q,
+        s,
+        near,
+        far,
+    );
     match look {
         Look::File => {
             let next = advance(b, v, work, s);
@@ -145,14 +162,35 @@ fn take_part(
 }
 
 // The tally of a part, by the walk over the directory of its node where it has one.
-fn finish_part(d: &[u8], b: &[u8], v: u32, work: &mut [u8], part: Part, s: Front) -> Tally
-    requires { ⌜ BelowReady (now d) (now b) (now work) part s ⌝ }
-    ensures { λ r. ⌜ Finished (now (d .entry)) (now (b .entry)) v (now (work .entry)) part s (now (work .exit)) r ⌝ }
+fn finish_part(
+    d: &[u8],
+    b: &[u8],
+    v: u32,
+    work: &mut [u8],
+    part: Part,
+    s: Front,
+    near: &mut Table,
+    far: &mut Table,
+) -> Tally
+    requires { ⌜ BelowReady (now d) (now b) (now work) part s × Known (now d) (now near) × Known (now d) (now far) ⌝ }
+    ensures { λ r. ⌜ Finished (now (d .entry)) (now (b .entry)) v (now (work .entry)) part s (now (work .exit)) r × Known (now (d .entry)) (now (near .exit)) × Known (now (d .entry)) (now (far .exit)) ⌝ }
 {
     match part {
         Part::Flat(n) => n,
         Part::Below(e, p, l, node) => {
-            let t = walk_directory(d, node.next, node.subtrees, node.valid, b, v, work, e, s);
+            let t = walk_directory(
+                d,
+                node.next,
+                node.subtrees,
+                node.valid,
+                b,
+                v,
+                work,
+                e,
+                s,
+                near,
+                far,
+            );
             add_node(node, t, p, l)
         }
     }
@@ -170,9 +208,11 @@ pub(crate) fn walk_directory(
     work: &mut [u8],
     q: usize,
     s: Front,
+    near: &mut Table,
+    far: &mut Table,
 ) -> Tally
-    requires { ⌜ Ready (now d) at (now b) (now work) q s ⌝ }
-    ensures { λ r. ⌜ DirectoryWalked (now (d .entry)) at k valid (now (b .entry)) v (now (work .entry)) q s (now (work .exit)) r ⌝ }
+    requires { ⌜ Ready (now d) at (now b) (now work) q s × Known (now d) (now near) × Known (now d) (now far) ⌝ }
+    ensures { λ r. ⌜ DirectoryWalked (now (d .entry)) at k valid (now (b .entry)) v (now (work .entry)) q s (now (work .exit)) r × Known (now (d .entry)) (now (near .exit)) × Known (now (d .entry)) (now (far .exit)) ⌝ }
 {
     let mut ok = true;
     let mut met: u32 = 0;
@@ -180,9 +220,23 @@ pub(crate) fn walk_directory(
     let mut place = at as u32;
     let mut left: u32 = 0;
     let mut front = s;
-    let mut part = take_part(d, at, k, valid, place, left, b, v, &mut *work, q, front);
+    let mut part = take_part(
+        d,
+        at,
+        k,
+        valid,
+        place,
+        left,
+        b,
+        v,
+        &mut *work,
+        q,
+        front,
+        &mut *near,
+        &mut *far,
+    );
     loop {
-        let n = finish_part(d, b, v, &mut *work, part, front);
+        let n = finish_part(d, b, v, &mut *work, part, front, &mut *near, &mut *far);
         ok = both(ok, n.ok);
         met = plus(met, n.met);
         count += n.count;
@@ -190,7 +244,21 @@ pub(crate) fn walk_directory(
         left = n.left;
         front = n.front;
         if stays(front, q) {
-            part = take_part(d, at, k, valid, place, left, b, v, &mut *work, q, front);
+            part = take_part(
+                d,
+                at,
+                k,
+                valid,
+                place,
+                left,
+                b,
+                v,
+                &mut *work,
+                q,
+                front,
+                &mut *near,
+                &mut *far,
+            );
         } else {
             return Tally {
                 ok: ok,

@@ -18,7 +18,7 @@ use Rattle.tree_nodes.specs.Answers.{nodeAt}
 use Rattle.format_laws.proofs.Lists.{drop-to}
 use Rattle.cache_tree.specs.Flat.{reads-none, reads-more}
 use Rattle.cache_tree.proofs.Flat.{reads-width}
-use Rattle.tree_walk.specs.Siblings.{TreeAt}
+use Rattle.tree_search.specs.Siblings.{TreeAt}
 use Rattle.tree_walk.proofs.Trees.{reads-at, NodeAt, node-at, no-bad}
 use Rattle.tree_walk.proofs.Wholes.{tree-at}
 use Rattle.output.specs.Output.{Wrote}

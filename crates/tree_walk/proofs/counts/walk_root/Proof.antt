@@ -12,8 +12,8 @@ use Rattle.tree_walk.proofs.counts.walk_root.Reads as reads
 first-requires : tie.Need-first-requires
 first-requires c κs = search needs
 
-add-t14 : tie.Need-add-t14
-add-t14 c = search needs
+add-t15 : tie.Need-add-t15
+add-t15 c = search needs
 
 advance-requires : tie.Need-advance-requires
 advance-requires c κs =
@@ -43,8 +43,8 @@ returns c =
           root-none (x .d .now) (x .root) (x .met) _ _ _ f _ _ _ _ (step .after [] _ h) (c .before .before .if1 .taken) (c .before .agrees .ensures) (c .both .ensures);
     }
 
-walk-directory-requires : tie.Need-walk-directory-requires
-walk-directory-requires c κs = search needs
+walk-all-requires : tie.Need-walk-all-requires
+walk-all-requires c κs = search needs
 
 both-requires-2 : tie.Need-both-requires-2
 both-requires-2 c κs = search needs
@@ -64,7 +64,7 @@ returns-2 c =
     let a = w .before .before .before .before .before .before in
     let x = a .before .before .before .before .before .before .args in
     let step = rw (a .before .before .first .ensures) at (a .advance .ensures) in
-    let walked = w .walk-directory .ensures in
+    let walked = w .walk-all .ensures in
     record {
       long = walked .kept .long ∙ step .long;
       past = walked .kept .past ∙ step .past;
@@ -79,13 +79,13 @@ walk-root-spec =
     tie.close
     (tie.spec
     first-requires
-    add-t14
+    add-t15
     advance-requires
     agrees-requires
     both-requires
     same-length
     returns
-    walk-directory-requires
+    walk-all-requires
     both-requires-2
     agrees-requires-2
     both-requires-3

@@ -1,67 +1,143 @@
 -- The proof that `look_up` meets its contract.
-use mathlib.Core.Path.{sym}
-use Prim.Native.Nat.{_+_, _-_, _≤_}
+use Prim.Native.Nat.{_≤_, _<_}
 use native.Mathlib.Omega.{arith}
 use lib.ListN.{length}
-use Rattle.tree_walk.proofs.Components.{take-length, look-packed, look-plain}
+use Rattle.tree_walk.proofs.Components.{fits-length, at-name, look-file, look-child}
 use borrow.Author.Needs.{needs}
 use Rattle.tree_walk.proofs.look.look_up.Statement.{statement}
 use Rattle.tree_walk.proofs.look.look_up.Tie as tie
 
-slice-aggregate-look-in : tie.Need-slice-aggregate-look-in
-slice-aggregate-look-in c =
-    let st = c .before .before .before .before .before .before in
-    let i = st .pre .3 .inside in
-    let l : st .args .s .cursor .len ≤ length (st .args .work .now) = omega (arith, i .short, st .pre .4) in
-    let n = take-length (st .args .s .cursor .len) (st .args .work .now) l in
-    sym n
+name-of-requires : tie.Need-name-of-requires
+name-of-requires c κs = search needs
 
-look-in-requires : tie.Need-look-in-requires
-look-in-requires c κs =
-    let st = c .before .before .before .before .before .before in
-    let i = st .pre .3 .inside in
-    let l : st .args .s .cursor .len ≤ length (st .args .work .now) = omega (arith, i .short, st .pre .4) in
-    let n = take-length (st .args .s .cursor .len) (st .args .work .now) l in
-    (st .pre .0, st .pre .1, st .pre .2, omega (arith, n, st .pre .5))
+find-requires : tie.Need-find-requires
+find-requires c κs =
+    let st = c .before .before .before .before .before in
+    let n = fits-length (st .args .v) (st .args .b .now) (st .args .work .now) (st .args .s) (st .pre .3) (st .pre .4) _ (c .name-of .ensures) in
+    omega (arith, n, st .pre .5)
 
 returns : tie.Need-returns
 returns c =
     let st = c .before .before .before .before .before .before .before in
-    let i = st .pre .3 .inside in
-    look-packed _ _ _ _ _ _ _ _ _ _ _ _ (c .before .before .if1 .taken) (omega (arith, i .short, st .pre .4)) (c .look-in .ensures)
+    let n = fits-length (st .args .v) (st .args .b .now) (st .args .work .now) (st .args .s) (st .pre .3) (st .pre .4) _ (c .before .before .name-of .ensures) in
+    (at-name _ _ _ _ _ _ _ _ _ _ _ _ _ (c .before .before .name-of .ensures) n (look-file _ _ _ (c .before .find .ensures .0) _ _ _ _ (st .pre .0) (st .pre .1) (omega (arith, n, st .pre .5)) _ (c .if1 .taken)), st .pre .6, st .pre .7)
 
-add-e : tie.Need-add-e
-add-e c = search needs
+sub-find-soon : tie.Need-sub-find-soon
+sub-find-soon c = search needs
 
-sub-look-in : tie.Need-sub-look-in
-sub-look-in c = search needs
+part-find-soon-start : tie.Need-part-find-soon-start
+part-find-soon-start c = search needs
 
-part-look-in-start : tie.Need-part-look-in-start
-part-look-in-start c = search needs
+part-find-soon-end : tie.Need-part-find-soon-end
+part-find-soon-end c = search needs
 
-part-look-in-end : tie.Need-part-look-in-end
-part-look-in-end c = search needs
+find-soon-requires : tie.Need-find-soon-requires
+find-soon-requires c κs = search needs
 
-look-in-requires-2 : tie.Need-look-in-requires-2
-look-in-requires-2 c κs = search needs
+enum-known-soon : tie.Need-enum-known-soon
+enum-known-soon c = search needs
+
+add-look-of : tie.Need-add-look-of
+add-look-of c = search needs
+
+look-of-requires : tie.Need-look-of-requires
+look-of-requires c κs = search needs
+
+enum-told : tie.Need-enum-told
+enum-told c = search needs
+
+is-long-requires : tie.Need-is-long-requires
+is-long-requires c κs = search needs
+
+sub-find-by : tie.Need-sub-find-by
+sub-find-by c = search needs
+
+part-find-by-start : tie.Need-part-find-by-start
+part-find-by-start c = search needs
+
+part-find-by-end : tie.Need-part-find-by-end
+part-find-by-end c = search needs
+
+find-by-requires : tie.Need-find-by-requires
+find-by-requires c κs =
+    let st = c .before .before .before .before .before .before .before .before .before .before .before .before .before .before .before .before .before in
+    (omega (arith, st .pre .0, st .pre .1), st .pre .2, st .pre .3, st .pre .4, st .pre .5, st .pre .7)
+
+add-look-of-2 : tie.Need-add-look-of-2
+add-look-of-2 c = search needs
+
+look-of-requires-2 : tie.Need-look-of-requires-2
+look-of-requires-2 c κs = search needs
 
 returns-2 : tie.Need-returns-2
 returns-2 c =
-    let st = c .before .before .before .before .before .before .before in
-    let i = st .pre .3 .inside in
-    let a = st .args .s .cursor in
-    look-plain _ _ _ _ _ _ _ _ _ _ _ _ (c .before .before .if1 .left) (omega (arith, i .behind, i .inside)) (a .start + a .len - a .start) (omega arith) (c .look-in2 .ensures)
+    let st = c .before .before .before .before .before .before .before .before .before .before .before .before .before .before .before .before .before .before .before in
+    let n = fits-length (st .args .v) (st .args .b .now) (st .args .work .now) (st .args .s) (st .pre .3) (st .pre .4) _ (c .before .before .before .before .before .before .before .before .before .before .before .before .before .before .name-of .ensures) in
+    let t = c .before .find-by .ensures in
+    (rw (c .look-of2 .ensures) (at-name _ _ _ _ _ _ _ _ _ _ _ _ _ (c .before .before .before .before .before .before .before .before .before .before .before .before .before .before .name-of .ensures) n (look-child _ _ _ (c .before .before .before .before .before .before .before .before .before .before .before .before .before .find .ensures .0) _ _ _ _ (st .pre .0) (st .pre .1) (omega (arith, n, st .pre .5)) _ (omega (arith, c .before .before .before .before .before .before .before .before .before .before .before .before .if1 .left, c .before .before .before .before .before .before .before .before .before .before .before .before .before .find .ensures .1)) (c .before .find-by .result) (t .1) (t .2) (λ f m differ r last. t .3 f m differ r))), st .pre .6, t .0)
+
+sub-find-by-2 : tie.Need-sub-find-by-2
+sub-find-by-2 c = search needs
+
+part-find-by-start-2 : tie.Need-part-find-by-start-2
+part-find-by-start-2 c = search needs
+
+part-find-by-end-2 : tie.Need-part-find-by-end-2
+part-find-by-end-2 c = search needs
+
+find-by-requires-2 : tie.Need-find-by-requires-2
+find-by-requires-2 c κs =
+    let st = c .before .before .before .before .before .before .before .before .before .before .before .before .before .before .before .before .before in
+    (omega (arith, st .pre .0, st .pre .1), st .pre .2, st .pre .3, st .pre .4, st .pre .5, st .pre .6)
+
+add-look-of-3 : tie.Need-add-look-of-3
+add-look-of-3 c = search needs
+
+look-of-requires-3 : tie.Need-look-of-requires-3
+look-of-requires-3 c κs = search needs
+
+returns-3 : tie.Need-returns-3
+returns-3 c =
+    let st = c .before .before .before .before .before .before .before .before .before .before .before .before .before .before .before in
+    let n = fits-length (st .args .v) (st .args .b .now) (st .args .work .now) (st .args .s) (st .pre .3) (st .pre .4) _ (c .before .before .before .before .before .before .before .before .before .before .name-of .ensures) in
+    let t = rw (c .before .before .soon .given .1) at (c .before .before .before .before .find-soon .ensures) in
+    (rw (c .look-of .ensures) (at-name _ _ _ _ _ _ _ _ _ _ _ _ _ (c .before .before .before .before .before .before .before .before .before .before .name-of .ensures) n (look-child _ _ _ (c .before .before .before .before .before .before .before .before .before .find .ensures .0) _ _ _ _ (st .pre .0) (st .pre .1) (omega (arith, n, st .pre .5)) _ (omega arith) (c .before .before .soon .given .0 .0) (t .0) (t .1) (t .2))), st .pre .6, st .pre .7)
+
+returns-4 : tie.Need-returns-4
+returns-4 c =
+    let st = c .before .before .before .before .before .before .before .before .before .before .before .before .before .before .before .before .before .before .before in
+    let n = fits-length (st .args .v) (st .args .b .now) (st .args .work .now) (st .args .s) (st .pre .3) (st .pre .4) _ (c .before .before .before .before .before .before .before .before .before .before .before .before .before .before .name-of .ensures) in
+    let t = c .before .find-by2 .ensures in
+    (rw (c .look-of3 .ensures) (at-name _ _ _ _ _ _ _ _ _ _ _ _ _ (c .before .before .before .before .before .before .before .before .before .before .before .before .before .before .name-of .ensures) n (look-child _ _ _ (c .before .before .before .before .before .before .before .before .before .before .before .before .before .find .ensures .0) _ _ _ _ (st .pre .0) (st .pre .1) (omega (arith, n, st .pre .5)) _ (omega (arith, c .before .before .before .before .before .before .before .before .before .before .before .before .if1 .left, c .before .before .before .before .before .before .before .before .before .before .before .before .before .find .ensures .1)) (c .before .find-by2 .result) (t .1) (t .2) (λ f m differ r last. t .3 f m differ r))), t .0, st .pre .7)
 
 pub look-up-spec : {M : Type 1} → statement M
 look-up-spec =
     tie.close
     (tie.spec
-    slice-aggregate-look-in
-    look-in-requires
+    name-of-requires
+    find-requires
     returns
-    add-e
-    sub-look-in
-    part-look-in-start
-    part-look-in-end
-    look-in-requires-2
-    returns-2)
+    sub-find-soon
+    part-find-soon-start
+    part-find-soon-end
+    find-soon-requires
+    enum-known-soon
+    add-look-of
+    look-of-requires
+    enum-told
+    is-long-requires
+    sub-find-by
+    part-find-by-start
+    part-find-by-end
+    find-by-requires
+    add-look-of-2
+    look-of-requires-2
+    returns-2
+    sub-find-by-2
+    part-find-by-start-2
+    part-find-by-end-2
+    find-by-requires-2
+    add-look-of-3
+    look-of-requires-3
+    returns-3
+    returns-4)

@@ -29,6 +29,9 @@ loop-holds c = (omega arith, omega arith, omega arith, omega (arith, c .demand .
 read-node-requires : tie.Need-read-node-requires Inv-loop μ-loop
 read-node-requires c κs = search needs
 
+enum-known-read : tie.Need-enum-known-read Inv-loop μ-loop
+enum-known-read c = search needs
+
 enum-told : tie.Need-enum-told Inv-loop μ-loop
 enum-told c = search needs
 
@@ -36,9 +39,6 @@ returns : tie.Need-returns Inv-loop μ-loop
 returns c =
     let l = c .before .before .before .before in
     λ f m r. survey-stop _ _ f _ _ _ _ (l .loop .inv .5 f m r) (c .before .before .before .loop-test .taken) (sym (c .enum-told .given .1) ∙ c .before .before .read-node .ensures)
-
-enum-known-read : tie.Need-enum-known-read Inv-loop μ-loop
-enum-known-read c = search needs
 
 is-wrong-requires : tie.Need-is-wrong-requires Inv-loop μ-loop
 is-wrong-requires c κs = search needs
@@ -101,9 +101,9 @@ survey-trees-spec =
     demand-requires
     loop-holds
     read-node-requires
+    enum-known-read
     enum-told
     returns
-    enum-known-read
     is-wrong-requires
     returns-2
     demand-requires-2

@@ -7,6 +7,7 @@ use native.Mathlib.Omega.{arith}
 use denote.Ref.{now}
 use borrow.Author.Needs.{needs}
 use lib.ListN.{length}
+use Rattle.tree_search.specs.Table.{Known}
 use Rattle.tree_walk.specs.Steps.{Ready, Taken, roomBelow}
 use Rattle.tree_walk.proofs.Loops.{Looping, taken-ready, taken-room, tallyOf, joined, loop-start, part-done, loop-more, loop-end}
 use Prim.Native.Nat.{ℕ, _+_, _*_, _-_, _<_}
@@ -26,34 +27,34 @@ use Rattle.tree_walk.proofs.walk.take_part.Reads as take-part-reads
 use Rattle.tree_walk.proofs.walk.+finish_part+walk_directory.{statement}
 use Rattle.tree_walk.proofs.walk.+finish_part+walk_directory.Tie.{close}
 
-abbrev μ-finish-part : Measures 3 finish-part-kinds.ps ℕ
+abbrev μ-finish-part : Measures 5 finish-part-kinds.ps ℕ
 μ-finish-part κs a = roomBelow (now (a .0)) (a .1 .1 .1 .1 .0)
 
-abbrev μ-walk-directory : Measures 3 walk-directory-kinds.ps ℕ
+abbrev μ-walk-directory : Measures 5 walk-directory-kinds.ps ℕ
 μ-walk-directory κs a = 2 * (length (now (a .0)) - a .1 .0) + 1
 
-abbrev finish-part-at : ℕ → In 3 finish-part-kinds.ps
+abbrev finish-part-at : ℕ → In 5 finish-part-kinds.ps
 finish-part-at t =
-    and 3 finish-part-kinds.ps (is 3 finish-part-kinds.ps μ-finish-part t) finish-part.Pre
+    and 5 finish-part-kinds.ps (is 5 finish-part-kinds.ps μ-finish-part t) finish-part.Pre
 
-abbrev finish-part-below : ℕ → In 3 finish-part-kinds.ps
+abbrev finish-part-below : ℕ → In 5 finish-part-kinds.ps
 finish-part-below t =
-    and 3 finish-part-kinds.ps (falls 3 finish-part-kinds.ps _<_ μ-finish-part t) finish-part.Pre
+    and 5 finish-part-kinds.ps (falls 5 finish-part-kinds.ps _<_ μ-finish-part t) finish-part.Pre
 
-abbrev walk-directory-at : ℕ → In 3 walk-directory-kinds.ps
+abbrev walk-directory-at : ℕ → In 5 walk-directory-kinds.ps
 walk-directory-at t =
     and
-    3
+    5
     walk-directory-kinds.ps
-    (is 3 walk-directory-kinds.ps μ-walk-directory t)
+    (is 5 walk-directory-kinds.ps μ-walk-directory t)
     walk-directory.Pre
 
-abbrev walk-directory-below : ℕ → In 3 walk-directory-kinds.ps
+abbrev walk-directory-below : ℕ → In 5 walk-directory-kinds.ps
 walk-directory-below t =
     and
-    3
+    5
     walk-directory-kinds.ps
-    (falls 3 walk-directory-kinds.ps _<_ μ-walk-directory t)
+    (falls 5 walk-directory-kinds.ps _<_ μ-walk-directory t)
     walk-directory.Pre
 
 finish-part-enum-known-part : (t : ℕ) → finish-part-lts.Need-enum-known-part (
@@ -79,7 +80,7 @@ finish-part-walk-directory-requires : (t : ℕ) → finish-part-lts.Need-walk-di
   add-node-reads.Learnt,
 ) (finish-part-at t) finish-part.Post
 finish-part-walk-directory-requires t c κs =
-    let pre = rw (c .before .before .part2 .given .1) at (c .before .before .before .before .before .before .before .pre) in
+    let pre = rw (c .before .before .before .before .part2 .given .1) at (c .before .before .before .before .before .before .before .before .before .pre) in
     (omega (arith, pre .0), pre .1)
 
 finish-part-add-node-requires : (t : ℕ) → finish-part-lts.Need-add-node-requires (
@@ -96,7 +97,7 @@ finish-part-returns : (t : ℕ) → finish-part-lts.Need-returns (
   add-node-reads.Asked,
   add-node-reads.Learnt,
 ) (finish-part-at t) finish-part.Post
-finish-part-returns t c = rw (c .before .part .given .1) (record { is = (refl, refl) })
+finish-part-returns t c = rw (c .before .part .given .1) (record { is = (refl, refl) }, c .before .before .before .before .before .before .pre .1 .1, c .before .before .before .before .before .before .pre .1 .2)
 
 finish-part-same-length : (t : ℕ) → finish-part-lts.Need-same-length (
   walk-directory-below t,
@@ -104,7 +105,7 @@ finish-part-same-length : (t : ℕ) → finish-part-lts.Need-same-length (
   add-node-reads.Asked,
   add-node-reads.Learnt,
 ) (finish-part-at t) finish-part.Post
-finish-part-same-length t c = c .before .before .before .walk-directory .ensures .kept .long
+finish-part-same-length t c = c .before .before .before .walk-directory .ensures .0 .kept .long
 
 finish-part-returns-2 : (t : ℕ) → finish-part-lts.Need-returns-2 (
   walk-directory-below t,
@@ -113,17 +114,18 @@ finish-part-returns-2 : (t : ℕ) → finish-part-lts.Need-returns-2 (
   add-node-reads.Learnt,
 ) (finish-part-at t) finish-part.Post
 finish-part-returns-2 t c =
-    rw (c .before .before .before .before .before .before .part2 .given .1)
-    (record { is = record { below = c .before .before .before .walk-directory .result; walked = c .before .before .before .walk-directory .ensures; added = c .add-node .ensures } })
+    let w = c .before .before .before .walk-directory .ensures in
+    rw (c .before .before .before .before .before .before .before .before .part2 .given .1) (record { is = record { below = c .before .before .before .walk-directory .result; walked = w .0; added = c .add-node .ensures } }, w .1, w .2)
 
 abbrev walk-directory-Inv-loop : walk-directory-lts.InvT-loop
-walk-directory-Inv-loop d at k valid b v work₀ q ok₀ met₀ count₀ front₀ part₀ work ok met count front part =
-    (w₀ : List ℕ) → Ready d at b w₀ q front₀ → Taken d at k valid at 0 b v w₀ q front₀ work₀ part₀
+walk-directory-Inv-loop d at k valid b v work₀ q near₀ far₀ ok₀ met₀ count₀ front₀ part₀ work near far ok met count front part =
+    Known d near × Known d far
+    × ((w₀ : List ℕ) → Ready d at b w₀ q front₀ → Taken d at k valid at 0 b v w₀ q front₀ work₀ part₀
     → (w : List ℕ) × (place : ℕ) × (left : ℕ) × Looping d at k valid b v w₀ q (tallyOf true 0 0 front₀ at 0) w (tallyOf ok met count front place left)
-    × Taken d at k valid place left b v w q front work part
+    × Taken d at k valid place left b v w q front work part)
 
 abbrev walk-directory-μ-loop : walk-directory-lts.MeasureT-loop
-walk-directory-μ-loop d at k valid b v work₀ q ok₀ met₀ count₀ front₀ part₀ work ok met count front part = front .ahead
+walk-directory-μ-loop d at k valid b v work₀ q near₀ far₀ ok₀ met₀ count₀ front₀ part₀ work near far ok met count front part = front .ahead
 
 walk-directory-cast-place : (t : ℕ) → walk-directory-lts.Need-cast-place (
   take-part-reads.Asked,
@@ -137,7 +139,7 @@ walk-directory-cast-place : (t : ℕ) → walk-directory-lts.Need-cast-place (
   stays-reads.Asked,
   stays-reads.Learnt,
 ) (walk-directory-at t) walk-directory.Post walk-directory-Inv-loop walk-directory-μ-loop
-walk-directory-cast-place t c = let ready = c .before .before .before .pre .1 in omega (arith, ready .inside, ready .small)
+walk-directory-cast-place t c = let ready = c .before .before .before .pre .1 .0 in omega (arith, ready .inside, ready .small)
 
 walk-directory-take-part-requires : (t : ℕ) → walk-directory-lts.Need-take-part-requires (
   take-part-reads.Asked,
@@ -151,9 +153,7 @@ walk-directory-take-part-requires : (t : ℕ) → walk-directory-lts.Need-take-p
   stays-reads.Asked,
   stays-reads.Learnt,
 ) (walk-directory-at t) walk-directory.Post walk-directory-Inv-loop walk-directory-μ-loop
-walk-directory-take-part-requires t c κs =
-    let ready = c .before .before .before .before .pre .1 in
-    (ready, omega arith, ready .inside)
+walk-directory-take-part-requires t c κs = let st = c .before .before .before .before .before .before in (st .pre .1 .0, omega arith, st .pre .1 .0 .inside, st .pre .1 .1, st .pre .1 .2)
 
 walk-directory-loop-holds : (t : ℕ) → walk-directory-lts.Need-loop-holds (
   take-part-reads.Asked,
@@ -167,7 +167,7 @@ walk-directory-loop-holds : (t : ℕ) → walk-directory-lts.Need-loop-holds (
   stays-reads.Asked,
   stays-reads.Learnt,
 ) (walk-directory-at t) walk-directory.Post walk-directory-Inv-loop walk-directory-μ-loop
-walk-directory-loop-holds t c = λ w₀ ready taken. (w₀, _, _, loop-start _ _ _ _ _ _ _ _ _ ready, taken)
+walk-directory-loop-holds t c = let t = c .before .before .take-part .ensures in (t .1, t .2, λ w₀ ready taken. (w₀, _, _, loop-start _ _ _ _ _ _ _ _ _ ready, taken))
 
 walk-directory-finish-part-requires : (t : ℕ) → walk-directory-lts.Need-finish-part-requires (
   take-part-reads.Asked,
@@ -182,10 +182,10 @@ walk-directory-finish-part-requires : (t : ℕ) → walk-directory-lts.Need-fini
   stays-reads.Learnt,
 ) (walk-directory-at t) walk-directory.Post walk-directory-Inv-loop walk-directory-μ-loop
 walk-directory-finish-part-requires t c κs =
-    let l = c .before in
-    let st = l .before .before .before .before .before .before .before .before in
-    let g = l .loop .inv (st .args .work .now) (st .pre .1) (l .before .before .before .take-part .ensures) in
-    (omega (arith, st .pre .0, taken-room _ _ _ _ _ _ _ _ _ _ _ _ (g .3 .ready) (l .loop .part) (g .4)), taken-ready _ _ _ _ _ _ _ _ _ _ _ _ (g .3 .ready) _ (g .4))
+    let l = c .before .before .before in
+    let st = c .before .before .before .before .before .before .before .before .before .before .before .before .before in
+    let g = l .loop .inv .2 (st .args .work .now) (st .pre .1 .0) (c .before .before .before .before .before .before .take-part .ensures .0) in
+    (omega (arith, st .pre .0, taken-room _ _ _ _ _ _ _ _ _ _ _ _ (g .3 .ready) (l .loop .part) (g .4)), (taken-ready _ _ _ _ _ _ _ _ _ _ _ _ (g .3 .ready) _ (g .4), l .loop .inv .0, l .loop .inv .1))
 
 walk-directory-both-requires : (t : ℕ) → walk-directory-lts.Need-both-requires (
   take-part-reads.Asked,
@@ -228,11 +228,11 @@ walk-directory-add-count : (t : ℕ) → walk-directory-lts.Need-add-count (
   stays-reads.Learnt,
 ) (walk-directory-at t) walk-directory.Post walk-directory-Inv-loop walk-directory-μ-loop
 walk-directory-add-count t c =
-    let l = c .before .before .before .before .before .before .before in
-    let st = l .before .before .before .before .before .before .before .before in
-    let g = l .loop .inv (st .args .work .now) (st .pre .1) (l .before .before .before .take-part .ensures) in
-    let kept = part-done _ _ _ _ _ _ _ _ _ _ _ (g .3) _ _ (g .4) _ _ (c .before .before .before .before .before .finish-part .ensures) .kept in
-    omega (arith, kept .fewer, g .3 .fewer, st .pre .1 .fits .few)
+    let l = c .before .before .before .before .before .before .before .before .before in
+    let st = c .before .before .before .before .before .before .before .before .before .before .before .before .before .before .before .before .before .before .before in
+    let g = l .loop .inv .2 (st .args .work .now) (st .pre .1 .0) (c .before .before .before .before .before .before .before .before .before .before .before .before .take-part .ensures .0) in
+    let kept = part-done _ _ _ _ _ _ _ _ _ _ _ (g .3) _ _ (g .4) _ _ (c .before .before .before .before .before .finish-part .ensures .0) .kept in
+    omega (arith, kept .fewer, g .3 .fewer, st .pre .1 .0 .fits .few)
 
 walk-directory-stays-requires : (t : ℕ) → walk-directory-lts.Need-stays-requires (
   take-part-reads.Asked,
@@ -261,12 +261,12 @@ walk-directory-take-part-requires-2 : (t : ℕ) → walk-directory-lts.Need-take
   stays-reads.Learnt,
 ) (walk-directory-at t) walk-directory.Post walk-directory-Inv-loop walk-directory-μ-loop
 walk-directory-take-part-requires-2 t c κs =
-    let l = c .before .before .before .before .before .before .before .before .before .before .before in
-    let st = l .before .before .before .before .before .before .before .before in
-    let g = l .loop .inv (st .args .work .now) (st .pre .1) (l .before .before .before .take-part .ensures) in
-    let on = sym (c .before .before .stays .ensures) ∙ c .before .if1 .taken in
-    let h = loop-more _ _ _ _ _ _ _ _ _ _ _ (g .3) _ _ (g .4) _ _ (c .before .before .before .before .before .before .before .before .before .finish-part .ensures) _ (joined (tallyOf (l .loop .ok) (l .loop .met) (l .loop .count) (l .loop .front) (g .1) (g .2)) (c .before .before .before .before .before .before .before .before .before .finish-part .result) _ _ (c .before .before .before .before .before .before .both .ensures) (c .before .before .before .before .before .plus .ensures)) on in
-    (h .ready, h .least, h .most)
+    let l = c .before .before .before .before .before .before .before .before .before .before .before .before .before .before .before in
+    let st = c .before .before .before .before .before .before .before .before .before .before .before .before .before .before .before .before .before .before .before .before .before .before .before .before .before in
+    let g = l .loop .inv .2 (st .args .work .now) (st .pre .1 .0) (c .before .before .before .before .before .before .before .before .before .before .before .before .before .before .before .before .before .before .take-part .ensures .0) in
+    let on = sym (c .before .before .before .before .stays .ensures) ∙ c .before .before .before .if1 .taken in
+    let h = loop-more _ _ _ _ _ _ _ _ _ _ _ (g .3) _ _ (g .4) _ _ (c .before .before .before .before .before .before .before .before .before .before .before .finish-part .ensures .0) _ (joined (tallyOf (l .loop .ok) (l .loop .met) (l .loop .count) (l .loop .front) (g .1) (g .2)) (c .before .before .before .before .before .before .before .before .before .before .before .finish-part .result) _ _ (c .before .before .before .before .before .before .before .before .both .ensures) (c .before .before .before .before .before .before .before .plus .ensures)) on in
+    (h .ready, h .least, h .most, c .before .before .before .before .before .before .before .before .before .before .before .finish-part .ensures .1, c .before .before .before .before .before .before .before .before .before .before .before .finish-part .ensures .2)
 
 walk-directory-loop-less : (t : ℕ) → walk-directory-lts.Need-loop-less (
   take-part-reads.Asked,
@@ -281,10 +281,10 @@ walk-directory-loop-less : (t : ℕ) → walk-directory-lts.Need-loop-less (
   stays-reads.Learnt,
 ) (walk-directory-at t) walk-directory.Post walk-directory-Inv-loop walk-directory-μ-loop
 walk-directory-loop-less t c =
-    let l = c .before .before .before .before .before .before .before .before .before .before .before .before .before .before in
-    let st = l .before .before .before .before .before .before .before .before in
-    let g = l .loop .inv (st .args .work .now) (st .pre .1) (l .before .before .before .take-part .ensures) in
-    part-done _ _ _ _ _ _ _ _ _ _ _ (g .3) _ _ (g .4) _ _ (c .before .before .before .before .before .before .before .before .before .before .before .before .finish-part .ensures) .kept .less
+    let l = c .before .before .before .before .before .before .before .before .before .before .before .before .before .before .before .before .before .before in
+    let st = c .before .before .before .before .before .before .before .before .before .before .before .before .before .before .before .before .before .before .before .before .before .before .before .before .before .before .before .before in
+    let g = l .loop .inv .2 (st .args .work .now) (st .pre .1 .0) (c .before .before .before .before .before .before .before .before .before .before .before .before .before .before .before .before .before .before .before .before .before .take-part .ensures .0) in
+    part-done _ _ _ _ _ _ _ _ _ _ _ (g .3) _ _ (g .4) _ _ (c .before .before .before .before .before .before .before .before .before .before .before .before .before .before .finish-part .ensures .0) .kept .less
 
 walk-directory-loop-again : (t : ℕ) → walk-directory-lts.Need-loop-again (
   take-part-reads.Asked,
@@ -299,11 +299,15 @@ walk-directory-loop-again : (t : ℕ) → walk-directory-lts.Need-loop-again (
   stays-reads.Learnt,
 ) (walk-directory-at t) walk-directory.Post walk-directory-Inv-loop walk-directory-μ-loop
 walk-directory-loop-again t c =
-    let l = c .before .before .before .before .before .before .before .before .before .before .before .before .before .before in
-    let on = sym (c .before .before .before .before .before .stays .ensures) ∙ c .before .before .before .before .if1 .taken in
-    λ w₀ ready taken.
-    let g = l .loop .inv w₀ ready taken in
-    (_, _, _, loop-more _ _ _ _ _ _ _ _ _ _ _ (g .3) _ _ (g .4) _ _ (c .before .before .before .before .before .before .before .before .before .before .before .before .finish-part .ensures) _ (joined (tallyOf (l .loop .ok) (l .loop .met) (l .loop .count) (l .loop .front) (g .1) (g .2)) (c .before .before .before .before .before .before .before .before .before .before .before .before .finish-part .result) _ _ (c .before .before .before .before .before .before .before .before .before .both .ensures) (c .before .before .before .before .before .before .before .before .plus .ensures)) on, c .before .before .take-part2 .ensures)
+    let l = c .before .before .before .before .before .before .before .before .before .before .before .before .before .before .before .before .before .before in
+    let t = c .before .before .take-part2 .ensures in
+    let on = sym (c .before .before .before .before .before .before .before .stays .ensures) ∙ c .before .before .before .before .before .before .if1 .taken in (
+      t .1,
+      t .2,
+      λ w₀ ready taken.
+          let g = l .loop .inv .2 w₀ ready taken in
+          (_, _, _, loop-more _ _ _ _ _ _ _ _ _ _ _ (g .3) _ _ (g .4) _ _ (c .before .before .before .before .before .before .before .before .before .before .before .before .before .before .finish-part .ensures .0) _ (joined (tallyOf (l .loop .ok) (l .loop .met) (l .loop .count) (l .loop .front) (g .1) (g .2)) (c .before .before .before .before .before .before .before .before .before .before .before .before .before .before .finish-part .result) _ _ (c .before .before .before .before .before .before .before .before .before .before .before .both .ensures) (c .before .before .before .before .before .before .before .before .before .before .plus .ensures)) on, t .0),
+    )
 
 walk-directory-same-length : (t : ℕ) → walk-directory-lts.Need-same-length (
   take-part-reads.Asked,
@@ -318,11 +322,11 @@ walk-directory-same-length : (t : ℕ) → walk-directory-lts.Need-same-length (
   stays-reads.Learnt,
 ) (walk-directory-at t) walk-directory.Post walk-directory-Inv-loop walk-directory-μ-loop
 walk-directory-same-length t c =
-    let l = c .before .before .before .before .before .before .before .before .before .before in
-    let st = l .before .before .before .before .before .before .before .before in
-    let g = l .loop .inv (st .args .work .now) (st .pre .1) (l .before .before .before .take-part .ensures) in
+    let l = c .before .before .before .before .before .before .before .before .before .before .before .before in
+    let st = c .before .before .before .before .before .before .before .before .before .before .before .before .before .before .before .before .before .before .before .before .before .before in
+    let g = l .loop .inv .2 (st .args .work .now) (st .pre .1 .0) (c .before .before .before .before .before .before .before .before .before .before .before .before .before .before .before .take-part .ensures .0) in
     let off = sym (c .before .stays .ensures) ∙ c .if1 .left in
-    loop-end _ _ _ _ _ _ _ _ _ _ _ (g .3) _ _ (g .4) _ _ (c .before .before .before .before .before .before .before .before .finish-part .ensures) _ (joined (tallyOf (l .loop .ok) (l .loop .met) (l .loop .count) (l .loop .front) (g .1) (g .2)) (c .before .before .before .before .before .before .before .before .finish-part .result) _ _ (c .before .before .before .before .before .both .ensures) (c .before .before .before .before .plus .ensures)) off refl .kept .long
+    loop-end _ _ _ _ _ _ _ _ _ _ _ (g .3) _ _ (g .4) _ _ (c .before .before .before .before .before .before .before .before .finish-part .ensures .0) _ (joined (tallyOf (l .loop .ok) (l .loop .met) (l .loop .count) (l .loop .front) (g .1) (g .2)) (c .before .before .before .before .before .before .before .before .finish-part .result) _ _ (c .before .before .before .before .before .both .ensures) (c .before .before .before .before .plus .ensures)) off refl .kept .long
 
 walk-directory-returns : (t : ℕ) → walk-directory-lts.Need-returns (
   take-part-reads.Asked,
@@ -337,11 +341,12 @@ walk-directory-returns : (t : ℕ) → walk-directory-lts.Need-returns (
   stays-reads.Learnt,
 ) (walk-directory-at t) walk-directory.Post walk-directory-Inv-loop walk-directory-μ-loop
 walk-directory-returns t c =
-    let l = c .before .before .before .before .before .before .before .before .before .before in
-    let st = l .before .before .before .before .before .before .before .before in
-    let g = l .loop .inv (st .args .work .now) (st .pre .1) (l .before .before .before .take-part .ensures) in
+    let l = c .before .before .before .before .before .before .before .before .before .before .before .before in
+    let st = c .before .before .before .before .before .before .before .before .before .before .before .before .before .before .before .before .before .before .before .before .before .before in
+    let g = l .loop .inv .2 (st .args .work .now) (st .pre .1 .0) (c .before .before .before .before .before .before .before .before .before .before .before .before .before .before .before .take-part .ensures .0) in
+    let f = c .before .before .before .before .before .before .before .before .finish-part .ensures in
     let off = sym (c .before .stays .ensures) ∙ c .if1 .left in
-    loop-end _ _ _ _ _ _ _ _ _ _ _ (g .3) _ _ (g .4) _ _ (c .before .before .before .before .before .before .before .before .finish-part .ensures) _ (joined (tallyOf (l .loop .ok) (l .loop .met) (l .loop .count) (l .loop .front) (g .1) (g .2)) (c .before .before .before .before .before .before .before .before .finish-part .result) _ _ (c .before .before .before .before .before .both .ensures) (c .before .before .before .before .plus .ensures)) off refl
+    (loop-end _ _ _ _ _ _ _ _ _ _ _ (g .3) _ _ (g .4) _ _ (f .0) _ (joined (tallyOf (l .loop .ok) (l .loop .met) (l .loop .count) (l .loop .front) (g .1) (g .2)) (c .before .before .before .before .before .before .before .before .finish-part .result) _ _ (c .before .before .before .before .before .both .ensures) (c .before .before .before .before .plus .ensures)) off refl, f .1, f .2)
 
 pub +finish-part+walk-directory-spec : {M : Type 1} → statement M
 +finish-part+walk-directory-spec = close μ-finish-part μ-walk-directory (λ t. finish-part-lts.spec (

@@ -33,7 +33,7 @@ enum-known-look-2 c = search needs
 read-node-requires : tie.Need-read-node-requires
 read-node-requires c κs =
     let look = rw (c .before .look2 .given .1) at (c .before .before .before .look-up .ensures) in
-    look .most
+    look .0 .most
 
 enum-told-2 : tie.Need-enum-told-2
 enum-told-2 c = search needs
@@ -47,52 +47,45 @@ told-requires-3 c κs = search needs
 enum-known-read : tie.Need-enum-known-read
 enum-known-read c = search needs
 
-cast-t36 : tie.Need-cast-t36
-cast-t36 c =
-    let k = c .before .before .before .before in
-    let u = k .before .before .before in
-    let look = rw (k .before .look2 .given .1) at (u .look-up .ensures) in
-    omega (arith, look .most, u .before .before .before .before .before .pre .0 .small)
+cast-t40 : tie.Need-cast-t40
+cast-t40 c =
+    let look = rw (c .before .before .before .before .before .look2 .given .1) at (c .before .before .before .before .before .before .before .look-up .ensures) in
+    omega (arith, look .0 .most, c .before .before .before .before .before .before .before .before .before .before .before .before .before .before .pre .0 .small)
 
 same-length : tie.Need-same-length
 same-length c = search needs
 
 returns : tie.Need-returns
 returns c =
-    let u = c .before .before .before .before .before .before .before in
-    let st = u .before .before .before .before .before in
-    let look = rw (c .before .before .before .before .before .enum-told .given .1) at (u .look-up .ensures) in
-    record { is = rw (c .told .ensures) (part-file _ _ _ _ _ _ _ _ _ _ _ _ (st .pre .0) (st .pre .1) (st .pre .2) look _ (c .before .before .before .advance .ensures)) }
+    let st = c .before .before .before .before .before .before .before .before .before .before .before .before .before .before in
+    let look = rw (c .before .before .before .before .before .enum-told .given .1) at (c .before .before .before .before .before .before .before .look-up .ensures) in
+    (record { is = rw (c .told .ensures) (part-file _ _ _ _ _ _ _ _ _ _ _ _ (st .pre .0) (st .pre .1) (st .pre .2) (look .0) _ (c .before .before .before .advance .ensures)) }, look .1, look .2)
 
 same-length-2 : tie.Need-same-length-2
 same-length-2 c = search needs
 
 returns-2 : tie.Need-returns-2
 returns-2 c =
-    let u = c .before .before .before .before .before .before .before .before .before in
-    let st = u .before .before .before .before .before in
-    let look = rw (c .before .before .before .before .before .before .before .look .given .1) at (u .look-up .ensures) in
-    record { is = rw (c .told2 .ensures) (part-missing _ _ _ _ _ _ _ _ _ _ _ _ (st .pre .0) (st .pre .1) (st .pre .2) _ look _ (c .before .before .before .before .pass .ensures)) }
+    let st = c .before .before .before .before .before .before .before .before .before .before .before .before .before .before .before .before in
+    let look = rw (c .before .before .before .before .before .before .before .look .given .1) at (c .before .before .before .before .before .before .before .before .before .look-up .ensures) in
+    (record { is = rw (c .told2 .ensures) (part-missing _ _ _ _ _ _ _ _ _ _ _ _ (st .pre .0) (st .pre .1) (st .pre .2) _ (look .0) _ (c .before .before .before .before .pass .ensures)) }, look .1, look .2)
 
 same-length-3 : tie.Need-same-length-3
 same-length-3 c = search needs
 
 returns-3 : tie.Need-returns-3
 returns-3 c =
-    let k = c .before .before .before .before .before in
-    let u = k .before .before .before in
-    let st = u .before .before .before .before .before in
-    let look = rw (k .before .look2 .given .1) at (u .look-up .ensures) in
-    record { is = rw (c .told3 .ensures, c .before .ended .ensures) (part-lost _ _ _ _ _ _ _ _ _ _ _ (st .args .work .now) (st .pre .0) (st .pre .1) (st .pre .2) _ _ _ look (sym (c .before .before .enum-told2 .given .1) ∙ c .before .before .before .before .read-node .ensures)) }
+    let st = c .before .before .before .before .before .before .before .before .before .before .before .before .before .before .before in
+    let look = rw (c .before .before .before .before .before .before .look2 .given .1) at (c .before .before .before .before .before .before .before .before .look-up .ensures) in
+    (record { is = rw (c .told3 .ensures, c .before .ended .ensures) (part-lost _ _ _ _ _ _ _ _ _ _ _ (st .args .work .now) (st .pre .0) (st .pre .1) (st .pre .2) _ _ _ (look .0) (sym (c .before .before .enum-told2 .given .1) ∙ c .before .before .before .before .read-node .ensures)) }, look .1, look .2)
 
 same-length-4 : tie.Need-same-length-4
 same-length-4 c = search needs
 
 returns-4 : tie.Need-returns-4
 returns-4 c =
-    let k = c .before .before .before .before in
-    let u = k .before .before .before in
-    record { is = (refl, rw (k .before .look2 .given .1) at (u .look-up .ensures), sym (c .before .read .given .1) ∙ c .before .before .before .read-node .ensures) }
+    let look = rw (c .before .before .before .before .before .look2 .given .1) at (c .before .before .before .before .before .before .before .look-up .ensures) in
+    (record { is = (refl, look .0, sym (c .before .read .given .1) ∙ c .before .before .before .read-node .ensures) }, look .1, look .2)
 
 pub take-part-spec : {M : Type 1} → statement M
 take-part-spec =
@@ -111,7 +104,7 @@ take-part-spec =
     ended-requires
     told-requires-3
     enum-known-read
-    cast-t36
+    cast-t40
     same-length
     returns
     same-length-2

@@ -8,9 +8,9 @@ use lib.ListN.{length, drop}
 use Rattle.format.specs.Records.{Forest}
 use Rattle.format.specs.Layout.{distinct}
 use Rattle.cache_tree.specs.Flat.{Reads}
-use Rattle.tree_walk.proofs.Siblings.{Searching, search-start, search-on, search-end, last-here}
-use Rattle.tree_walk.proofs.child.scan.Statement.{statement}
-use Rattle.tree_walk.proofs.child.scan.Tie as tie
+use Rattle.tree_search.proofs.Siblings.{Searching, search-start, search-on, search-end, last-here}
+use Rattle.tree_search.proofs.child.scan.Statement.{statement}
+use Rattle.tree_search.proofs.child.scan.Tie as tie
 
 abbrev Inv-loop : tie.InvT-loop
 Inv-loop d at k name place₀ left₀ place left = (at ≤ place) × (place ≤ length d) × ((f : Forest) (m : ℕ) → distinct f ≡ true → Reads (drop at d) f k m → Searching d f name place left)

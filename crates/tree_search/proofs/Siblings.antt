@@ -13,14 +13,14 @@ use Rattle.format.specs.Records.{Node, Forest, nil, tree, Tree}
 use Rattle.format.specs.Layout.{has, distinct}
 use Rattle.format.specs.Reading.{good}
 use Rattle.format.specs.Reader.{Head, readNode}
+use Rattle.tree_counts.specs.Judge.{child}
 use Rattle.format_laws.proofs.Tests.{clash, by-test, and-inv₃}
 use Rattle.format_laws.proofs.Lists.{eqList-true}
-use Rattle.tree_counts.specs.Judge.{child}
 use Rattle.tree_counts.proofs.Walk.{child-some}
 use Rattle.cache_tree.specs.Flat.{treesLength, nameOf, Reads, reads-none, reads-more}
 use Rattle.tree_nodes.proofs.Nodes.{node-named}
 use Rattle.cache_tree.proofs.Flat.{trees-none, trees-step, reads-length}
-use Rattle.tree_walk.specs.Siblings.{Last, FoundAt}
+use Rattle.tree_search.specs.Siblings.{Last, FoundAt}
 
 -- ---- the first of some siblings
 
@@ -85,6 +85,18 @@ module _ (name : List ℕ) (n : Node) (kids after : Forest) where
   unfolding distinct
   distinct-parts d = let i = and-inv₃ (not (has (n .name) after)) (distinct kids) (distinct after) d in (not-true _ (i .0), i .2)
 
+  distinct-kids : distinct (tree n kids after) ≡ true → distinct kids ≡ true
+  unfolding distinct
+  distinct-kids d = and-inv₃ (not (has (n .name) after)) (distinct kids) (distinct after) d .1
+
+  -- what the first alone is found by, all are
+  child-one : (t : Tree) → child name (tree n kids nil) ≡ some t → child name (tree n kids after) ≡ some t
+  unfolding child
+  child-one t e = by-test (eqList name (n .name)) (λ q. rw q (rw q at e)) (λ q. no-tree (rw q at e))
+    where
+      no-tree : {X : Type 0} → none ≡ some t → X
+      no-tree i = let z : _≡_ {A = ℕ} 0 1 = cc in absurd (omega arith)
+
   -- what is found after the first of siblings that differ is found from it on
   child-after : (t : Tree) → distinct (tree n kids after) ≡ true → child name after ≡ some t → child name (tree n kids after) ≡ some t
   child-after t d e =
@@ -123,6 +135,20 @@ module _ (d : List ℕ) (f : Forest) where
       part = λ name t e. l .part name t (ap (child name) (first-of .is) ∙ child-after name (first-of .head .node) (first-of .kids) (first-of .after) t differs e);
     }
 
+    -- the first alone
+    pub last-one : Last d f place 1
+    unfolding child distinct has
+    last-one = record {
+      siblings = tree (first-of .head .node) (first-of .kids) nil;
+      taken = first-of .own + (first-of .below + 0);
+      reads = reads-more (first-of .node) (first-of .reads-kids) reads-none;
+      differ = one-differs;
+      part = λ name t e. l .part name t (ap (child name) (first-of .is) ∙ child-one name (first-of .head .node) (first-of .kids) (first-of .after) t e);
+    }
+      where
+        one-differs : distinct (tree (first-of .head .node) (first-of .kids) nil) ≡ true
+        one-differs = rw (distinct-kids [] (first-of .head .node) (first-of .kids) (first-of .after) differs)
+
     module _ (name : List ℕ) where
       same-name : eqList name (nameOf (drop place d)) ≡ eqList name (first-of .head .node .name)
       same-name = ap (eqList name) (first-named _ _ _ first-of)
@@ -135,7 +161,7 @@ module _ (d : List ℕ) (f : Forest) where
         last = l;
       }
 
-      last-on : eqList name (nameOf (drop place d)) ≡ false → (next : ℕ) (is : next ≡ place + treesLength 1 (drop place d)) → child name (l .siblings) ≡ child name (last-next next is .siblings)
+      pub last-on : eqList name (nameOf (drop place d)) ≡ false → (next : ℕ) (is : next ≡ place + treesLength 1 (drop place d)) → child name (l .siblings) ≡ child name (last-next next is .siblings)
       unfolding last-next first-of
       last-on e next is = ap (child name) (first-of .is) ∙ child-on name (first-of .head .node) (first-of .kids) (first-of .after) (sym same-name ∙ e)
 

@@ -11,8 +11,10 @@ use Rattle.format.specs.Reading.{good}
 use Rattle.format.specs.Reader.{readNode}
 use Rattle.tree_counts.specs.Judge.{child}
 use Rattle.cache_tree.specs.Flat.{Reads}
-use Rattle.tree_walk.specs.declared.child.Child.{Child}
-use Rattle.tree_walk.specs.declared.child.Child.the-variants as C
+use Rattle.tree_search.specs.declared.child.Child.{Child}
+use Rattle.tree_search.specs.declared.child.Child.the-variants as C
+use Rattle.tree_search.specs.declared.child.Answer.{Answer}
+use Rattle.tree_search.specs.declared.child.Answer.the-variants as A
 
 -- a tree that stands at a place: its root, and its subtrees after it
 pub record TreeAt (d : List ℕ) (place : ℕ) (t : Tree) : Type 0 where
@@ -45,3 +47,12 @@ Sought d f name (C.Found place left) = FoundAt d f name place left
 abbrev pub placeIn : ℕ → Child → ℕ
 placeIn end C.Missing = end
 placeIn end (C.Found place left) = place
+
+-- the same of what can be told at once
+abbrev pub Answered : List ℕ → Forest → List ℕ → Answer → Type 0
+Answered d f name A.Unknown = Unit {0}
+Answered d f name (A.Known c) = Sought d f name c
+
+abbrev pub placeOfAnswer : ℕ → Answer → ℕ
+placeOfAnswer end A.Unknown = end
+placeOfAnswer end (A.Known c) = placeIn end c

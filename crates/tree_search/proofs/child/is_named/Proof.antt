@@ -2,9 +2,9 @@
 use mathlib.Core.Path.{ap, _∙_}
 use borrow.Author.Needs.{needs}
 use Rattle.format.specs.Bytes.{eqList}
-use Rattle.tree_walk.proofs.Siblings.{name-is}
-use Rattle.tree_walk.proofs.child.is_named.Statement.{statement}
-use Rattle.tree_walk.proofs.child.is_named.Tie as tie
+use Rattle.tree_search.proofs.Siblings.{name-is}
+use Rattle.tree_search.proofs.child.is_named.Statement.{statement}
+use Rattle.tree_search.proofs.child.is_named.Tie as tie
 
 find-requires : tie.Need-find-requires
 find-requires c κs = search needs

@@ -1,0 +1,4 @@
+-- What the crate's contracts cite.
+pub mod Siblings
+pub mod Keys
+pub mod Table

@@ -1,0 +1,93 @@
+// The sibling of a name, found without a table.
+use cache_tree::walk::after_tree;
+use fields::find;
+use fields::same;
+use tree_nodes::node::NodeRead;
+use tree_nodes::node::read_node;
+ghost use mathlib.Core.Path.{_≡_};
+ghost use mathlib.Core.Bool.{true};
+ghost use Prim.Native.Nat.{ℕ, _+_, _≤_};
+ghost use lib.ListN.{length, drop};
+ghost use Rattle.format.specs.Bytes.{eqList};
+ghost use Rattle.format.specs.Records.{Forest};
+ghost use Rattle.format.specs.Layout.{distinct};
+ghost use Rattle.cache_tree.specs.Flat.{nameOf};
+ghost use Rattle.cache_tree.specs.Flat.{Reads};
+ghost use Rattle.tree_search.specs.Siblings.{Last, Sought, Answered, placeIn, placeOfAnswer};
+
+// Where the sibling is, and how many there are from it on.
+pub enum Child {
+    Missing,
+    Found(usize, u32),
+}
+
+// What can be told at once.
+pub enum Answer {
+    Unknown,
+    Known(Child),
+}
+
+// Whether the node at a place has this name.
+pub fn is_named(d: &[u8], at: usize, name: &[u8]) -> bool
+    requires { ⌜ at ≤ length (now d) ⌝ }
+    ensures { λ r. ⌜ r ≡ eqList (now (name .entry)) (nameOf (drop at (now (d .entry)))) ⌝ }
+{
+    let nul = find(d, at, 0);
+    same(name, &d[at..nul])
+}
+
+// The first of k siblings at a place that has this name.
+pub fn scan(d: &[u8], at: usize, k: u32, name: &[u8]) -> Child
+    requires { ⌜ (at ≤ length (now d)) × (length (now d) ≤ 16777216) ⌝ }
+    ensures { λ r. ⌜ (at ≤ placeIn (length (now (d .entry))) r) × (placeIn (length (now (d .entry))) r ≤ length (now (d .entry))) × ((f : Forest) (m : ℕ) → distinct f ≡ true → Reads (drop at (now (d .entry))) f k m → Sought (now (d .entry)) f (now (name .entry)) r) ⌝ }
+{
+    let mut place = at;
+    let mut left = k;
+    while 0 < left {
+        if is_named(d, place, name) {
+            return Child::Found(place, left);
+        }
+        place = after_tree(d, place);
+        left -= 1;
+    }
+    Child::Missing
+}
+
+// Whether k trees at a place take more than so many bytes. The look at them ends there.
+pub fn is_long(d: &[u8], at: usize, k: u32, limit: usize) -> bool
+    requires { ⌜ (at ≤ length (now d)) × (length (now d) ≤ 16777216) ⌝ }
+{
+    let mut place = at;
+    let mut pending = k as u64;
+    while 0 < pending {
+        if limit < place - at {
+            return true;
+        }
+        let read = read_node(d, place);
+        let NodeRead::Good(node) = read else {
+            return true;
+        };
+        place = node.next;
+        pending = pending - 1 + node.subtrees as u64;
+    }
+    false
+}
+
+// The sibling after the first of those that stand from a place on, left in number, if it has this name: siblings are mostly asked for in their order.
+// A large tree is not passed for it.
+pub fn find_next(d: &[u8], name: &[u8], place: usize, left: u32) -> Answer
+    requires { ⌜ (place ≤ length (now d)) × (length (now d) ≤ 16777216) ⌝ }
+    ensures { λ r. ⌜ (place ≤ placeOfAnswer (length (now (d .entry))) r) × (placeOfAnswer (length (now (d .entry))) r ≤ length (now (d .entry))) × ((f : Forest) → Last (now (d .entry)) f place left → Answered (now (d .entry)) f (now (name .entry)) r) ⌝ }
+{
+    if left < 2 {
+        return Answer::Unknown;
+    }
+    if is_long(d, place, 1, 16384) {
+        return Answer::Unknown;
+    }
+    let next = after_tree(d, place);
+    if is_named(d, next, name) {
+        return Answer::Known(Child::Found(next, left - 1));
+    }
+    Answer::Unknown
+}

@@ -1,0 +1,73 @@
+// Keys of names, and the slots of a table that they stand in. Keys are numbers below a prime, made with a number that whoever writes a file can't
+// choose: two names have the same key by chance only.
+ghost use mathlib.Core.Path.{_≡_};
+ghost use Prim.Native.Nat.{_<_};
+ghost use lib.ListN.{length};
+ghost use Rattle.tree_search.specs.Keys.{stepKey, keyOf, slotOf};
+
+// 1,024 keys, 0 where there is none; for each of them a number that says where a sibling stands; the place of a list of siblings and their number;
+// and the number that keys are made with.
+pub type Table = [u32; 2051];
+
+pub const SLOTS: usize = 1024;
+
+// Keys are below it.
+pub const PRIME: u64 = 4294967291;
+
+fn wide(x: u8) -> u64
+    ensures { λ r. ⌜ (r ≡ x) × (r < 256) ⌝ }
+{
+    x as u64
+}
+
+// One more byte of a key.
+fn step_key(m: u32, h: u64, x: u64) -> u64
+    requires { ⌜ (h < 4294967291) × (x < 256) ⌝ }
+    ensures { λ r. ⌜ (r ≡ stepKey m h x) × (r < 4294967291) ⌝ }
+{
+    (h * m as u64 + x + 1) % PRIME
+}
+
+// The key of a name.
+pub fn key_of(s: &[u8], m: u32) -> u32
+    ensures { λ r. ⌜ r ≡ keyOf m (now (s .entry)) ⌝ }
+{
+    let mut h: u64 = 0;
+    let mut i = 0;
+    while i < s.len() {
+        h = step_key(m, h, wide(s[i]));
+        i += 1;
+    }
+    step_key(m, h, 0) as u32
+}
+
+// The slot of a key: that of the key itself or an empty one, from the key's own on; the last tried where there is neither.
+pub fn slot_of(t: &Table, key: u32) -> usize
+    ensures { λ r. ⌜ (r ≡ slotOf (now (t .entry)) key) × (r < 1024) ⌝ }
+{
+    let mut i = (key % 1024) as usize;
+    let mut left: u32 = 1023;
+    while 0 < left {
+        if t[i] == key {
+            return i;
+        }
+        if t[i] == 0 {
+            return i;
+        }
+        i = (i + 1) % SLOTS;
+        left -= 1;
+    }
+    i
+}
+
+// A key is wanted: it gets a slot. How many were added.
+pub fn want(t: &mut Table, key: u32) -> u32
+    ensures { λ r. ⌜ (r < 2) × (length (now (t .exit)) ≡ length (now (t .entry))) ⌝ }
+{
+    let i = slot_of(t, key);
+    if t[i] == key {
+        return 0;
+    }
+    t[i] = key;
+    1
+}
