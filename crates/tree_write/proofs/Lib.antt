@@ -1,0 +1,5 @@
+-- Laws of what is written of a cache tree.
+pub mod Nodes
+pub mod Trees
+pub mod Names
+pub mod Steps

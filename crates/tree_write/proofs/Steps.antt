@@ -1,0 +1,1 @@
+-- Siblings on the way to a name's directory.

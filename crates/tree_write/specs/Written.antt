@@ -1,0 +1,38 @@
+-- What is written of nodes that stand in the data d of a cache tree, from a place on.
+use mathlib.Core.Path.{_≡_}
+use mathlib.Core.List.{List}
+use Prim.Native.Nat.{ℕ, _+_, _≤_}
+use lib.ListN.{length, drop}
+use Rattle.format.specs.Records.{Forest}
+use Rattle.format.specs.Reading.{good}
+use Rattle.format.specs.Reader.{Head, readNode}
+use Rattle.format.specs.Writer.{writeForest}
+use Rattle.cache_tree.specs.declared.node.Node.{Node}
+use Rattle.cache_tree.specs.declared.node.NodeRead.the-variants as R
+use Rattle.cache_tree.specs.Answers.{nodeAt}
+use Rattle.cache_tree.specs.Flat.{treesLength}
+use Rattle.cache_tree.proofs.Flat.{Reads}
+use Rattle.output.specs.Output.{Wrote}
+use Rattle.tree_write.specs.declared.Passed.{Passed}
+
+-- the data are a file's at most, and the output's place is not far beyond the data's
+pub record Room (d : List ℕ) (place at : ℕ) : Type 0 where
+  pub inside : place ≤ length d
+  pub few : length d ≤ 16777216
+  pub near : at ≤ 562949953421312 + place
+
+-- the node that is read at a place
+pub record NodeHere (d : List ℕ) (place : ℕ) (node : Node) : Type 0 where
+  pub read : R.Good node ≡ nodeAt place (readNode 20 0 (drop place d))
+
+-- a text of it was written; what is written of a node is not longer than the node
+pub record NodeWritten (text : Head → List ℕ) (d : List ℕ) (place : ℕ) (node : Node) (out : List ℕ) (at : ℕ) (out′ : List ℕ) (r : ℕ) : Type 0 where
+  pub wrote : (h : Head) (m : ℕ) → readNode 20 0 (drop place d) ≡ good h m → Wrote out at (text h) out′ r
+  pub short : r + place ≤ at + node .next
+
+-- n trees were written as they are, up to a place of the data and one of the output
+pub record TreesWritten (d : List ℕ) (place n : ℕ) (out : List ℕ) (at : ℕ) (out′ : List ℕ) (r : Passed) : Type 0 where
+  pub wrote : (f : Forest) (m : ℕ) → Reads (drop place d) f n m → Wrote out at (writeForest f) out′ (r .at)
+  pub ended : r .place ≡ place + treesLength n (drop place d)
+  pub within : r .place ≤ length d
+  pub short : r .at + place ≤ at + r .place

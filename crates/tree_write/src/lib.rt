@@ -1,0 +1,165 @@
+// Writing the data of a cache tree from the data of one that was read. A number has one decimal text, so a valid node is copied as it stands; an
+// invalid one is written with "-1" and no object name. Each function answers the place after what it wrote; with an output too short it measures.
+use cache_tree::node::Node;
+use cache_tree::node::NodeRead;
+use cache_tree::node::read_node;
+use fields::common;
+use fields::find;
+use output::put_byte;
+use output::put_bytes;
+ghost use mathlib.Core.Path.{_≡_};
+ghost use Prim.Native.Nat.{ℕ, _+_, _-_, _≤_, _<_};
+ghost use lib.ListN.{length, take, drop};
+ghost use Rattle.format.specs.Records.{Forest};
+ghost use Rattle.format.specs.Layout.{under};
+ghost use Rattle.format.specs.Writer.{writeNode, writeForest};
+ghost use Rattle.format.specs.Requests.{invalidNode, invalidWay};
+ghost use Rattle.tree_counts.proofs.Siblings.{Sound};
+ghost use Rattle.cache_tree.proofs.Flat.{Reads};
+ghost use Rattle.output.specs.Output.{Wrote};
+ghost use Rattle.tree_write.specs.Written.{Room, NodeHere, NodeWritten, TreesWritten};
+ghost use Rattle.tree_write.specs.Steps.{Ready, Stepped};
+
+// A place of the data and one of the output, after some trees.
+pub struct Passed {
+    pub place: usize,
+    pub at: usize,
+}
+
+// A node made invalid: its name and NUL, "-1", and what stands from the space up to its LF.
+fn put_invalid(d: &[u8], place: usize, node: Node, out: &mut [u8], at: usize) -> usize
+    requires { ⌜ Room (now d) place at × NodeHere (now d) place node ⌝ }
+    ensures { λ r. ⌜ NodeWritten (λ h. writeNode (invalidNode 20 (h .node)) (h .subtrees)) (now (d .entry)) place node (now (out .entry)) at (now (out .exit)) r ⌝ }
+{
+    let count = node.nul + 1;
+    let object = node.object;
+    let space = find(d, count, 32);
+    let named = put_bytes(&mut *out, at, &d[place..count]);
+    let minus = put_byte(&mut *out, named, 45);
+    let one = put_byte(&mut *out, minus, 49);
+    put_bytes(out, one, &d[space..object])
+}
+
+// A node.
+fn put_node(d: &[u8], place: usize, node: Node, out: &mut [u8], at: usize) -> usize
+    requires { ⌜ Room (now d) place at × NodeHere (now d) place node ⌝ }
+    ensures { λ r. ⌜ NodeWritten (λ h. writeNode (h .node) (h .subtrees)) (now (d .entry)) place node (now (out .entry)) at (now (out .exit)) r ⌝ }
+{
+    if node.valid {
+        let next = node.next;
+        return put_bytes(out, at, &d[place..next]);
+    }
+    put_invalid(d, place, node, out, at)
+}
+
+// So many trees one after another, each with all below it. Each node adds its subtrees to the trees that are still to write.
+fn put_trees(d: &[u8], start: usize, n: u64, out: &mut [u8], at: usize) -> Passed
+    requires { ⌜ Room (now d) start at × (n ≤ 4611686018427387904) ⌝ }
+    ensures { λ r. ⌜ TreesWritten (now (d .entry)) start n (now (out .entry)) at (now (out .exit)) r ⌝ }
+{
+    let mut place = start;
+    let mut end = at;
+    let mut pending = n;
+    while 0 < pending {
+        let read = read_node(d, place);
+        match read {
+            NodeRead::Bad => {
+                return Passed {
+                    place: d.len(),
+                    at: end,
+                };
+            }
+            NodeRead::Good(node) => {
+                end = put_node(d, place, node, &mut *out, end);
+                place = node.next;
+                pending = pending - 1 + node.subtrees as u64;
+            }
+        }
+    }
+    Passed {
+        place: place,
+        at: end,
+    }
+}
+
+// A place among siblings: so many are left, and so many more trees follow them, of the levels above. From a byte of the name on it is the name in
+// their directory.
+struct Way {
+    place: usize,
+    at: usize,
+    left: u32,
+    later: u64,
+    from: usize,
+}
+
+// Whether a name, from a byte on, is in the directory of the node at a place, whose name ends at nul.
+fn is_under(d: &[u8], place: usize, nul: usize, name: &[u8], from: usize) -> bool
+    requires { ⌜ (place ≤ nul) × (nul ≤ length (now d)) × (from ≤ length (now name)) ⌝ }
+    ensures { λ r. ⌜ r ≡ under (take (nul - place) (drop place (now (d .entry)))) (drop from (now (name .entry))) ⌝ }
+{
+    let n = common(&d[place..nul], &name[from..]);
+    if n < nul - place {
+        return false;
+    }
+    if name.len() - from <= n {
+        return false;
+    }
+    name[from + n] == 47
+}
+
+// One sibling. Where the name is in its directory it is made invalid, its subtrees are the next siblings, and the siblings after it follow later:
+// the name is in no directory of theirs. Else it is written with all below it.
+fn step(d: &[u8], name: &[u8], out: &mut [u8], w: Way) -> Way
+    requires { ⌜ Ready (now d) (now name) w × (0 < w .left) ⌝ }
+    ensures { λ r. ⌜ Stepped (now (d .entry)) (now (name .entry)) (now (out .entry)) w (now (out .exit)) r ⌝ }
+{
+    let read = read_node(d, w.place);
+    match read {
+        NodeRead::Bad => Way {
+            place: w.place,
+            at: w.at,
+            left: 0,
+            later: 0,
+            from: w.from,
+        },
+        NodeRead::Good(node) => {
+            if is_under(d, w.place, node.nul, name, w.from) {
+                let at = put_invalid(d, w.place, node, out, w.at);
+                return Way {
+                    place: node.next,
+                    at: at,
+                    left: node.subtrees,
+                    later: w.later + (w.left - 1) as u64,
+                    from: w.from + (node.nul - w.place) + 1,
+                };
+            }
+            let passed = put_trees(d, w.place, 1, out, w.at);
+            Way {
+                place: passed.place,
+                at: passed.at,
+                left: w.left - 1,
+                later: w.later,
+                from: w.from,
+            }
+        }
+    }
+}
+
+// k siblings at a place, of which those on the way to a name's directory are made invalid.
+fn put_way(d: &[u8], start: usize, k: u32, name: &[u8], out: &mut [u8], at: usize) -> usize
+    requires { ⌜ Room (now d) start at ⌝ }
+    ensures { λ r. ⌜ ((f : Forest) (m : ℕ) → Sound f → Reads (drop start (now (d .entry))) f k m → Wrote (now (out .entry)) at (writeForest (invalidWay 20 (now (name .entry)) f)) (now (out .exit)) r) × (r + start ≤ at + length (now (d .entry))) ⌝ }
+{
+    let mut w = Way {
+        place: start,
+        at: at,
+        left: k,
+        later: 0,
+        from: 0,
+    };
+    while 0 < w.left {
+        w = step(d, name, &mut *out, w);
+    }
+    let passed = put_trees(d, w.place, w.later, out, w.at);
+    passed.at
+}
