@@ -1,10 +1,11 @@
 -- Laws of names that are written: the number N, padding, the rest of a name.
-use mathlib.Core.Path.{_≡_, refl, sym, ap, _∙_}
+use mathlib.Core.Path.{_≡_, refl, sym}
 use mathlib.Core.List.{List, [], _∷_, _++_}
 use mathlib.Core.Bool.{Bool, true, false, cond}
 use Prim.Native.Nat.{ℕ, suc, _+_, _-_, _/_, _%_, _≤_, _<_}
+use native.Mathlib.Nat.{add-sub-cancel-left}
 use native.Mathlib.Omega.{arith}
-use lib.ListN.{length, take, drop, replicate, length-append, length-drop, length-replicate}
+use lib.ListN.{length, take, drop, replicate, length-drop, length-replicate}
 use lib.Seq.{length-take-le, take-all}
 use lib.Dec.{eqb}
 use borrow.Author.Tests.{eq-eqb, ne-eqb}
@@ -18,7 +19,7 @@ use Rattle.output.specs.Output.{Wrote}
 use Rattle.output.proofs.Laws.{wrote-then}
 use Rattle.entries_run.specs.declared.Cursor.{Cursor}
 use Rattle.entries_run.specs.Steps.{nameAt, Inside}
-use Rattle.entries_write.specs.Parts.{Kept, Beside, NameWritten}
+use Rattle.entries_write.specs.Parts.{Kept, NameWritten}
 
 -- ---- the common beginning of two names, and a name at its place
 
@@ -42,6 +43,15 @@ nameAt-length v b work c h room =
     (take (c .len) (drop (c .start) b))
     (λ packed. length-take-le (c .len) work (omega arith))
     (λ plain. let more : c .len ≤ length (drop (c .start) b) = simp length-drop (omega arith) in length-take-le (c .len) (drop (c .start) b) more)
+
+module _ (v : ℕ) (b work : List ℕ) (start len : ℕ) where
+  pub nameAt-work : v ≡ 4 → take len work ≡ nameAt v b work start len
+  unfolding nameAt
+  nameAt-work e = rw (eq-eqb v 4 e) refl
+
+  pub nameAt-body : (v ≡ 4 → ⊥) → take (start + len - start) (drop start b) ≡ nameAt v b work start len
+  unfolding nameAt
+  nameAt-body e = rw (ne-eqb v 4 e, add-sub-cancel-left) refl
 
 -- ---- the number N
 

@@ -1,1 +1,183 @@
 -- Laws of entries from a cursor on, one step after another, each written.
+use mathlib.Core.Path.{_≡_, refl, sym, ap, _∙_}
+use mathlib.Core.List.{List, [], _∷_, _++_, append-assoc}
+use mathlib.Core.Bool.{Bool, false, _||_}
+use Prim.Native.Nat.{ℕ, _+_, _-_, _*_, _≤_, _<_}
+use native.Mathlib.Omega.{arith}
+use lib.ListN.{length, take, drop, length-append}
+use lib.Seq.{take-at, drop-at}
+use Rattle.format.specs.Names.{common}
+use Rattle.format.specs.Records.{Entry}
+use Rattle.format.specs.Reading.{good}
+use Rattle.format.specs.Reader.{isSet, entryOf}
+use Rattle.format.specs.Writer.{needsWord, writeEntry, writeEntries}
+use Rattle.format.specs.Requests.{anyWord}
+use Rattle.spelling_entries.proofs.Reading.{bad-good}
+use Rattle.output.specs.Output.{Wrote}
+use Rattle.output.proofs.Laws.{wrote-nothing, wrote-then}
+use Rattle.entries_run.specs.declared.Cursor.{Cursor}
+use Rattle.entries_run.specs.declared.Step.{Step}
+use Rattle.entries_run.specs.declared.Next.the-variants as N
+use Rattle.entries_run.specs.Steps.{nameAt, keyAt, entryAt, Inside, Found, Stepped, Placed, runFrom}
+use Rattle.entries_run.proofs.Steps.{front-inv, entries-bad, entries-good, entryAt-name}
+use Rattle.entries_write.specs.Parts.{Kept, Beside, EntryWritten, lastName, EntriesWritten}
+use Rattle.entries_write.proofs.Names.{common-le, nameAt-length}
+use Rattle.entries_write.proofs.Lists.{entries-append, entries-one, anyWord-append, anyWord-one, lastName-append, lastName-one}
+
+-- of the entries all, those after es are left at a cursor, k of them
+pub record Left (v : ℕ) (b work : List ℕ) (c : Cursor) (k : ℕ) (es all : List Entry) : Type 0 where
+  pub after : List Entry
+  pub taken : ℕ
+  pub run : runFrom v k b work c ≡ good after taken
+  pub parts : all ≡ es ++ after
+
+-- the entries es of n were written, from the cursor c₀ on, and the others are left
+pub record Writing
+    (v : ℕ) (b work₀ : List ℕ) (c₀ : Cursor) (n version : ℕ) (out₀ : List ℕ) (at : ℕ) (work out : List ℕ) (c : Cursor) (end : ℕ) (extended : Bool) (left : ℕ)
+    : Type 0 where
+  pub es : List Entry
+  pub count : length es + left ≡ n
+  pub wrote : Wrote out₀ at (writeEntries 20 version (keyAt v b work₀ c₀ .name) es) out end
+  pub any : extended ≡ anyWord es
+  pub last : keyAt v b work c .name ≡ lastName (keyAt v b work₀ c₀ .name) es
+  pub inside : Inside b c
+  pub near : end ≤ at + length es * 8264
+  pub long : length work ≡ length work₀
+  pub past : drop 8192 work ≡ drop 8192 work₀
+  pub whole : (j : ℕ) (all : List Entry) (m : ℕ) → runFrom v (n + j) b work₀ c₀ ≡ good all m → Left v b work c (left + j) es all
+
+pub writing-start : (v : ℕ) (b work : List ℕ) (c : Cursor) (n version : ℕ) (out : List ℕ) (at : ℕ) → Inside b c
+    → Writing v b work c n version out at work out c at false n
+unfolding writeEntries anyWord lastName
+writing-start v b work c n version out at h =
+    record {
+      es = [];
+      count = omega arith;
+      wrote = wrote-nothing out at;
+      any = refl;
+      last = refl;
+      inside = h;
+      near = omega arith;
+      long = refl;
+      past = refl;
+      whole = λ j all m e. record { after = all; taken = m; run = e; parts = refl };
+    }
+
+module _ {v : ℕ} {b work₀ : List ℕ} {c₀ : Cursor} {n version : ℕ} {out₀ : List ℕ} {at : ℕ} {work out : List ℕ} {c : Cursor} {end : ℕ} {extended : Bool} {left : ℕ}
+    (h : Writing v b work₀ c₀ n version out₀ at work out c end extended left) where
+  -- all are written
+  pub writing-end : left ≤ 0 → EntriesWritten v b work₀ c₀ n version out₀ at work out (record { cursor = c; at = end; extended = extended })
+  writing-end none =
+      let sum = h .count in
+      let size : length (h .es) ≡ n = omega arith in
+      let near = h .near in
+      record {
+        passed = λ j all m e.
+            let l = h .whole j all m e in
+            let here : left + j ≡ j = omega arith in
+            let front : take n all ≡ h .es = ap (take n) (l .parts) ∙ take-at (h .es) (l .after) n size in
+            let back : drop n all ≡ l .after = ap (drop n) (l .parts) ∙ drop-at (h .es) (l .after) n size in
+            rw
+            (front, back)
+            (record { wrote = h .wrote; extended = h .any; last = h .last; taken = l .taken; left = rw here at (l .run) });
+        inside = h .inside;
+        near = omega arith;
+        long = h .long;
+        past = h .past;
+        out-long = h .wrote .long;
+      }
+
+  module _ (more : 0 < left) {work′ : List ℕ} where
+    -- the next one is refused
+    pub writing-bad : {k : ℕ} → Stepped v b work c work′ (N.Bad k)
+        → EntriesWritten v b work₀ c₀ n version out₀ at work′ out (record { cursor = c; at = end; extended = extended })
+    writing-bad {k} t =
+        let sum = h .count in
+        let near = h .near in
+        record {
+          passed = λ j all m e.
+              let l = h .whole j all m e in
+              bad-good _ _ _ _ (sym (entries-bad v b work c work′ (left + j) (omega arith) k t) ∙ l .run);
+          inside = h .inside;
+          near = omega arith;
+          long = t .long ∙ h .long;
+          past = t .past ∙ h .past;
+          out-long = h .wrote .long;
+        }
+
+    -- the next one is read
+    module _ {st : Step} (t : Stepped v b work c work′ (N.Good st)) (room : 8192 ≤ length work) where
+      found : Found v b work c work′ st
+      found = t .found st refl
+
+      abbrev pub entry : Entry
+      entry = entryAt v b work′ (c .at) st
+
+      pub step-placed : Placed b (c .at) st
+      step-placed = let f = found in record { fixed = omega arith; name = omega arith; short = f .next .short; stage = f .stage }
+
+      named : entry .name ≡ nameAt v b work′ (st .next .start) (st .next .len)
+      named = entryAt-name v b work′ (c .at) st
+
+      pub step-kept : Kept (entry .name) (c .len) (st .common)
+      step-kept =
+          let f = found in
+          let long = t .long in
+          let room′ : 8192 ≤ length work′ = omega arith in
+          let size : length (nameAt v b work′ (st .next .start) (st .next .len)) ≡ st .next .len = nameAt-length v b work′ (st .next) (f .next) room′ in
+          let before : length (nameAt v b work (c .start) (c .len)) ≡ c .len = nameAt-length v b work c (h .inside) room in
+          let (fits, within) = common-le (nameAt v b work (c .start) (c .len)) (nameAt v b work′ (st .next .start) (st .next .len)) in
+          let is = f .common in
+          rw
+          named
+          (record { short = let most = f .next .short in omega arith; before-short = h .inside .short; fits = omega arith; within = omega arith })
+
+      -- and written
+      module _ {out′ : List ℕ} {end′ : ℕ} (x : EntryWritten out end version entry (c .len) (st .common) out′ end′) where
+        beside : Beside (keyAt v b work c .name) (entry .name) (c .len) (st .common)
+        beside = rw named (record { long = nameAt-length v b work c (h .inside) room; shared = sym (found .common) })
+
+        wrote-more : Wrote out₀ at (writeEntries 20 version (keyAt v b work₀ c₀ .name) (h .es ++ (entry ∷ []))) out′ end′
+        wrote-more =
+            let p : List ℕ = keyAt v b work₀ c₀ .name in
+            let last : Wrote out end (writeEntry 20 version (lastName p (h .es)) entry) out′ end′ = rw (h .last) at (x .wrote (keyAt v b work c .name) beside) in
+            rw
+            (entries-append 20 version p (h .es) (entry ∷ []), entries-one 20 version (lastName p (h .es)) entry)
+            (wrote-then out₀ (writeEntries 20 version p (h .es)) _ out out′ at end end′ (h .wrote) last)
+
+        any-more : (extended || (isSet 16384 (st .word) || isSet 8192 (st .word))) ≡ anyWord (h .es ++ (entry ∷ []))
+        unfolding needsWord entryOf
+        any-more =
+            ap (λ (t : Bool). t || (isSet 16384 (st .word) || isSet 8192 (st .word))) (h .any)
+            ∙ sym (anyWord-append (h .es) (entry ∷ []) ∙ ap (λ (t : Bool). anyWord (h .es) || t) (anyWord-one entry))
+
+        last-more : keyAt v b work′ (st .next) .name ≡ lastName (keyAt v b work₀ c₀ .name) (h .es ++ (entry ∷ []))
+        last-more = rw (lastName-append (keyAt v b work₀ c₀ .name) (h .es) (entry ∷ []), lastName-one) (sym named)
+
+        whole-more : (j : ℕ) (all : List Entry) (m : ℕ) → runFrom v (n + j) b work₀ c₀ ≡ good all m → Left v b work′ (st .next) (left - 1 + j) (h .es ++ (entry ∷ [])) all
+        whole-more j all m e =
+            let l = h .whole j all m e in
+            let k : left + j - 1 ≡ left - 1 + j = omega arith in
+            let on = entries-good v b work c work′ (left + j) (omega arith) st t in
+            front-inv (entry ∷ []) _ _ _ _ (sym on ∙ l .run) λ gs size q parts sum.
+            record { after = gs; taken = size; run = rw k at q; parts = l .parts ∙ rw (← parts) (sym (append-assoc (h .es) (entry ∷ []) gs)) }
+
+        pub writing-more : {also : Bool} → also ≡ (extended || (isSet 16384 (st .word) || isSet 8192 (st .word)))
+            → Writing v b work₀ c₀ n version out₀ at work′ out′ (st .next) end′ also (left - 1)
+        writing-more is =
+            let size : length (h .es ++ (entry ∷ [])) ≡ length (h .es) + 1 = length-append (h .es) (entry ∷ []) in
+            let sum = h .count in
+            let near = h .near in
+            let next = x .near in
+            record {
+              es = h .es ++ (entry ∷ []);
+              count = omega arith;
+              wrote = wrote-more;
+              any = is ∙ any-more;
+              last = last-more;
+              inside = found .next;
+              near = omega arith;
+              long = t .long ∙ h .long;
+              past = t .past ∙ h .past;
+              whole = whole-more;
+            }

@@ -1,16 +1,17 @@
 -- Laws of the flags, of the extended word, and of the bytes before them.
-use mathlib.Core.Path.{_≡_, refl, sym, ap, _∙_}
-use mathlib.Core.List.{List, [], _∷_, _++_, append-assoc}
-use mathlib.Core.Bool.{Bool, true, false, cond, _||_}
-use Prim.Native.Nat.{ℕ, _+_, _-_, _*_, _/_, _%_, _≤_, _<_}
+use mathlib.Core.Path.{_≡_, refl, sym, _∙_}
+use mathlib.Core.List.{List, _++_, append-assoc}
+use mathlib.Core.Bool.{Bool, true, false, _||_}
+use Prim.Native.Nat.{ℕ, _+_, _-_, _*_, _/_, _%_, _≤_}
+use native.Mathlib.Nat.{add-sub-cancel-left}
 use native.Mathlib.Omega.{arith}
-use lib.ListN.{length, take, drop, length-append, length-drop}
-use lib.Seq.{take-add, drop-drop, length-take-le}
+use lib.ListN.{length, take, drop, length-drop}
+use lib.Seq.{take-add, length-take-le}
 use Rattle.format.specs.Bytes.{Bytes, be32s, put16, put32s}
 use Rattle.format.specs.Names.{lengthField}
 use Rattle.format.specs.Records.{Entry}
 use Rattle.format.specs.Layout.{bit, fixedLength, flagsOf, wordOf}
-use Rattle.format.specs.Reader.{isSet, entryOf}
+use Rattle.format.specs.Reader.{entryOf}
 use Rattle.format.specs.Writer.{needsWord, writeName, writeRest, writeEntry}
 use Rattle.format_laws.proofs.Numbers.{length-put16, bytes-drop}
 use Rattle.spelling_entries.proofs.Bytes.{put32s-be32s}
@@ -18,9 +19,8 @@ use Rattle.spelling_entries.proofs.Flags.{bit-isSet}
 use Rattle.output.specs.Output.{Wrote}
 use Rattle.output.proofs.Laws.{wrote-then}
 use Rattle.entries_run.specs.declared.Step.{Step}
-use Rattle.entries_run.specs.Steps.{nameAt, entryAt, Placed}
-use Rattle.entries_run.proofs.Steps.{entryAt-name}
-use Rattle.entries_write.specs.Parts.{Kept, Beside, Told, NameWritten, RestWritten, EntryWritten}
+use Rattle.entries_run.specs.Steps.{nameAt, entryAt}
+use Rattle.entries_write.specs.Parts.{Kept, Told, NameWritten, RestWritten, EntryWritten}
 
 -- ---- the extended word is there where it is not zero
 
@@ -63,8 +63,8 @@ module _ (out name : List ℕ) (at version base word previous kept : ℕ) (out�
       let near = y .near in
       record {
         wrote = λ entry s told beside.
-          let none : needsWord entry ≡ false = needs-none entry (told .word-is ∙ zero) in
-          rw (none, flags-without entry base word name told, told .name-is) (wrote-then out (put16 (base + lengthField (length name))) _ out′ out″ at p r x (y .wrote s beside));
+            let none : needsWord entry ≡ false = needs-none entry (told .word-is ∙ zero) in
+            rw (none, flags-without entry base word name told, told .name-is) (wrote-then out (put16 (base + lengthField (length name))) _ out′ out″ at p r x (y .wrote s beside));
         near = omega arith;
       }
 
@@ -79,11 +79,11 @@ module _ (out name : List ℕ) (at version base word previous kept : ℕ) (out�
       let near = z .near in
       record {
         wrote = λ entry s told beside.
-          let one : needsWord entry ≡ true = needs-one entry (λ none. other (sym (told .word-is) ∙ none)) in
-          rw
-          (one, flags-with entry base word name told, told .word-is, told .name-is)
-          (wrote-then out (put16 (base + lengthField (length name) + 16384)) _ out′ out‴ at p r x
-          (wrote-then out′ (put16 word) _ out″ out‴ p q r y (z .wrote s beside)));
+            let one : needsWord entry ≡ true = needs-one entry (λ none. other (sym (told .word-is) ∙ none)) in
+            rw
+            (one, flags-with entry base word name told, told .word-is, told .name-is)
+            (wrote-then out (put16 (base + lengthField (length name) + 16384)) _ out′ out‴ at p r x
+            (wrote-then out′ (put16 word) _ out″ out‴ p q r y (z .wrote s beside)));
         near = omega arith;
       }
 
@@ -93,34 +93,45 @@ module _ (out name : List ℕ) (at version base word previous kept : ℕ) (out�
 fixed-bytes : (s : List ℕ) → Bytes s → 60 ≤ length s → take 60 s ≡ put32s (be32s s 0 10) ++ take 20 (drop 40 s)
 fixed-bytes s bytes long = take-add 40 20 s ∙ rw (put32s-be32s s 0 10 bytes (omega arith)) refl
 
-pub entry-told : (v : ℕ) (b work : List ℕ) (from : ℕ) (st : Step) (name : List ℕ) → nameAt v b work (st .next .start) (st .next .len) ≡ name
+pub entry-told : (v : ℕ) (b work : List ℕ) (from : ℕ) (st : Step) (name : List ℕ) → name ≡ nameAt v b work (st .next .start) (st .next .len)
     → Told (entryAt v b work from st) (st .flags / 32768 % 2 * 32768 + st .flags / 4096 % 4 * 4096) (st .word / 8192 % 4 * 8192) name
 unfolding entryOf wordOf
 entry-told v b work from st name is =
     record {
       flags = rw (bit-isSet 32768 (st .flags)) refl;
       word-is = rw (bit-isSet 16384 (st .word), bit-isSet 8192 (st .word)) (omega arith);
-      name-is = is;
+      name-is = sym is;
     }
 
-module _ (v : ℕ) (b work : List ℕ) (from : ℕ) (st : Step) (version previous kept : ℕ) (out out′ out″ : List ℕ) (at p r : ℕ) where
-  pub entry-wrote : (name : List ℕ) → nameAt v b work (st .next .start) (st .next .len) ≡ name → Bytes b → from + 62 ≤ length b
-      → Wrote out at (take 60 (drop from b)) out′ p
+module _ (b out out′ : List ℕ) (from at p : ℕ) (there : from + 62 ≤ length b) (x : Wrote out at (take (from + 60 - from) (drop from b)) out′ p) where
+  fixed-wrote : Wrote out at (take 60 (drop from b)) out′ p
+  fixed-wrote = rw add-sub-cancel-left at x
+
+  fixed-long : 60 ≤ length (drop from b)
+  fixed-long = simp length-drop (omega arith)
+
+  pub fixed-end : p ≡ at + 60
+  fixed-end = fixed-wrote .end ∙ rw (length-take-le 60 (drop from b) fixed-long) refl
+
+  pub entry-wrote : (v : ℕ) (work : List ℕ) (st : Step) (version previous kept : ℕ) (out″ : List ℕ) (r : ℕ) (name : List ℕ)
+      → name ≡ nameAt v b work (st .next .start) (st .next .len) → Bytes b
       → RestWritten out′ p version (st .flags / 32768 % 2 * 32768 + st .flags / 4096 % 4 * 4096) (st .word / 8192 % 4 * 8192) name previous kept out″ r
       → EntryWritten out at version (entryAt v b work from st) previous kept out″ r
   unfolding writeEntry entryOf
-  entry-wrote name is bytes there x y =
+  entry-wrote v work st version previous kept out″ r name is bytes y =
       let s : List ℕ = drop from b in
-      let long : length s ≡ length b - from = length-drop from b in
-      let enough : 60 ≤ length s = omega arith in
-      let size : length (take 60 s) ≡ 60 = length-take-le 60 s enough in
-      let e = x .end in
+      let e = fixed-end in
       let near = y .near in
       let told = entry-told v b work from st name is in
-      let parts : take 60 s ≡ put32s (be32s s 0 10) ++ take 20 (drop 40 s) = fixed-bytes s (bytes-drop from b bytes) enough in
+      let parts : take 60 s ≡ put32s (be32s s 0 10) ++ take 20 (drop 40 s) = fixed-bytes s (bytes-drop from b bytes) fixed-long in
       record {
         wrote = λ q beside.
-          let rest = y .wrote (entryAt v b work from st) q told (rw is at beside) in
-          rw (← append-assoc (put32s (be32s s 0 10)) (take 20 (drop 40 s)) _, ← parts) (wrote-then out (take 60 s) _ out′ out″ at p r x rest);
+            let rest = y .wrote (entryAt v b work from st) q told (rw is beside) in
+            rw (← append-assoc (put32s (be32s s 0 10)) (take 20 (drop 40 s)) _, ← parts) (wrote-then out (take 60 s) _ out′ out″ at p r fixed-wrote rest);
         near = omega arith;
       }
+
+pub name-kept : (v : ℕ) (b work : List ℕ) (from : ℕ) (st : Step) (name : List ℕ) (previous kept : ℕ) → name ≡ nameAt v b work (st .next .start) (st .next .len)
+    → Kept (entryAt v b work from st .name) previous kept → Kept name previous kept
+unfolding entryOf
+name-kept v b work from st name previous kept is h = rw is h

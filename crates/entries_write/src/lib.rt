@@ -7,7 +7,7 @@ ghost use Rattle.format.specs.Bytes.{putN};
 ghost use Rattle.format.specs.Reader.{isSet};
 ghost use Rattle.format.specs.Writer.{writePlain, writePacked, writeName};
 ghost use Rattle.output.specs.Output.{Wrote};
-ghost use Rattle.entries_run.specs.Steps.{entryAt, Inside, Placed};
+ghost use Rattle.entries_run.specs.Steps.{nameAt, entryAt, Inside, Placed};
 ghost use Rattle.entries_write.specs.Parts.{Kept, NameWritten, RestWritten, EntryWritten, EntriesWritten};
 use entries_run::Cursor;
 use entries_run::Next;
@@ -54,7 +54,15 @@ pub fn put_packed(out: &mut [u8], at: usize, previous: usize, kept: usize, name:
 }
 
 // A name of a version, of an entry with f bytes before it.
-fn put_name(out: &mut [u8], at: usize, version: u32, f: usize, name: &[u8], previous: usize, kept: usize) -> usize
+fn put_name(
+    out: &mut [u8],
+    at: usize,
+    version: u32,
+    f: usize,
+    name: &[u8],
+    previous: usize,
+    kept: usize,
+) -> usize
     requires { ⌜ (at + 8200 ≤ 1125899906842624) × (f ≤ 64) × Kept (now name) previous kept ⌝ }
     ensures { λ r. ⌜ NameWritten (now (out .entry)) at (now (name .entry)) previous kept (λ p. writeName version f p (now (name .entry))) (now (out .exit)) r ⌝ }
 {
@@ -65,7 +73,16 @@ fn put_name(out: &mut [u8], at: usize, version: u32, f: usize, name: &[u8], prev
 }
 
 // What follows the object name: the flags, the extended word where one of its bits is set, and the name.
-pub fn put_rest(out: &mut [u8], at: usize, version: u32, base: u32, word: u32, name: &[u8], previous: usize, kept: usize) -> usize
+pub fn put_rest(
+    out: &mut [u8],
+    at: usize,
+    version: u32,
+    base: u32,
+    word: u32,
+    name: &[u8],
+    previous: usize,
+    kept: usize,
+) -> usize
     requires { ⌜ (at + 8204 ≤ 1125899906842624) × (base < 65536) × Kept (now name) previous kept ⌝ }
     ensures { λ r. ⌜ RestWritten (now (out .entry)) at version base word (now (name .entry)) previous kept (now (out .exit)) r ⌝ }
 {
@@ -79,8 +96,31 @@ pub fn put_rest(out: &mut [u8], at: usize, version: u32, base: u32, word: u32, n
     put_name(out, end, version, 64, name, previous, kept)
 }
 
+// The name that a step told: first in the workspace in version 4, else at its start in the body.
+fn name_at<'a>(b: &'a [u8], v: u32, work: &'a [u8], start: usize, len: usize) -> &'a [u8]
+    requires { ⌜ (start + len ≤ length (now b)) × (len ≤ length (now work)) ⌝ }
+    ensures { λ r. ⌜ now r ≡ nameAt v (now (b .entry)) (now (work .entry)) start len ⌝ }
+{
+    if v == 4 {
+        return &work[..len];
+    }
+    let end = start + len;
+    &b[start..end]
+}
+
 // The entry at a place of the body, of which a step told the flags, the extended word and where its name stands.
-pub fn put_step(b: &[u8], v: u32, work: &[u8], from: usize, st: Step, version: u32, previous: usize, kept: usize, out: &mut [u8], at: usize) -> usize
+pub fn put_step<'a>(
+    b: &'a [u8],
+    v: u32,
+    work: &'a [u8],
+    from: usize,
+    st: Step,
+    version: u32,
+    previous: usize,
+    kept: usize,
+    out: &mut [u8],
+    at: usize,
+) -> usize
     requires { ⌜ (at + 8264 ≤ 1125899906842624) × Placed (now b) from st × (8192 ≤ length (now work)) × Kept (entryAt v (now b) (now work) from st .name) previous kept ⌝ }
     ensures { λ r. ⌜ EntryWritten (now (out .entry)) at version (entryAt v (now (b .entry)) (now (work .entry)) from st) previous kept (now (out .exit)) r ⌝ }
 {
@@ -88,13 +128,9 @@ pub fn put_step(b: &[u8], v: u32, work: &[u8], from: usize, st: Step, version: u
     let middle = output::put_bytes(&mut *out, at, &b[from..fixed]);
     let base = st.flags / 32768 % 2 * 32768 + st.flags / 4096 % 4 * 4096;
     let word = st.word / 8192 % 4 * 8192;
-    let start = st.next.start;
-    let len = st.next.len;
-    if v == 4 {
-        return put_rest(out, middle, version, base, word, &work[..len], previous, kept);
-    }
-    let end = start + len;
-    put_rest(out, middle, version, base, word, &b[start..end], previous, kept)
+    let next = st.next;
+    let name = name_at(b, v, work, next.start, next.len);
+    put_rest(out, middle, version, base, word, name, previous, kept)
 }
 
 // Whether an entry with this extended word, or 0 without one, needs it, or one before did.
@@ -111,7 +147,16 @@ fn either(extended: bool, word: u32) -> bool
 }
 
 // n entries from a cursor on. One that is refused ends them.
-pub fn put_entries(b: &[u8], v: u32, work: &mut [u8], c: Cursor, n: u32, version: u32, out: &mut [u8], at: usize) -> Progress
+pub fn put_entries(
+    b: &[u8],
+    v: u32,
+    work: &mut [u8],
+    c: Cursor,
+    n: u32,
+    version: u32,
+    out: &mut [u8],
+    at: usize,
+) -> Progress
     requires { ⌜ Inside (now b) c × (8192 ≤ length (now work)) × (at + n * 8264 ≤ 1125899906842624) ⌝ }
     ensures { λ r. ⌜ EntriesWritten v (now (b .entry)) (now (work .entry)) c n version (now (out .entry)) at (now (work .exit)) (now (out .exit)) r ⌝ }
 {
@@ -130,7 +175,18 @@ pub fn put_entries(b: &[u8], v: u32, work: &mut [u8], c: Cursor, n: u32, version
                 };
             }
             Next::Good(st) => {
-                end = put_step(b, v, &*work, cursor.at, st, version, cursor.len, st.common, &mut *out, end);
+                end = put_step(
+                    b,
+                    v,
+                    &*work,
+                    cursor.at,
+                    st,
+                    version,
+                    cursor.len,
+                    st.common,
+                    &mut *out,
+                    end,
+                );
                 extended = either(extended, st.word);
                 cursor = st.next;
             }

@@ -5,19 +5,14 @@ use Rattle.format.specs.Reader.{isSet}
 use borrow.Author.Needs.{needs}
 use Rattle.entries_write.proofs.either.Statement.{statement}
 use Rattle.entries_write.proofs.either.Tie as tie
-use Rattle.entries_write.proofs.either.Reads as reads
-use Rattle.entries_write.proofs.either.Lts as lts
 
--- src/lib.rt:105:9
 returns : tie.Need-returns
 returns c = search needs
 
--- src/lib.rt:108:9
 returns-2 : tie.Need-returns-2
 unfolding isSet
 returns-2 c = rw (c .before .if1 .left, eq-eqb _ _ (c .if2 .taken)) refl
 
--- src/lib.rt:101:1
 returns-3 : tie.Need-returns-3
 unfolding isSet
 returns-3 c = rw (c .before .if1 .left, ne-eqb _ _ (c .if2 .left)) refl

@@ -1,78 +1,88 @@
+-- The proof that `put_entries` meets its contract. The loop keeps that some entries are written, which with those left are all.
+use mathlib.Core.Path.{_∙_}
+use Prim.Native.Nat.{_≤_}
+use native.Mathlib.Omega.{arith}
+use borrow.Author.Needs.{needs}
+use lib.ListN.{length}
+use Rattle.entries_write.proofs.Runs.{Writing, writing-start, writing-bad, step-placed, step-kept, writing-more, writing-end}
 use Rattle.entries_write.proofs.put_entries.Statement.{statement}
 use Rattle.entries_write.proofs.put_entries.Tie as tie
-use Rattle.entries_write.proofs.put_entries.Reads as reads
-use Rattle.entries_write.proofs.put_entries.Lts as lts
-use Rattle.entries_run.proofs.next_entry.Reads as next-entry-reads
-use Rattle.entries_write.proofs.either.Reads as either-reads
-use Rattle.entries_write.proofs.put_step.Reads as put-step-reads
 
 abbrev Inv-loop : tie.InvT-loop
 Inv-loop b v work₀ n version out₀ at cursor₀ end₀ extended₀ left₀ work out cursor end extended left =
-    ?
+    Writing v b work₀ cursor₀ n version out₀ at work out cursor end extended left
 
 abbrev μ-loop : tie.MeasureT-loop
-μ-loop b v work₀ n version out₀ at cursor₀ end₀ extended₀ left₀ work out cursor end extended left =
-    ?
+μ-loop b v work₀ n version out₀ at cursor₀ end₀ extended₀ left₀ work out cursor end extended left = left
 
--- src/lib.rt:122:5
 loop-holds : tie.Need-loop-holds Inv-loop μ-loop
-loop-holds c = ?
+loop-holds c = writing-start _ _ _ _ _ _ _ _ (c .before .before .before .pre .0)
 
--- src/lib.rt:123:13
 next-entry-requires : tie.Need-next-entry-requires Inv-loop μ-loop
-next-entry-requires c κs = ?
+next-entry-requires c κs = let long = c .before .before .loop .inv .long in (c .before .before .loop .inv .inside, omega arith)
 
--- src/lib.rt:126:17
 enum-told : tie.Need-enum-told Inv-loop μ-loop
-enum-told c = ?
+enum-told c = search needs
 
--- src/lib.rt:126:17
 same-length : tie.Need-same-length Inv-loop μ-loop
-same-length c = ?
+same-length c = let t = c .before .before .before .before .next-entry .ensures in t .long ∙ c .before .before .before .before .before .before .before .loop .inv .long
 
--- src/lib.rt:126:17
 same-length-2 : tie.Need-same-length-2 Inv-loop μ-loop
-same-length-2 c = ?
+same-length-2 c = c .before .before .before .before .before .before .before .loop .inv .wrote .long
 
--- src/lib.rt:126:17
 returns : tie.Need-returns Inv-loop μ-loop
-returns c = ?
+returns c =
+    let l = c .before .before .before .before .before .before .before in
+    let t = rw (c .enum-told .given .1) at (c .before .before .before .before .next-entry .ensures) in
+    writing-bad (l .loop .inv) (c .before .before .before .before .before .before .loop-test .taken) t
 
--- src/lib.rt:132:24
 enum-known-g : tie.Need-enum-known-g Inv-loop μ-loop
-enum-known-g c = ?
+enum-known-g c = search needs
 
--- src/lib.rt:133:17
 put-step-requires : tie.Need-put-step-requires Inv-loop μ-loop
-put-step-requires c κs = ?
+put-step-requires c κs =
+    let l = c .before .before .before .before .before .before .before .before .before .before in
+    let more = c .before .before .before .before .before .before .before .before .before .loop-test .taken in
+    let t = rw (c .before .before .before .g .given .1) at (c .before .before .before .before .before .before .before .next-entry .ensures) in
+    let long = t .long in
+    let same = l .loop .inv .long in
+    let near = l .loop .inv .near in
+    let sum = l .loop .inv .count in
+    let room : 8192 ≤ length (l .loop .work) = omega arith in (
+      omega arith,
+      step-placed (l .loop .inv) more t room,
+      omega arith,
+      step-kept (l .loop .inv) more t room,
+    )
 
--- src/lib.rt:134:17
 either-requires : tie.Need-either-requires Inv-loop μ-loop
-either-requires c κs = ?
+either-requires c κs = search needs
 
--- src/lib.rt:138:9
 sub-left : tie.Need-sub-left Inv-loop μ-loop
-sub-left c = ?
+sub-left c = omega arith
 
--- src/lib.rt:122:5
 loop-less : tie.Need-loop-less Inv-loop μ-loop
-loop-less c = ?
+loop-less c = omega arith
 
--- src/lib.rt:122:5
 loop-again : tie.Need-loop-again Inv-loop μ-loop
-loop-again c = ?
+loop-again c =
+    let l = c .before .before .before .before .before .before .before .before .before .before .before .before .before .before .before in
+    let more = c .before .before .before .before .before .before .before .before .before .before .before .before .before .before .loop-test .taken in
+    let t = rw (c .before .before .before .before .before .before .before .before .g .given .1) at (c .before .before .before .before .before .before .before .before .before .before .before .before .next-entry .ensures) in
+    let same = l .loop .inv .long in
+    let room : 8192 ≤ length (l .loop .work) = omega arith in
+    writing-more (l .loop .inv) more t room (c .before .before .before .before .put-step .ensures) (c .before .either .ensures)
 
--- src/lib.rt:114:1
 same-length-3 : tie.Need-same-length-3 Inv-loop μ-loop
-same-length-3 c = ?
+same-length-3 c = c .before .loop .inv .long
 
--- src/lib.rt:114:1
 same-length-4 : tie.Need-same-length-4 Inv-loop μ-loop
-same-length-4 c = ?
+same-length-4 c = c .before .loop .inv .wrote .long
 
--- src/lib.rt:114:1
 returns-2 : tie.Need-returns-2 Inv-loop μ-loop
-returns-2 c = ?
+returns-2 c =
+    let l = c .before in
+    writing-end (l .loop .inv) (c .loop-test .left)
 
 pub put-entries-spec : {M : Type 1} → statement M
 put-entries-spec =

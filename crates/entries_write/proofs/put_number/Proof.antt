@@ -4,57 +4,44 @@ use Rattle.entries_write.proofs.Names.{number-one, number-two}
 use borrow.Author.Needs.{needs}
 use Rattle.entries_write.proofs.put_number.Statement.{statement}
 use Rattle.entries_write.proofs.put_number.Tie as tie
-use Rattle.entries_write.proofs.put_number.Reads as reads
-use Rattle.entries_write.proofs.put_number.Lts as lts
-use Rattle.output.proofs.put_byte.Reads as put-byte-reads
 
--- src/lib.rt:29:42
 cast-put-byte : tie.Need-cast-put-byte
 cast-put-byte c = search needs
 
--- src/lib.rt:29:9
 put-byte-requires : tie.Need-put-byte-requires
 put-byte-requires c κs = search needs
 
--- src/lib.rt:29:9
 same-length : tie.Need-same-length
 same-length c = search needs
 
--- src/lib.rt:29:9
 returns : tie.Need-returns
 returns c = number-one _ _ _ _ _ (omega arith) (c .before .before .put-byte .ensures)
 
--- src/lib.rt:31:51
 add-put-byte : tie.Need-add-put-byte
 add-put-byte c = search needs
 
--- src/lib.rt:31:51
 sub-put-byte : tie.Need-sub-put-byte
 sub-put-byte c = search needs
 
--- src/lib.rt:31:50
 cast-put-byte-2 : tie.Need-cast-put-byte-2
 cast-put-byte-2 c = search needs
 
--- src/lib.rt:31:9
 put-byte-requires-2 : tie.Need-put-byte-requires-2
 put-byte-requires-2 c κs = search needs
 
--- src/lib.rt:32:35
 cast-put-byte-3 : tie.Need-cast-put-byte-3
 cast-put-byte-3 c = search needs
 
--- src/lib.rt:32:5
 put-byte-requires-3 : tie.Need-put-byte-requires-3
 put-byte-requires-3 c κs = search needs
 
--- src/lib.rt:24:1
 same-length-2 : tie.Need-same-length-2
 same-length-2 c = search needs
 
--- src/lib.rt:24:1
 returns-2 : tie.Need-returns-2
-returns-2 c = number-two _ _ _ _ _ _ _ (omega arith) (c .before .before .before .before .before .before .put-byte2 .ensures) (c .before .before .put-byte3 .ensures)
+returns-2 c =
+    let high = c .before .before .before .before .before .before in
+    number-two _ _ _ _ _ _ _ (omega arith) (high .put-byte2 .ensures) (c .before .before .put-byte3 .ensures)
 
 pub put-number-spec : {M : Type 1} → statement M
 put-number-spec =

@@ -6,76 +6,60 @@ use Rattle.format_laws.proofs.Numbers.{length-put16}
 use borrow.Author.Needs.{needs}
 use Rattle.entries_write.proofs.put_rest.Statement.{statement}
 use Rattle.entries_write.proofs.put_rest.Tie as tie
-use Rattle.entries_write.proofs.put_rest.Reads as reads
-use Rattle.entries_write.proofs.put_rest.Lts as lts
-use Rattle.entries_write.proofs.put_name.Reads as put-name-reads
-use Rattle.fields.proofs.length_field.Reads as length-field-reads
-use Rattle.output.proofs.put_16.Reads as put-16-reads
 
--- src/lib.rt:72:24
 length-field-requires : tie.Need-length-field-requires
 length-field-requires c κs = search needs
 
--- src/lib.rt:72:17
 add-flags : tie.Need-add-flags
 unfolding lengthField
 add-flags c = let f = c .length-field .ensures in omega arith
 
--- src/lib.rt:74:13
 put-16-requires : tie.Need-put-16-requires
 put-16-requires c κs = search needs
 
--- src/lib.rt:75:9
 put-name-requires : tie.Need-put-name-requires
 put-name-requires c κs =
-    let e = c .before .before .before .put-16 .ensures .end in
-    let two = rw length-put16 at e in
-    (omega arith, omega arith, c .before .before .before .before .before .before .before .before .before .pre .2)
+    let start = c .before .before .before .before .before .before .before .before .before in
+    let two = rw length-put16 at (c .before .before .before .put-16 .ensures .end) in
+    (omega arith, omega arith, start .pre .2)
 
--- src/lib.rt:75:9
 same-length : tie.Need-same-length
 same-length c = search needs
 
--- src/lib.rt:75:9
 returns : tie.Need-returns
 returns c =
-    let f = c .before .before .before .before .before .before .before .before .before .length-field .ensures in
-    rest-short _ _ _ _ _ _ _ _ _ _ _ _ (c .before .before .before .before .before .before .before .before .if1 .taken) (rw f at (c .before .before .before .before .before .before .put-16 .ensures)) (c .before .before .put-name .ensures)
+    let put = c .before .before .before .before .before .before in
+    let test = c .before .before .before .before .before .before .before .before in
+    let field = c .before .before .before .before .before .before .before .before .before .length-field .ensures in
+    rest-short _ _ _ _ _ _ _ _ _ _ _ _ (test .if1 .taken) (rw field at (put .put-16 .ensures)) (c .before .before .put-name .ensures)
 
--- src/lib.rt:77:48
 add-put-16 : tie.Need-add-put-16
 unfolding lengthField
 add-put-16 c = let f = c .before .before .length-field .ensures in omega arith
 
--- src/lib.rt:77:9
 put-16-requires-2 : tie.Need-put-16-requires-2
 put-16-requires-2 c κs = search needs
 
--- src/lib.rt:78:9
 put-16-requires-3 : tie.Need-put-16-requires-3
-put-16-requires-3 c κs =
-    let e = c .before .before .before .put-162 .ensures .end in
-    let two = rw length-put16 at e in
-    omega arith
+put-16-requires-3 c κs = let two = rw length-put16 at (c .before .before .before .put-162 .ensures .end) in omega arith
 
--- src/lib.rt:79:5
 put-name-requires-2 : tie.Need-put-name-requires-2
 put-name-requires-2 c κs =
-    let e = c .before .before .before .before .before .before .before .put-162 .ensures .end in
-    let two = rw length-put16 at e in
-    let f = c .before .before .before .put-163 .ensures .end in
-    let four = rw length-put16 at f in
-    (omega arith, omega arith, c .before .before .before .before .before .before .before .before .before .before .before .before .before .pre .2)
+    let start = c .before .before .before .before .before .before .before .before .before .before .before .before .before in
+    let two = rw length-put16 at (c .before .before .before .before .before .before .before .put-162 .ensures .end) in
+    let four = rw length-put16 at (c .before .before .before .put-163 .ensures .end) in
+    (omega arith, omega arith, start .pre .2)
 
--- src/lib.rt:68:1
 same-length-2 : tie.Need-same-length-2
 same-length-2 c = search needs
 
--- src/lib.rt:68:1
 returns-2 : tie.Need-returns-2
 returns-2 c =
-    let f = c .before .before .before .before .before .before .before .before .before .before .before .before .before .length-field .ensures in
-    rest-long _ _ _ _ _ _ _ _ _ _ _ _ _ _ (c .before .before .before .before .before .before .before .before .before .before .before .before .if1 .left) (rw f at (c .before .before .before .before .before .before .before .before .before .before .put-162 .ensures)) (c .before .before .before .before .before .before .put-163 .ensures) (c .before .before .put-name2 .ensures)
+    let word = c .before .before .before .before .before .before in
+    let flags = c .before .before .before .before .before .before .before .before .before .before in
+    let test = c .before .before .before .before .before .before .before .before .before .before .before .before in
+    let field = c .before .before .before .before .before .before .before .before .before .before .before .before .before .length-field .ensures in
+    rest-long _ _ _ _ _ _ _ _ _ _ _ _ _ _ (test .if1 .left) (rw field at (flags .put-162 .ensures)) (word .put-163 .ensures) (c .before .before .put-name2 .ensures)
 
 pub put-rest-spec : {M : Type 1} → statement M
 put-rest-spec =

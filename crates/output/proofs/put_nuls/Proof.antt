@@ -1,10 +1,9 @@
 -- The proof that `put_nuls` meets its contract. What is left to write falls.
-use mathlib.Core.Path.{_≡_, refl, sym, ap, _∙_}
-use mathlib.Core.List.{[], _∷_, _++_}
-use Prim.Native.Nat.{ℕ, _+_, _-_, _≤_}
+use mathlib.Core.Path.{_≡_}
+use Prim.Native.Nat.{_+_, _-_, _≤_}
 use native.Mathlib.Nat.{sub-self}
 use native.Mathlib.Omega.{arith}
-use lib.ListN.{length, replicate, length-replicate, replicate-append-replicate}
+use lib.ListN.{replicate}
 use Rattle.output.specs.Output.{Wrote}
 use Rattle.output.proofs.Laws.{wrote-nothing, wrote-nul}
 use Rattle.output.proofs.put_nuls.Statement.{statement}
