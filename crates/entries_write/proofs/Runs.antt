@@ -12,14 +12,14 @@ use Rattle.format.specs.Reading.{good}
 use Rattle.format.specs.Reader.{isSet, entryOf}
 use Rattle.format.specs.Writer.{needsWord, writeEntry, writeEntries}
 use Rattle.format.specs.Requests.{anyWord}
-use Rattle.spelling_entries.proofs.Reading.{bad-good}
+use Rattle.format_laws.proofs.Readings.{bad-good, front-inv}
 use Rattle.output.specs.Output.{Wrote}
 use Rattle.output.proofs.Laws.{wrote-nothing, wrote-then}
 use Rattle.entries_run.specs.declared.Cursor.{Cursor}
 use Rattle.entries_run.specs.declared.Step.{Step}
 use Rattle.entries_run.specs.declared.Next.the-variants as N
 use Rattle.entries_run.specs.Steps.{nameAt, keyAt, entryAt, Inside, Found, Stepped, Placed, runFrom}
-use Rattle.entries_run.proofs.Steps.{front-inv, entries-bad, entries-good, entryAt-name}
+use Rattle.entries_run.proofs.Steps.{entries-bad, entries-good, entryAt-name}
 use Rattle.entries_write.specs.Parts.{Kept, Beside, EntryWritten, lastName, EntriesWritten}
 use Rattle.entries_write.proofs.Names.{common-le, nameAt-length}
 use Rattle.entries_write.proofs.Lists.{entries-append, entries-one, anyWord-append, anyWord-one, lastName-append, lastName-one}
