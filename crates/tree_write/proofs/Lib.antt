@@ -2,4 +2,6 @@
 pub mod Nodes
 pub mod Trees
 pub mod Names
+pub mod Ways
 pub mod Steps
+pub mod Wholes

@@ -1,14 +1,14 @@
 -- What is written of one node, in parts of the bytes that it was read from.
 use mathlib.Core.Path.{_≡_, refl, sym, ap, subst, _∙_}
 use mathlib.Core.List.{List, [], _∷_, _++_, append-assoc}
-use mathlib.Core.Bool.{Bool, true, false, true≢false}
-use Prim.Native.Nat.{ℕ, suc, _+_, _-_, _≤_, _<_}
+use mathlib.Core.Bool.{true, false, true≢false}
+use Prim.Native.Nat.{ℕ, suc, _+_, _-_, _≤_}
 use native.Mathlib.Omega.{arith}
-use lib.ListN.{length, take, drop, replicate, length-append, length-drop, take-append-drop}
+use lib.ListN.{length, take, drop, length-append, length-drop, take-append-drop}
 use lib.Seq.{drop-drop, drop-append-seam, take-at, length-take-le}
-use Rattle.format.specs.Bytes.{before, decimal, value}
-use Rattle.format.specs.Records.{Count, valid, invalid, Node}
-use Rattle.format.specs.Layout.{CountText, ObjectBytes, IsNode}
+use Rattle.format.specs.Bytes.{before, decimal}
+use Rattle.format.specs.Records.{Count, valid, invalid}
+use Rattle.format.specs.Layout.{CountText, ObjectBytes}
 use Rattle.format.specs.Reading.{Read, bad, good}
 use Rattle.format.specs.Reader.{Head, readNode}
 use Rattle.format.specs.Writer.{decimalOf, writeCount, writeObject, writeNode}
@@ -25,7 +25,18 @@ use Rattle.cache_tree.specs.Answers.{isValid, objectLength, nodeOf, nodeAt}
 use Rattle.format_laws.proofs.Lists.{drop-to}
 use Rattle.output.specs.Output.{Wrote}
 use Rattle.output.proofs.Laws.{wrote-then}
-use Rattle.tree_write.specs.Written.{NodeHere, NodeWritten}
+use Rattle.tree_write.specs.Written.{NodeHere, asIs, madeInvalid, NodeWritten}
+
+-- ---- one count
+
+by-count {ℓ} : {X : Type ℓ} (c : Count) → ((n : ℕ) → c ≡ valid n → X) → (c ≡ invalid → X) → X
+by-count (valid n) f g = f n refl
+by-count invalid f g = g refl
+
+-- a node that is invalid stays as it is
+invalid-same : (w : ℕ) (h : Head) → h .node .count ≡ invalid → madeInvalid w h ≡ asIs h
+unfolding writeNode invalidNode writeObject
+invalid-same w h is = rw is
 
 -- ---- the lengths of a count's text and of an object name
 
@@ -108,7 +119,6 @@ pub record Stands (d : List ℕ) (place : ℕ) (node : Code.Node) : Type 0 where
   pub reads : readNode 20 0 (drop place d) ≡ good head took
   pub cut : Cut (drop place d) head took
   pub valid : node .valid ≡ isValid (head .node .count)
-  pub subtrees : node .subtrees ≡ head .subtrees
   pub nul : node .nul ≡ place + length (head .node .name)
   pub object : node .object + length (cut .tail) ≡ place + took
   pub next : node .next ≡ place + took
@@ -132,7 +142,6 @@ module _ (d : List ℕ) (place : ℕ) (inside : place ≤ length d) (node : Code
         reads = q;
         cut = cut;
         valid = ap (λ (n : Code.Node). n .valid) is;
-        subtrees = ap (λ (n : Code.Node). n .subtrees) is;
         nul = ap (λ (n : Code.Node). n .nul) is;
         object = omega arith;
         next = ap (λ (n : Code.Node). n .next) is;
@@ -142,7 +151,7 @@ module _ (d : List ℕ) (place : ℕ) (inside : place ≤ length d) (node : Code
   pub stands : NodeHere d place node → Stands d place node
   stands here = stands-by (readNode 20 0 (drop place d)) refl (here .read)
 
-head-is : {a b : Head} {m n : ℕ} → good a m ≡ good b n → a ≡ b
+pub head-is : {a b : Head} {m n : ℕ} → good a m ≡ good b n → a ≡ b
 head-is e = cc
 
 -- the head that a reading at the place gives
@@ -150,7 +159,7 @@ pub stands-head : (d : List ℕ) (place : ℕ) (node : Code.Node) (x : Stands d 
 stands-head d place node x h m q = head-is (sym (x .reads) ∙ q)
 
 module _ (d : List ℕ) (place : ℕ) (node : Code.Node) (x : Stands d place node) where
-  -- the text of the whole reading is that of the head that was read
+  -- what was written of the node that stands there
   told : (text : Head → List ℕ) (out out′ : List ℕ) (at r : ℕ) → Wrote out at (text (x .head)) out′ r → length (text (x .head)) ≤ x .took → NodeWritten text d place node out at out′ r
   told text out out′ at r wrote few =
       let e = wrote .end in
@@ -185,7 +194,7 @@ module _ (d : List ℕ) (place : ℕ) (node : Code.Node) (x : Stands d place nod
         let within = x .within in
         (omega arith, omega arith)
 
-    invalid-parts : writeNode (invalidNode 20 (x .head .node)) (x .head .subtrees)
+    invalid-parts : madeInvalid 20 (x .head)
         ≡ take (node .nul + 1 - place) (drop place d) ++ ((45 ∷ []) ++ ((49 ∷ []) ++ take (node .object - space) (drop space d)))
     unfolding writeNode invalidNode writeCount writeObject
     invalid-parts =
@@ -199,7 +208,7 @@ module _ (d : List ℕ) (place : ℕ) (node : Code.Node) (x : Stands d place nod
         sym (drop-to d place (length (x .head .node .name) + 1 + length (x .cut .text)) space space-at) in
         rw (front, x .cut .front, back, from, x .cut .between, x .cut .middle-is) (sym (append-assoc (x .head .node .name) (0 ∷ []) _))
 
-    invalid-short : length (writeNode (invalidNode 20 (x .head .node)) (x .head .subtrees)) ≤ x .took
+    invalid-short : length (madeInvalid 20 (x .head)) ≤ x .took
     unfolding writeNode invalidNode writeCount writeObject
     invalid-short =
         let middle = ap length (x .cut .middle-is) in
@@ -209,42 +218,34 @@ module _ (d : List ℕ) (place : ℕ) (node : Code.Node) (x : Stands d place nod
 
     pub invalid-written : (out out₁ out₂ out₃ out′ : List ℕ) (at p₁ p₂ p₃ r : ℕ) → Wrote out at (take (node .nul + 1 - place) (drop place d)) out₁ p₁
         → Wrote out₁ p₁ (45 ∷ []) out₂ p₂ → Wrote out₂ p₂ (49 ∷ []) out₃ p₃ → Wrote out₃ p₃ (take (node .object - space) (drop space d)) out′ r
-        → NodeWritten (λ h. writeNode (invalidNode 20 (h .node)) (h .subtrees)) d place node out at out′ r
+        → NodeWritten (madeInvalid 20) d place node out at out′ r
     invalid-written out out₁ out₂ out₃ out′ at p₁ p₂ p₃ r a b c e =
         let whole = wrote-then _ _ _ _ _ _ _ _ a (wrote-then _ _ _ _ _ _ _ _ b (wrote-then _ _ _ _ _ _ _ _ c e)) in
-        told (λ h. writeNode (invalidNode 20 (h .node)) (h .subtrees)) out out′ at r (rw invalid-parts whole) invalid-short
+        told (madeInvalid 20) out out′ at r (rw invalid-parts whole) invalid-short
 
   -- ---- as it is
 
-  by-count {ℓ} : {X : Type ℓ} (c : Count) → ((n : ℕ) → c ≡ valid n → X) → (c ≡ invalid → X) → X
-  by-count (valid n) f g = f n refl
-  by-count invalid f g = g refl
-
   module _ (out out′ : List ℕ) (at r : ℕ) where
     pub valid-written : node .valid ≡ true → Wrote out at (take (node .next - place) (drop place d)) out′ r
-        → NodeWritten (λ h. writeNode (h .node) (h .subtrees)) d place node out at out′ r
+        → NodeWritten asIs d place node out at out′ r
     valid-written v wrote =
         let e = x .next in
         let took : node .next - place ≡ x .took = omega arith in
         let h = x .head in
         by-count (h .node .count)
         (λ n is.
-        let copy : writeNode (h .node) (h .subtrees) ≡ take (x .took) (drop place d) = valid-copied 20 0 (drop place d) h (x .took) n (x .reads) is in
-        let few : length (writeNode (h .node) (h .subtrees)) ≤ x .took = omega (arith, ap length copy, length-take-le (x .took) (drop place d) (x .cut .within)) in
-        told (λ i. writeNode (i .node) (i .subtrees)) out out′ at r (rw copy (rw took at wrote)) few)
+        let copy : asIs h ≡ take (x .took) (drop place d) = valid-copied 20 0 (drop place d) h (x .took) n (x .reads) is in
+        let few : length (asIs h) ≤ x .took = omega (arith, ap length copy, length-take-le (x .took) (drop place d) (x .cut .within)) in
+        told asIs out out′ at r (rw copy (rw took at wrote)) few)
         (λ is. absurd (true≢false (sym v ∙ x .valid ∙ ap isValid is)))
 
-    invalid-same : (n : Node) (k : ℕ) → n .count ≡ invalid → writeNode (invalidNode 20 n) k ≡ writeNode n k
-    unfolding writeNode invalidNode writeObject
-    invalid-same n k is = rw is
-
-    pub invalid-kept : node .valid ≡ false → NodeWritten (λ h. writeNode (invalidNode 20 (h .node)) (h .subtrees)) d place node out at out′ r
-        → NodeWritten (λ h. writeNode (h .node) (h .subtrees)) d place node out at out′ r
+    pub invalid-kept : node .valid ≡ false → NodeWritten (madeInvalid 20) d place node out at out′ r
+        → NodeWritten asIs d place node out at out′ r
     invalid-kept v w =
         let count : x .head .node .count ≡ invalid = by-count (x .head .node .count) (λ n is. absurd (true≢false (sym (ap isValid is) ∙ sym (x .valid) ∙ v))) (λ is. is) in
         record {
           wrote = λ h m q.
-            let is : h .node .count ≡ invalid = ap (λ (i : Head). i .node .count) (sym (stands-head d place node x h m q)) ∙ count in
-            rw (invalid-same (h .node) (h .subtrees) is) at (w .wrote h m q);
+              let is : h .node .count ≡ invalid = ap (λ (i : Head). i .node .count) (sym (stands-head d place node x h m q)) ∙ count in
+              rw (invalid-same 20 h is) at (w .wrote h m q);
           short = w .short;
         }

@@ -1,12 +1,11 @@
 -- Trees that are written one after another. Those that are still to write are one list of siblings.
-use mathlib.Core.Path.{_≡_, refl, sym, ap, subst, _∙_}
-use mathlib.Core.List.{List, [], _∷_, _++_, append-assoc}
-use Prim.Native.Nat.{ℕ, suc, _+_, _-_, _≤_, _<_}
+use mathlib.Core.Path.{_≡_, refl, ap, _∙_}
+use mathlib.Core.List.{List, [], _++_, append-assoc}
+use Prim.Native.Nat.{ℕ, _+_, _-_, _≤_, _<_}
 use native.Mathlib.Omega.{arith}
 use lib.ListN.{drop}
 use Rattle.format.specs.Records.{Node, Forest, nil, tree, width}
-use Rattle.format.specs.Reading.{good}
-use Rattle.format.specs.Reader.{Head, readNode}
+use Rattle.format.specs.Reader.{readNode}
 use Rattle.format.specs.Writer.{writeNode, writeForest}
 use Rattle.cache_tree.specs.declared.node.Node as Code
 use Rattle.cache_tree.specs.declared.node.NodeRead.the-variants as R
@@ -17,7 +16,7 @@ use Rattle.tree_walk.proofs.Siblings.{First, reads-first, reads-empty}
 use Rattle.tree_walk.proofs.Trees.{chain, reads-chain, reads-at, NodeAt, node-at, no-bad}
 use Rattle.output.specs.Output.{Wrote}
 use Rattle.output.proofs.Laws.{wrote-nothing, wrote-then}
-use Rattle.tree_write.specs.Written.{NodeHere, NodeWritten}
+use Rattle.tree_write.specs.Written.{NodeHere, asIs, NodeWritten}
 
 -- ---- two lists of siblings
 
@@ -59,7 +58,7 @@ module _ (d out₀ : List ℕ) (at : ℕ) (s : List ℕ) (place pending : ℕ) (
     left-stop e = absurd (no-bad place (first-of .own) (first-of .head) _ (first-of .node) e)
 
     module _ (node : Code.Node) (here : NodeHere d place node) (out₁ : List ℕ) (end₁ : ℕ)
-        (written : NodeWritten (λ h. writeNode (h .node) (h .subtrees)) d place node out end out₁ end₁) where
+        (written : NodeWritten asIs d place node out end out₁ end₁) where
       node-here : NodeAt node place (first-of .own) (first-of .head)
       node-here = node-at node place (first-of .own) (first-of .head) _ (first-of .node) (here .read)
 

@@ -1,12 +1,16 @@
 -- What is written of nodes that stand in the data d of a cache tree, from a place on.
 use mathlib.Core.Path.{_≡_}
 use mathlib.Core.List.{List}
+use mathlib.Core.Bool.{true}
 use Prim.Native.Nat.{ℕ, _+_, _≤_}
 use lib.ListN.{length, drop}
-use Rattle.format.specs.Records.{Forest}
+use Rattle.format.specs.Records.{Forest, Tree}
+use Rattle.format.specs.Layout.{distinct}
 use Rattle.format.specs.Reading.{good}
-use Rattle.format.specs.Reader.{Head, readNode}
-use Rattle.format.specs.Writer.{writeForest}
+use Rattle.format.specs.Reader.{Head, readNode, readNodes}
+use Rattle.format.specs.Writer.{writeNode, writeForest}
+use Rattle.format.specs.Requests.{invalidNode, invalidWay}
+use Rattle.tree_counts.proofs.Siblings.{Sound}
 use Rattle.cache_tree.specs.declared.node.Node.{Node}
 use Rattle.cache_tree.specs.declared.node.NodeRead.the-variants as R
 use Rattle.cache_tree.specs.Answers.{nodeAt}
@@ -25,7 +29,14 @@ pub record Room (d : List ℕ) (place at : ℕ) : Type 0 where
 pub record NodeHere (d : List ℕ) (place : ℕ) (node : Node) : Type 0 where
   pub read : R.Good node ≡ nodeAt place (readNode 20 0 (drop place d))
 
--- a text of it was written; what is written of a node is not longer than the node
+-- what is written of a node, as it is or made invalid
+abbrev pub asIs : Head → List ℕ
+asIs h = writeNode (h .node) (h .subtrees)
+
+abbrev pub madeInvalid : ℕ → Head → List ℕ
+madeInvalid w h = writeNode (invalidNode w (h .node)) (h .subtrees)
+
+-- one of the two was written; it is not longer than the node
 pub record NodeWritten (text : Head → List ℕ) (d : List ℕ) (place : ℕ) (node : Node) (out : List ℕ) (at : ℕ) (out′ : List ℕ) (r : ℕ) : Type 0 where
   pub wrote : (h : Head) (m : ℕ) → readNode 20 0 (drop place d) ≡ good h m → Wrote out at (text h) out′ r
   pub short : r + place ≤ at + node .next
@@ -36,3 +47,13 @@ pub record TreesWritten (d : List ℕ) (place n : ℕ) (out : List ℕ) (at : �
   pub ended : r .place ≡ place + treesLength n (drop place d)
   pub within : r .place ≤ length d
   pub short : r .at + place ≤ at + r .place
+
+-- k siblings were written, those on the way to a name's directory made invalid
+pub record WayWritten (name d : List ℕ) (place k : ℕ) (out : List ℕ) (at : ℕ) (out′ : List ℕ) (r : ℕ) : Type 0 where
+  pub wrote : (f : Forest) (m : ℕ) → Sound f → Reads (drop place d) f k m → Wrote out at (writeForest (invalidWay 20 name f)) out′ r
+  pub short : r + place ≤ at + length d
+
+-- a text of the tree that the whole data say was written
+pub record WholeWritten (text : Tree → List ℕ) (d out : List ℕ) (at : ℕ) (out′ : List ℕ) (r : ℕ) : Type 0 where
+  pub wrote : (t : Tree) (m : ℕ) → readNodes 20 0 d ≡ good t m → distinct (t .subtrees) ≡ true → Wrote out at (text t) out′ r
+  pub short : r ≤ at + length d

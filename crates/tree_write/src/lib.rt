@@ -8,42 +8,39 @@ use fields::find;
 use output::put_byte;
 use output::put_bytes;
 ghost use mathlib.Core.Path.{_≡_};
-ghost use Prim.Native.Nat.{ℕ, _+_, _-_, _≤_, _<_};
+ghost use mathlib.Core.Bool.{cond};
+ghost use Prim.Native.Nat.{_-_, _≤_, _<_};
 ghost use lib.ListN.{length, take, drop};
-ghost use Rattle.format.specs.Records.{Forest};
 ghost use Rattle.format.specs.Layout.{under};
-ghost use Rattle.format.specs.Writer.{writeNode, writeForest};
-ghost use Rattle.format.specs.Requests.{invalidNode, invalidWay};
-ghost use Rattle.tree_counts.proofs.Siblings.{Sound};
-ghost use Rattle.cache_tree.proofs.Flat.{Reads};
-ghost use Rattle.output.specs.Output.{Wrote};
-ghost use Rattle.tree_write.specs.Written.{Room, NodeHere, NodeWritten, TreesWritten};
+ghost use Rattle.format.specs.Writer.{writeTree};
+ghost use Rattle.format.specs.Requests.{invalidTree};
+ghost use Rattle.tree_write.specs.Written.{Room, NodeHere, asIs, madeInvalid, NodeWritten, TreesWritten, WayWritten, WholeWritten};
 ghost use Rattle.tree_write.specs.Steps.{Ready, Stepped};
 
 // A place of the data and one of the output, after some trees.
-pub struct Passed {
-    pub place: usize,
-    pub at: usize,
+struct Passed {
+    place: usize,
+    at: usize,
 }
 
-// A node made invalid: its name and NUL, "-1", and what stands from the space up to its LF.
+// A node made invalid: its name and NUL, "-1", and what stands from the space up to the LF.
 fn put_invalid(d: &[u8], place: usize, node: Node, out: &mut [u8], at: usize) -> usize
     requires { ⌜ Room (now d) place at × NodeHere (now d) place node ⌝ }
-    ensures { λ r. ⌜ NodeWritten (λ h. writeNode (invalidNode 20 (h .node)) (h .subtrees)) (now (d .entry)) place node (now (out .entry)) at (now (out .exit)) r ⌝ }
+    ensures { λ r. ⌜ NodeWritten (madeInvalid 20) (now (d .entry)) place node (now (out .entry)) at (now (out .exit)) r ⌝ }
 {
     let count = node.nul + 1;
     let object = node.object;
-    let space = find(d, count, 32);
+    let space = find(d, count, b' ');
     let named = put_bytes(&mut *out, at, &d[place..count]);
-    let minus = put_byte(&mut *out, named, 45);
-    let one = put_byte(&mut *out, minus, 49);
+    let minus = put_byte(&mut *out, named, b'-');
+    let one = put_byte(&mut *out, minus, b'1');
     put_bytes(out, one, &d[space..object])
 }
 
-// A node.
+// A node as it is: copied where it is valid.
 fn put_node(d: &[u8], place: usize, node: Node, out: &mut [u8], at: usize) -> usize
     requires { ⌜ Room (now d) place at × NodeHere (now d) place node ⌝ }
-    ensures { λ r. ⌜ NodeWritten (λ h. writeNode (h .node) (h .subtrees)) (now (d .entry)) place node (now (out .entry)) at (now (out .exit)) r ⌝ }
+    ensures { λ r. ⌜ NodeWritten asIs (now (d .entry)) place node (now (out .entry)) at (now (out .exit)) r ⌝ }
 {
     if node.valid {
         let next = node.next;
@@ -82,8 +79,8 @@ fn put_trees(d: &[u8], start: usize, n: u64, out: &mut [u8], at: usize) -> Passe
     }
 }
 
-// A place among siblings: so many are left, and so many more trees follow them, of the levels above. From a byte of the name on it is the name in
-// their directory.
+// A place on the way to a name's directory: how many siblings are left there, how many trees of the levels above follow them, and the byte from
+// which on the name is one in their directory.
 struct Way {
     place: usize,
     at: usize,
@@ -104,7 +101,7 @@ fn is_under(d: &[u8], place: usize, nul: usize, name: &[u8], from: usize) -> boo
     if name.len() - from <= n {
         return false;
     }
-    name[from + n] == 47
+    name[from + n] == b'/'
 }
 
 // One sibling. Where the name is in its directory it is made invalid, its subtrees are the next siblings, and the siblings after it follow later:
@@ -148,7 +145,7 @@ fn step(d: &[u8], name: &[u8], out: &mut [u8], w: Way) -> Way
 // k siblings at a place, of which those on the way to a name's directory are made invalid.
 fn put_way(d: &[u8], start: usize, k: u32, name: &[u8], out: &mut [u8], at: usize) -> usize
     requires { ⌜ Room (now d) start at ⌝ }
-    ensures { λ r. ⌜ ((f : Forest) (m : ℕ) → Sound f → Reads (drop start (now (d .entry))) f k m → Wrote (now (out .entry)) at (writeForest (invalidWay 20 (now (name .entry)) f)) (now (out .exit)) r) × (r + start ≤ at + length (now (d .entry))) ⌝ }
+    ensures { λ r. ⌜ WayWritten (now (name .entry)) (now (d .entry)) start k (now (out .entry)) at (now (out .exit)) r ⌝ }
 {
     let mut w = Way {
         place: start,
@@ -161,5 +158,32 @@ fn put_way(d: &[u8], start: usize, k: u32, name: &[u8], out: &mut [u8], at: usiz
         w = step(d, name, &mut *out, w);
     }
     let passed = put_trees(d, w.place, w.later, out, w.at);
+    passed.at
+}
+
+// The whole data, of which the root and the nodes on the way to a name's directory are made invalid.
+fn put_invalid_tree(d: &[u8], name: &[u8], out: &mut [u8], at: usize) -> usize
+    requires { ⌜ Room (now d) 0 at ⌝ }
+    ensures { λ r. ⌜ WholeWritten (λ t. writeTree (invalidTree 20 (now (name .entry)) t)) (now (d .entry)) (now (out .entry)) at (now (out .exit)) r ⌝ }
+{
+    let read = read_node(d, 0);
+    match read {
+        NodeRead::Bad => at,
+        NodeRead::Good(root) => {
+            let end = put_invalid(d, 0, root, &mut *out, at);
+            put_way(d, root.next, root.subtrees, name, out, end)
+        }
+    }
+}
+
+// The whole data of a tree that was read, as it is or made invalid on the way to a name's directory.
+pub fn put_tree(d: &[u8], way: bool, name: &[u8], out: &mut [u8], at: usize) -> usize
+    requires { ⌜ (length (now d) ≤ 16777216) × (at ≤ 562949953421312) ⌝ }
+    ensures { λ r. ⌜ WholeWritten (λ t. writeTree (cond way (invalidTree 20 (now (name .entry)) t) t)) (now (d .entry)) (now (out .entry)) at (now (out .exit)) r ⌝ }
+{
+    if way {
+        return put_invalid_tree(d, name, out, at);
+    }
+    let passed = put_trees(d, 0, 1, out, at);
     passed.at
 }

@@ -34,7 +34,7 @@ sub-if1 c = search needs
 returns : tie.Need-returns
 returns c =
     let p = c .before .before .before .before .before .before .pre in
-    sym (name-differs _ _ _ _ _ _ (p .0) (p .1) (p .2) (c .before .common .ensures .0) (c .if1 .taken))
+    sym (name-differs _ _ _ _ _ (p .0) (p .1) (p .2) _ (c .before .common .ensures .0) (c .if1 .taken))
 
 sub-if2 : tie.Need-sub-if2
 sub-if2 c = search needs
@@ -43,7 +43,7 @@ returns-2 : tie.Need-returns-2
 returns-2 c =
     let p = c .before .before .before .before .before .before .before .pre in
     let e = simp (length-take, length-drop) at (c .before .before .common .ensures .1) in
-    sym (name-ends _ _ _ _ _ _ (p .0) (p .1) (p .2) (c .before .before .common .ensures .0) (omega arith) (c .if2 .taken))
+    sym (name-ends _ _ _ _ _ (p .0) (p .1) (p .2) _ (c .before .before .common .ensures .0) (omega arith) (c .if2 .taken))
 
 add-result : tie.Need-add-result
 add-result c = search needs
@@ -56,7 +56,7 @@ returns-3 c =
     let n = c .before .before .before in
     let p = n .before .before .before .before .before .pre in
     let e = simp (length-take, length-drop) at (n .common .ensures .1) in
-    sym (name-goes-on _ _ _ _ _ _ (p .0) (p .1) (p .2) (n .common .ensures .0) (omega arith) (omega arith) (omega arith))
+    sym (name-goes-on _ _ _ _ _ (p .0) (p .1) (p .2) _ (n .common .ensures .0) (omega arith) (omega arith) (omega arith))
 
 pub is-under-spec : {M : Type 1} → statement M
 is-under-spec =

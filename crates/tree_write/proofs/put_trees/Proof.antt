@@ -8,7 +8,7 @@ use lib.ListN.{length, drop}
 use Rattle.format.specs.Records.{Forest}
 use Rattle.format.specs.Writer.{writeForest}
 use Rattle.cache_tree.specs.Flat.{treesLength}
-use Rattle.cache_tree.proofs.Nodes.{NodeIs, node-is}
+use Rattle.cache_tree.proofs.Nodes.{node-is}
 use Rattle.cache_tree.proofs.Flat.{Reads, trees-end, trees-more, trees-stop}
 use Rattle.tree_write.specs.Written.{NodeHere}
 use Rattle.tree_write.proofs.Trees.{Left, left-start, left-end, left-stop, left-on}

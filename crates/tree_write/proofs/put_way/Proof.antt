@@ -1,43 +1,70 @@
+-- The proof that `put_way` meets its contract. The loop keeps what is still to write.
+use mathlib.Core.Path.{_≡_, refl, _∙_}
+use Prim.Native.Nat.{ℕ, _+_, _*_, _-_, _≤_}
+use native.Mathlib.Omega.{arith}
+use lib.ListN.{length, drop}
+use Rattle.format.specs.Records.{Forest}
+use Rattle.format.specs.Writer.{writeForest}
+use Rattle.format.specs.Requests.{invalidWay}
+use Rattle.tree_counts.proofs.Siblings.{Sound}
+use Rattle.cache_tree.proofs.Flat.{Reads}
+use Rattle.tree_write.specs.Steps.{Ready}
+use Rattle.tree_write.proofs.Steps.{way-start, way-end, Going, going-start, going-on}
 use Rattle.tree_write.proofs.put_way.Statement.{statement}
 use Rattle.tree_write.proofs.put_way.Tie as tie
-use Rattle.tree_write.proofs.put_way.Reads as reads
-use Rattle.tree_write.proofs.put_way.Lts as lts
-use Rattle.tree_write.proofs.put_trees.Reads as put-trees-reads
-use Rattle.tree_write.proofs.step.Reads as step-reads
 
 abbrev Inv-loop : tie.InvT-loop
-Inv-loop d start k name out₀ at w₀ out w = ?
+Inv-loop d start k name out₀ at w₀ out w =
+    Ready d name w × (w .at + start ≤ at + w .place) × (length out ≡ length out₀)
+    × ((f : Forest) (m : ℕ) → Sound f → Reads (drop start d) f k m → Going d name out₀ at (writeForest (invalidWay 20 name f)) out w)
 
 abbrev μ-loop : tie.MeasureT-loop
-μ-loop d start k name out₀ at w₀ out w = ?
+μ-loop d start k name out₀ at w₀ out w = (length d - w .place) * 4294967296 + w .left
 
--- src/lib.rt:160:5
 loop-holds : tie.Need-loop-holds Inv-loop μ-loop
-loop-holds c = ?
+loop-holds c = (
+  record { room = c .before .before .before .pre; named = omega arith; few = omega arith },
+  omega arith,
+  refl,
+  λ f m sound r. going-start _ _ _ _ _ (way-start _ _ _ _ _ f m sound r),
+)
 
--- src/lib.rt:161:9
 step-requires : tie.Need-step-requires Inv-loop μ-loop
-step-requires c κs = ?
+step-requires c κs = (c .before .before .before .loop .inv .0, c .before .if1 .taken)
 
--- src/lib.rt:160:5
 loop-less : tie.Need-loop-less Inv-loop μ-loop
-loop-less c = ?
+loop-less c = c .before .before .step .ensures .less
 
--- src/lib.rt:160:5
 loop-again : tie.Need-loop-again Inv-loop μ-loop
-loop-again c = ?
+loop-again c =
+    let l = c .before .before .before .before .before .before in
+    let t = c .before .before .step .ensures in
+    let short = t .short in
+    (t .ready, omega arith, t .long ∙ l .loop .inv .2, λ f m sound r. going-on _ _ _ _ _ _ _ (l .loop .inv .3 f m sound r) _ _ t)
 
--- src/lib.rt:163:9
 put-trees-requires : tie.Need-put-trees-requires Inv-loop μ-loop
-put-trees-requires c κs = ?
+put-trees-requires c κs =
+    let l = c .before .before .before in
+    let few = l .loop .inv .0 .few in
+    let inside = l .loop .inv .0 .room .inside in
+    (l .loop .inv .0 .room, omega arith)
 
--- src/lib.rt:149:1
 same-length : tie.Need-same-length Inv-loop μ-loop
-same-length c = ?
+same-length c = let long = c .before .before .before .before .before .before .loop .inv .2 in omega arith
 
--- src/lib.rt:149:1
 returns : tie.Need-returns Inv-loop μ-loop
-returns c = ?
+returns c =
+    let put = c .before .before in
+    let no = put .before .before in
+    let l = no .before .before in
+    let t = put .put-trees .ensures in
+    let short = t .short in
+    let within = t .within in
+    let before = l .loop .inv .1 in
+    record {
+      wrote = λ f m sound r. let x = l .loop .inv .3 f m sound r in x .rest _ _ (way-end _ _ _ _ (x .still) (no .if1 .left) _ _ _ t);
+      short = omega arith;
+    }
 
 pub put-way-spec : {M : Type 1} → statement M
 put-way-spec =

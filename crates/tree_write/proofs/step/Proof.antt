@@ -1,84 +1,150 @@
+-- The proof that `step` meets its contract: the sibling is made invalid, or it is written with all below it.
+use mathlib.Core.Path.{refl, sym, _∙_}
+use Prim.Native.Nat.{_+_, _-_, _≤_}
+use native.Mathlib.Omega.{arith}
 use borrow.Author.Needs.{needs}
+use lib.ListN.{length}
+use Rattle.cache_tree.proofs.Nodes.{NodeIs, node-is}
+use Rattle.tree_write.specs.Written.{NodeHere}
+use Rattle.tree_write.proofs.Names.{name-after}
+use Rattle.tree_write.proofs.Steps.{step-stop, step-enters, step-passes}
 use Rattle.tree_write.proofs.step.Statement.{statement}
 use Rattle.tree_write.proofs.step.Tie as tie
-use Rattle.tree_write.proofs.step.Reads as reads
-use Rattle.tree_write.proofs.step.Lts as lts
-use Rattle.cache_tree.proofs.node.read_node.Reads as read-node-reads
-use Rattle.tree_write.proofs.is_under.Reads as is-under-reads
-use Rattle.tree_write.proofs.put_invalid.Reads as put-invalid-reads
-use Rattle.tree_write.proofs.put_trees.Reads as put-trees-reads
 
--- src/lib.rt:116:9
+abbrev start-of : tie.After-known-told → tie.Start
+start-of c = c .before .before .before .before .before .before .before
+
+here-of : (c : tie.After-known-told) → NodeHere (start-of c .args .d .now) (start-of c .args .w .place) (c .before .read .given .0 .0)
+here-of c = record { read = sym (c .before .read .given .1) ∙ c .before .before .before .read-node .ensures }
+
+node-of : (c : tie.After-known-told) → NodeIs (start-of c .args .d .now) (start-of c .args .w .place) (c .before .read .given .0 .0)
+node-of c = node-is _ _ (start-of c .pre .0 .room .inside) _ (here-of c .read)
+
+-- the name goes on after the node's name and a "/"
+after-of : (c : tie.Then1) → let st = start-of (c .before .before) in
+    st .args .w .from + (c .before .before .before .read .given .0 .0 .nul - st .args .w .place) + 1 ≤ length (st .args .name .now)
+after-of c =
+    let k = c .before .before in
+    let is = node-of k in
+    let ended = is .ended in
+    let within = is .within in
+    name-after _ _ _ _ _ (is .named) (omega arith) (start-of k .pre .0 .named) (sym (c .before .is-under .ensures) ∙ c .if1 .taken)
+
 read-node-requires : tie.Need-read-node-requires
 read-node-requires c κs = search needs
 
--- src/lib.rt:118:26
 enum-told : tie.Need-enum-told
 enum-told c = search needs
 
--- src/lib.rt:125:24
 enum-known-read : tie.Need-enum-known-read
 enum-known-read c = search needs
 
--- src/lib.rt:126:16
 is-under-requires : tie.Need-is-under-requires
-is-under-requires c κs = ?
+is-under-requires c κs =
+    let is = node-of c in
+    let ended = is .ended in
+    let within = is .within in
+    (is .named, omega arith, start-of c .pre .0 .named)
 
--- src/lib.rt:127:21
 put-invalid-requires : tie.Need-put-invalid-requires
-put-invalid-requires c κs = ?
+put-invalid-requires c κs =
+    let k = c .before .before .before in
+    (start-of k .pre .0 .room, here-of k)
 
--- src/lib.rt:132:39
 sub-t13 : tie.Need-sub-t13
 sub-t13 c = search needs
 
--- src/lib.rt:132:38
 cast-t14 : tie.Need-cast-t14
 cast-t14 c = search needs
 
--- src/lib.rt:132:28
 add-t15 : tie.Need-add-t15
 add-t15 c = search needs
 
--- src/lib.rt:133:37
 sub-t16 : tie.Need-sub-t16
-sub-t16 c = ?
+sub-t16 c = node-of (c .before .before .before .before .before .before .before .before .before .before) .named
 
--- src/lib.rt:133:27
 add-t17 : tie.Need-add-t17
-add-t17 c = ?
+add-t17 c =
+    let yes = c .before .before .before .before .before .before .before .before .before in
+    let after = after-of yes in
+    omega (arith, start-of (yes .before .before))
 
--- src/lib.rt:133:27
 add-t18 : tie.Need-add-t18
-add-t18 c = ?
+add-t18 c =
+    let yes = c .before .before .before .before .before .before .before .before .before in
+    let after = after-of yes in
+    omega (arith, start-of (yes .before .before))
 
--- src/lib.rt:128:17
 same-length : tie.Need-same-length
 same-length c = search needs
 
--- src/lib.rt:128:17
 returns : tie.Need-returns
-returns c = ?
+returns c =
+    let put = c .before .before .before .before .before .before .before in
+    let yes = put .before .before in
+    let k = yes .before .before in
+    let st = start-of k in
+    let is = node-of k in
+    let named = is .named in
+    let ended = is .ended in
+    let within = is .within in
+    let short = put .put-invalid .ensures .short in
+    record {
+      ready = record {
+        room = record { inside = is .within; few = st .pre .0 .room .few; near = omega arith };
+        named = after-of yes;
+        few = omega (arith, c .struct-known5 .given);
+      };
+      long = put .put-invalid .ensures .wrote (is .head) _ (is .reads) .long;
+      less = omega (arith, c .before .before .struct-known3 .given);
+      short = short;
+      wrote = λ s x.
+          step-enters _ _ _ s x (st .pre .1) (st .pre .0 .room .inside) _ (here-of k) _ _ _ (sym (yes .before .is-under .ensures) ∙ yes .if1 .taken) (put .put-invalid .ensures);
+    }
 
--- src/lib.rt:136:17
 put-trees-requires : tie.Need-put-trees-requires
 put-trees-requires c κs = search needs
 
--- src/lib.rt:140:23
 sub-t21 : tie.Need-sub-t21
 sub-t21 c = search needs
 
--- src/lib.rt:112:1
 returns-2 : tie.Need-returns-2
-returns-2 c = ?
+returns-2 c =
+    let st = c .before .before .before .before .before .before in
+    let none = sym (c .enum-told .given .1) ∙ c .before .before .read-node .ensures in
+    record {
+      ready = record { room = st .pre .0 .room; named = st .pre .0 .named; few = omega arith };
+      long = refl;
+      less = omega arith;
+      short = omega arith;
+      wrote = λ s x. step-stop _ _ _ s x (st .pre .1) none;
+    }
 
--- src/lib.rt:112:1
 same-length-2 : tie.Need-same-length-2
 same-length-2 c = search needs
 
--- src/lib.rt:112:1
 returns-3 : tie.Need-returns-3
-returns-3 c = ?
+returns-3 c =
+    let put = c .before .before .before in
+    let no = put .before .before in
+    let k = no .before .before in
+    let st = start-of k in
+    let t = put .put-trees .ensures in
+    let within = t .within in
+    let short = t .short in
+    let ended = t .ended in
+    record {
+      ready = record {
+        room = record { inside = t .within; few = st .pre .0 .room .few; near = omega arith };
+        named = st .pre .0 .named;
+        few = omega arith;
+      };
+      long = omega arith;
+      less = omega arith;
+      short = short;
+      wrote = λ s x.
+          step-passes _ _ _ s x (st .pre .1) (st .pre .0 .room .inside) _ (here-of k) _ _ _ (sym (no .before .is-under .ensures) ∙ no .if1 .left) t;
+    }
 
 pub step-spec : {M : Type 1} → statement M
 step-spec =
