@@ -35,6 +35,18 @@ Replaces (E.Put k true) name es = (x : Entry) → getElem? es k ≡ some x → x
 Replaces (E.Put k false) name es = Unit {0}
 Replaces (E.Remove k) name es = Unit {0}
 
+-- the entries es were written after one of the name p
+pub record Lays (version : ℕ) (out : List ℕ) (at : ℕ) (p : List ℕ) (es : List Entry) (out′ : List ℕ) (r : Laid) : Type 0 where
+  pub wrote : Wrote out at (writeEntries 20 version p es) out′ (r .at)
+  pub extended : r .extended ≡ anyWord es
+
+-- what the writing of at most n entries leaves behind, whatever the body has
+pub record Leaves (work out : List ℕ) (at n : ℕ) (work′ out′ : List ℕ) (r : Laid) : Type 0 where
+  pub near : r .at ≤ at + n * 8264
+  pub long : length work′ ≡ length work
+  pub past : drop 8192 work′ ≡ drop 8192 work
+  pub out-long : length out′ ≡ length out
+
 -- what the writing of the first count entries of the body b, edited, leaves behind; e is what is put
 pub record EntriesEdited (v : ℕ) (b work : List ℕ) (count : ℕ) (edit : Edit) (e : Entry) (version : ℕ) (out : List ℕ) (at : ℕ) (work′ out′ : List ℕ) (r : Laid) : Type 0 where
   pub edited-is : (es : List Entry) (m : ℕ) → readEntries 20 v count start 12 (drop 12 b) ≡ good es m → Replaces edit (e .name) es

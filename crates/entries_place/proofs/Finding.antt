@@ -37,7 +37,7 @@ module _ (v : ℕ) (b work : List ℕ) (c : Cursor) (k : Key) (r : Order) where
   unfolding compareKeys nameAt
   order-plain e n is h = rw (ne-eqb v 4 e, ← is) h
 
-key-at : (v : ℕ) (b w : List ℕ) (c : Cursor) (w′ : List ℕ) (st : Step) → Found v b w c w′ st → keyOf (entryAt v b w′ (c .at) st) ≡ keyAt v b w′ (st .next)
+pub key-at : (v : ℕ) (b w : List ℕ) (c : Cursor) (w′ : List ℕ) (st : Step) → Found v b w c w′ st → keyOf (entryAt v b w′ (c .at) st) ≡ keyAt v b w′ (st .next)
 unfolding entryOf
 key-at v b w c w′ st f = ap (λ (n : ℕ). record { name = nameAt v b w′ (st .next .start) (st .next .len); stage = n }) (sym (f .stage))
 

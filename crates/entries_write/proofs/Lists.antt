@@ -1,7 +1,7 @@
 -- Laws of entries that are written: those in front, then the others.
 use mathlib.Core.Path.{_≡_, refl, sym, ap, _∙_}
 use mathlib.Core.List.{List, [], _∷_, _++_, append-assoc, append-nil}
-use mathlib.Core.Bool.{Bool, true, false, _||_}
+use mathlib.Core.Bool.{Bool, _||_, or-assoc, or-false}
 use Prim.Native.Nat.{ℕ}
 use lib.Dec.{eqb}
 use Rattle.format.specs.Records.{Entry}
@@ -20,18 +20,10 @@ pub entries-one : (w v : ℕ) (p : List ℕ) (x : Entry) → writeEntries w v p 
 unfolding writeEntries
 entries-one w v p x = append-nil (writeEntry w v p x)
 
-or-assoc : (a b c : Bool) → (a || (b || c)) ≡ ((a || b) || c)
-or-assoc true b c = refl
-or-assoc false b c = refl
-
-or-false : (a : Bool) → (a || false) ≡ a
-or-false true = refl
-or-false false = refl
-
 pub anyWord-append : (xs ys : List Entry) → anyWord (xs ++ ys) ≡ (anyWord xs || anyWord ys)
 unfolding anyWord
 anyWord-append [] ys = refl
-anyWord-append (x ∷ xs) ys = ap (λ (t : Bool). needsWord x || t) (anyWord-append xs ys) ∙ or-assoc (needsWord x) (anyWord xs) (anyWord ys)
+anyWord-append (x ∷ xs) ys = ap (λ (t : Bool). needsWord x || t) (anyWord-append xs ys) ∙ sym (or-assoc (needsWord x) (anyWord xs) (anyWord ys))
 
 pub anyWord-one : (x : Entry) → anyWord (x ∷ []) ≡ needsWord x
 unfolding anyWord

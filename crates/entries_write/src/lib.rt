@@ -134,7 +134,7 @@ pub fn put_step<'a>(
 }
 
 // Whether an entry with this extended word, or 0 without one, needs it, or one before did.
-fn either(extended: bool, word: u32) -> bool
+pub fn either(extended: bool, word: u32) -> bool
     ensures { λ r. ⌜ r ≡ (extended || (isSet 16384 word || isSet 8192 word)) ⌝ }
 {
     if extended {

@@ -58,7 +58,8 @@ wrote-then out s t out′ out″ at p r x y =
     }
 
 -- one NUL more
-pub wrote-nul : (out out′ out″ : List ℕ) (at n k p r : ℕ) → n + 1 ≡ k → Wrote out at (replicate n 0) out′ p → Wrote out′ p (0 ∷ []) out″ r → Wrote out at (replicate k 0) out″ r
+pub wrote-nul : (out out′ out″ : List ℕ) (at n k p r : ℕ) → n + 1 ≡ k → Wrote out at (replicate n 0) out′ p → Wrote out′ p (0 ∷ []) out″ r
+    → Wrote out at (replicate k 0) out″ r
 wrote-nul out out′ out″ at n k p r e x y = rw (← e, ← replicate-append-replicate {A = ℕ} n 1 0) (wrote-then out (replicate n 0) (0 ∷ []) out′ out″ at p r x y)
 
 -- a head of k bytes in front of a part that is written already

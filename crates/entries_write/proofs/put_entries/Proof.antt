@@ -25,7 +25,10 @@ enum-told : tie.Need-enum-told Inv-loop μ-loop
 enum-told c = search needs
 
 same-length : tie.Need-same-length Inv-loop μ-loop
-same-length c = let t = c .before .before .before .before .next-entry .ensures in t .long ∙ c .before .before .before .before .before .before .before .loop .inv .long
+same-length c =
+    let l = c .before .before .before .before .before .before .before in
+    let t = c .before .before .before .before .next-entry .ensures in
+    t .long ∙ l .loop .inv .long
 
 same-length-2 : tie.Need-same-length-2 Inv-loop μ-loop
 same-length-2 c = c .before .before .before .before .before .before .before .loop .inv .wrote .long
@@ -68,7 +71,8 @@ loop-again : tie.Need-loop-again Inv-loop μ-loop
 loop-again c =
     let l = c .before .before .before .before .before .before .before .before .before .before .before .before .before .before .before in
     let more = c .before .before .before .before .before .before .before .before .before .before .before .before .before .before .loop-test .taken in
-    let t = rw (c .before .before .before .before .before .before .before .before .g .given .1) at (c .before .before .before .before .before .before .before .before .before .before .before .before .next-entry .ensures) in
+    let read = c .before .before .before .before .before .before .before .before .before .before .before .before in
+    let t = rw (c .before .before .before .before .before .before .before .before .g .given .1) at (read .next-entry .ensures) in
     let same = l .loop .inv .long in
     let room : 8192 ≤ length (l .loop .work) = omega arith in
     writing-more (l .loop .inv) more t room (c .before .before .before .before .put-step .ensures) (c .before .either .ensures)

@@ -1,0 +1,3 @@
+-- Laws of entries that are edited.
+pub mod Puts
+pub mod Ways
