@@ -1,46 +1,53 @@
+-- The proof that `remove` meets its contract.
+use Rattle.format.specs.Reader.{readFile}
+use Rattle.hash.specs.Sha1.{sha1}
+use Rattle.file.specs.Writing.{removeAnswer}
+use Rattle.file_contents.specs.Contents.{bodyOf, inRoom, Contains}
+use Rattle.index_write.proofs.Answers.{call-refused, call-opened, call-answered}
 use borrow.Author.Needs.{needs}
 use Rattle.index_write.proofs.remove.Statement.{statement}
 use Rattle.index_write.proofs.remove.Tie as tie
-use Rattle.index_write.proofs.remove.Reads as reads
-use Rattle.index_write.proofs.remove.Lts as lts
-use Rattle.file_contents.proofs.read_cleared.Reads as read-cleared-reads
-use Rattle.index_write.proofs.remove_read.Reads as remove-read-reads
 
--- src/lib.rt:199:9
+-- the file is accepted
+accepted :
+    (c : tie.After-whole2) →
+    let a = c .before .before .before .before .before .before .before .before .before .before .args in
+    Contains 0 0 (inRoom (a .work .now) (readFile 20 sha1 (a .file .now))) (bodyOf (a .file .now)) (c .whole2 .given .0 .0)
+accepted c = rw (c .whole2 .given .1) at (c .before .before .before .before .read-cleared .ensures .0)
+
 read-cleared-requires : tie.Need-read-cleared-requires
 read-cleared-requires c κs = search needs
 
--- src/lib.rt:201:20
 enum-known-whole : tie.Need-enum-known-whole
 enum-known-whole c = search needs
 
--- src/lib.rt:202:21
 enum-known-whole-2 : tie.Need-enum-known-whole-2
 enum-known-whole-2 c = search needs
 
--- src/lib.rt:202:31
 remove-read-requires : tie.Need-remove-read-requires
-remove-read-requires c κs = ?
+remove-read-requires c κs = let w = c .before .before .before in call-opened _ _ _ (w .before .before .before .before .read-cleared .ensures .1) _ (accepted w)
 
--- src/lib.rt:189:1
 same-length : tie.Need-same-length
 same-length c = search needs
 
--- src/lib.rt:189:1
 returns : tie.Need-returns
-returns c = ?
+unfolding removeAnswer
+returns c =
+    let q = c .before .before .before .before .before in
+    call-refused _ _ _ (q .read-cleared .ensures .1) _ _ _ _ (rw (c .before .whole .given .1) at (q .read-cleared .ensures .0))
 
--- src/lib.rt:189:1
 same-length-2 : tie.Need-same-length-2
 same-length-2 c = search needs
 
--- src/lib.rt:189:1
 same-length-3 : tie.Need-same-length-3
 same-length-3 c = search needs
 
--- src/lib.rt:189:1
 returns-2 : tie.Need-returns-2
-returns-2 c = ?
+unfolding removeAnswer
+returns-2 c =
+    let r = c .before .before .before .before in
+    let w = r .before .before .before .before in
+    call-answered _ _ _ (w .before .before .before .before .read-cleared .ensures .1) _ (accepted w) _ _ _ _ _ (r .remove-read .ensures)
 
 pub remove-spec : {M : Type 1} → statement M
 remove-spec =
