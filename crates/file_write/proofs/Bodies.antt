@@ -1,14 +1,13 @@
 -- The body that is written: its parts, how many entries it tells, its length in each version.
-use mathlib.Core.Path.{_≡_, refl, sym, ap, _∙_}
+use mathlib.Core.Path.{_≡_, refl, sym, _∙_}
 use mathlib.Core.List.{List, [], _∷_, _++_}
 use mathlib.Core.Bool.{true, false}
-use mathlib.Core.Option.{Option}
 use Prim.Native.Nat.{ℕ, _+_, _-_, _≤_}
 use native.Mathlib.Omega.{arith}
 use lib.ListN.{length, take, drop, length-append, length-drop}
 use lib.Seq.{length-take-le}
 use lib.Dec.{eqb}
-use Rattle.format.specs.Records.{Entry, Tree, Undo, Records}
+use Rattle.format.specs.Records.{Entry, Records}
 use Rattle.format.specs.Writer.{writeName, writeRest, writeEntry, writeEntries, writeCacheTree, writeResolveUndo, writeExtensions, writeHeader, writeBody}
 use Rattle.output.specs.Output.{Wrote}
 use Rattle.output.proofs.Laws.{wrote-then}

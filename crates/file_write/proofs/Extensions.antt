@@ -1,12 +1,11 @@
 -- The header and the extensions that are written.
 use mathlib.Core.Path.{_≡_, refl, sym, ap, _∙_}
-use mathlib.Core.List.{List, [], _∷_, _++_, append-assoc}
+use mathlib.Core.List.{List, [], _++_, append-assoc}
 use mathlib.Core.Bool.{Bool, true, false, cond}
 use mathlib.Core.Option.{Option, none, some}
-use Prim.Native.Nat.{ℕ, _+_, _-_, _≤_, _<_}
+use Prim.Native.Nat.{ℕ, _+_, _-_, _≤_}
 use native.Mathlib.Omega.{arith}
-use lib.ListN.{length, take, drop, length-append, length-drop}
-use lib.Seq.{length-take-le}
+use lib.ListN.{length, length-append}
 use Rattle.format.specs.Bytes.{put32}
 use Rattle.format.specs.Records.{Tree, Undo}
 use Rattle.format.specs.Layout.{TREE, REUC, DIRC, distinct}
@@ -14,6 +13,7 @@ use Rattle.format.specs.Reading.{good}
 use Rattle.format.specs.Reader.{readNodes}
 use Rattle.format.specs.Writer.{writeTree, writeUndos, writeExtension, writeCacheTree, writeResolveUndo, writeHeader}
 use Rattle.format.specs.Requests.{invalidTree, invalidCacheTree}
+use Rattle.format_laws.proofs.Lists.{part-length}
 use Rattle.format_laws.proofs.Numbers.{length-put32}
 use Rattle.format_laws.proofs.Tests.{clash}
 use Rattle.writing.proofs.Copies.{undos-copied}
@@ -38,9 +38,6 @@ unfolding writeHeader
 header-length v count = simp length-append (omega (arith, length-put32 v, length-put32 count))
 
 -- ---- data in the body
-
-pub part-length : (b : List ℕ) (a e : ℕ) → a ≤ e → e ≤ length b → length (part b a e) ≡ e - a
-part-length b a e order inside = let l = length-drop a b in length-take-le (e - a) (drop a b) (omega arith)
 
 -- data from a to e
 pub record Within (b : List ℕ) (a e : ℕ) : Type 0 where
@@ -117,7 +114,7 @@ module _ (b : List ℕ) (undo : UndoPlace) where
   undo-wrote out out₁ out′ at p r (some us) h t x y =
       let d : List ℕ = part b (undo .at) (undo .end) in
       let copied : writeUndos us ≡ d = undos-copied 20 0 (length d) d us (length d) (h .reads) .1 in
-      let size : undo .end - undo .at ≡ length d = sym (part-length b (undo .at) (undo .end) (h .order) (h .inside)) in
+      let size : undo .end - undo .at ≡ length d = sym (part-length b (undo .at) (undo .end) (h .inside)) in
       let head : Wrote out at (REUC ++ put32 (length d)) out₁ p = rw size at x in
       rw (copied, ← append-assoc REUC (put32 (length d)) d) (wrote-then out (REUC ++ put32 (length d)) d out₁ out′ at p r head y)
 

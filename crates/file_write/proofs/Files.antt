@@ -1,13 +1,13 @@
 -- The file that is written: the tests of its length, the checksum, the answer.
 use mathlib.Core.Path.{_≡_, refl, sym, ap, _∙_}
-use mathlib.Core.List.{List, [], _∷_, _++_}
-use mathlib.Core.Bool.{Bool, true, false, cond, not, _&&_}
+use mathlib.Core.List.{List, _++_}
+use mathlib.Core.Bool.{Bool, true, false, cond, _&&_}
 use Prim.Native.Nat.{ℕ, _+_, _≤_, _<_}
 use native.Mathlib.Omega.{arith}
 use lib.ListN.{length, take, drop, length-append}
 use lib.Seq.{take-at}
-use lib.Dec.{eqb, leb}
-use borrow.Author.Tests.{eqb-true, ne-eqb, eq-eqb, le-leb, lt-leb, eqb-false}
+use lib.Dec.{eqb}
+use borrow.Author.Tests.{eqb-true, le-leb, lt-leb}
 use Rattle.format.specs.Records.{Entry, Records}
 use Rattle.format.specs.Reading.{Read, bad, good, need}
 use Rattle.format.specs.Writer.{writeBody, writeFile}
@@ -17,9 +17,7 @@ use Rattle.hash.specs.Sha1.{sha1}
 use Rattle.hash.proofs.Bytes.{length-sha1}
 use Rattle.output.specs.Output.{withAt, Wrote}
 use Rattle.output.proofs.Laws.{wrote-then}
-use Rattle.file.specs.declared.Written.{Written}
 use Rattle.file.specs.declared.Written.the-variants as W
-use Rattle.file.specs.Writing.{writtenOf, outputAfter}
 use Rattle.file_contents.specs.declared.Parts.{Parts}
 use Rattle.entries_edit.specs.declared.Edit.{Edit}
 use Rattle.entries_edit.specs.declared.Laid.{Laid}

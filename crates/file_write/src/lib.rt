@@ -2,11 +2,11 @@
 // answers the place after its part; with an output too short it measures.
 ghost use mathlib.Core.Path.{_≡_};
 ghost use mathlib.Core.List.{List, _++_};
+ghost use mathlib.Core.Bool.{_&&_};
 ghost use mathlib.Core.Option.{Option};
 ghost use Prim.Native.Nat.{_+_, _≤_, _<_};
 ghost use lib.ListN.{length, take};
 ghost use lib.Dec.{eqb};
-ghost use mathlib.Core.Bool.{_&&_};
 ghost use Rattle.format.specs.Bytes.{put32};
 ghost use Rattle.format.specs.Records.{Tree, Undo};
 ghost use Rattle.format.specs.Writer.{writeCacheTree, writeResolveUndo, writeHeader};
@@ -73,7 +73,14 @@ fn put_head(out: &mut [u8], at: usize, signature: &[u8], size: u32) -> usize
 }
 
 // The cache tree, made invalid on the way to a name or not. Its size is known once its data are written.
-fn put_cache_tree(b: &[u8], tree: TreePlace, way: bool, name: &[u8], out: &mut [u8], at: usize) -> usize
+fn put_cache_tree(
+    b: &[u8],
+    tree: TreePlace,
+    way: bool,
+    name: &[u8],
+    out: &mut [u8],
+    at: usize,
+) -> usize
     requires { ⌜ (length (now b) ≤ 16777216) × (at < 562949953421304) × ((o : Option Tree) × TreeFound 0 (now b) o tree × Differ o) ⌝ }
     ensures { λ r. ⌜ ((o : Option Tree) → TreeFound 0 (now (b .entry)) o tree → Differ o → Wrote (now (out .entry)) at (writeCacheTree (treeAfter way (now (name .entry)) o)) (now (out .exit)) r) × (r ≤ at + 16777224) × (length (now (out .exit)) ≡ length (now (out .entry))) ⌝ }
 {
@@ -117,8 +124,26 @@ fn put_body(
     ensures { λ r. ⌜ BodyWritten (now (b .entry)) parts (now (work .entry)) edit (entryWith fields (now (name .entry))) version (now (out .entry)) (now (work .exit)) (now (out .exit)) r ⌝ }
 {
     let start = put_header(&mut *out, version, count_after(edit, parts.count));
-    let laid = entries_edit::put_edited(b, parts.version, work, parts.count, edit, fields, name, version, &mut *out, start);
-    let middle = put_cache_tree(b, parts.found.tree, is_change(edit), name, &mut *out, laid.at);
+    let laid = entries_edit::put_edited(
+        b,
+        parts.version,
+        work,
+        parts.count,
+        edit,
+        fields,
+        name,
+        version,
+        &mut *out,
+        start,
+    );
+    let middle = put_cache_tree(
+        b,
+        parts.found.tree,
+        is_change(edit),
+        name,
+        &mut *out,
+        laid.at,
+    );
     let end = put_resolve_undo(b, parts.found.undo, out, middle);
     Laid {
         at: end,
@@ -126,8 +151,16 @@ fn put_body(
     }
 }
 
-// How long the body is in a version, and whether one of its entries needs the extended word: it is written to no output.
-fn measure(b: &[u8], parts: Parts, work: &mut [u8], edit: Edit, fields: Fields, name: &[u8], version: u32) -> Laid
+// How long the body is in a version, and whether one of its entries needs the extended word. No part of it fits one byte, so nothing is written.
+fn measure(
+    b: &[u8],
+    parts: Parts,
+    work: &mut [u8],
+    edit: Edit,
+    fields: Fields,
+    name: &[u8],
+    version: u32,
+) -> Laid
     requires { ⌜ Ready (now b) (now work) parts edit fields (now name) ⌝ }
     ensures { λ r. ⌜ Measured (now (b .entry)) parts (now (work .entry)) edit (entryWith fields (now (name .entry))) version (now (work .exit)) r ⌝ }
 {

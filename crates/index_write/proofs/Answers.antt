@@ -1,15 +1,15 @@
 -- What the requests answer: by their tests, and by the reading of the file.
-use mathlib.Core.Path.{_≡_, refl, sym, ap, _∙_}
+use mathlib.Core.Path.{_≡_, refl, sym, _∙_}
 use mathlib.Core.List.{List, _++_}
-use mathlib.Core.Bool.{Bool, true, false, cond, not, _&&_, _||_}
+use mathlib.Core.Bool.{Bool, true, false, cond}
 use Prim.Native.Nat.{ℕ, _+_, _≤_, _<_}
 use native.Mathlib.Omega.{arith}
 use lib.ListN.{length, drop, replicate}
-use lib.Dec.{eqb, leb, ltb}
+use lib.Dec.{ltb}
 use borrow.Author.Tests.{ltb-true}
 use Rattle.format.specs.Bytes.{Bytes}
 use Rattle.format.specs.Names.{okName}
-use Rattle.format.specs.Records.{Entry, modeOf, Key, Records}
+use Rattle.format.specs.Records.{modeOf, Key, Records}
 use Rattle.format.specs.Layout.{okMode}
 use Rattle.format.specs.Reading.{Read, bad, good, need}
 use Rattle.format.specs.Reader.{Contents, readFile}
@@ -21,7 +21,7 @@ use Rattle.file.specs.declared.Fields.{Fields}
 use Rattle.file.specs.declared.Written.{Written}
 use Rattle.file.specs.declared.Written.the-variants as W
 use Rattle.file.specs.Answers.{tooSmall, cleared, entryWith}
-use Rattle.file.specs.Writing.{requested, answered, writtenOf, outputAfter}
+use Rattle.file.specs.Writing.{requested, answered}
 use Rattle.file.proofs.Laws.{cleared-past, cleared-long, cleared-same}
 use Rattle.file_contents.specs.declared.Parts.{Parts}
 use Rattle.file_contents.specs.Contents.{bodyOf, inRoom, Contains}
@@ -157,9 +157,6 @@ module _ (f work work₁ : List ℕ) (clear : work₁ ≡ cleared work) where
 -- ---- an edit, written
 
 module _ (f work : List ℕ) (bytes : Bytes f) (parts : Parts) (edit : Edit) (fields : Fields) (name : List ℕ) (p : Planned f work parts edit fields name) where
-  abbrev entry : Entry
-  entry = entryWith fields name
-
   pub edit-ready : Ready (bodyOf f) work parts edit fields name
   edit-ready =
       let h = p .opened .contains in

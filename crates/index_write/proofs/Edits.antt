@@ -1,22 +1,19 @@
 -- What is put and removed, as an edit at the place that was found.
 use mathlib.Core.Path.{_≡_, refl, sym, ap, _∙_}
-use mathlib.Core.List.{List, [], _∷_, _++_}
+use mathlib.Core.List.{List}
 use mathlib.Core.Bool.{Bool, true, false}
-use mathlib.Core.Option.{Option, none, some}
-use Prim.Native.Nat.{ℕ, _+_, _≤_}
-use native.Mathlib.Omega.{arith}
-use lib.ListN.{length, take, drop, getElem?}
+use mathlib.Core.Option.{some}
+use Prim.Native.Nat.{ℕ}
+use lib.ListN.{drop, getElem?}
 use Rattle.format.specs.Records.{Entry, Key, keyOf, start, Records}
-use Rattle.format.specs.Layout.{bit}
 use Rattle.format.specs.Reading.{good}
 use Rattle.format.specs.Reader.{readEntries}
 use Rattle.format.specs.Requests.{putRecord, removeRecord, holds}
 use Rattle.entries_place.specs.declared.Place.{Place}
-use Rattle.entries_place.specs.Places.{rank, isThere, Ranked}
+use Rattle.entries_place.specs.Places.{Ranked}
 use Rattle.entries_place.proofs.Places.{there-inv, there-name, put-at, remove-at, holds-at}
-use Rattle.entries_edit.specs.declared.Edit.{Edit}
 use Rattle.entries_edit.specs.declared.Edit.the-variants as E
-use Rattle.entries_edit.specs.Edits.{edited, passes, Replaces}
+use Rattle.entries_edit.specs.Edits.{Replaces}
 use Rattle.file_write.specs.Results.{treeAfter, changed}
 
 -- nothing is changed

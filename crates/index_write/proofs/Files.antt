@@ -1,25 +1,24 @@
 -- What holds of a file that was read.
-use mathlib.Core.Path.{_≡_, refl, sym, ap, _∙_}
-use mathlib.Core.List.{List, [], _∷_, _++_}
+use mathlib.Core.Path.{_≡_, ap, _∙_}
+use mathlib.Core.List.{List}
 use mathlib.Core.Bool.{true}
-use mathlib.Core.Option.{Option, none, some}
-use Prim.Native.Nat.{ℕ, zero, suc, _+_, _-_, _≤_, _<_}
+use mathlib.Core.Option.{some}
+use Prim.Native.Nat.{ℕ, zero, suc, _-_, _≤_, _<_}
 use native.Mathlib.Omega.{arith}
-use lib.ListN.{length, take, drop, getElem?, replicate, length-append}
+use lib.ListN.{length, getElem?, length-append}
 use lib.Dec.{leb}
 use borrow.Author.Tests.{leb-true}
 use Rattle.format.specs.Bytes.{Bytes}
 use Rattle.format.specs.Names.{okName}
 use Rattle.format.specs.Records.{Entry, Key, Records}
 use Rattle.format.specs.Layout.{Spells}
-use Rattle.format.specs.Reading.{good}
-use Rattle.format.specs.Reader.{Contents, readFile}
+use Rattle.format.specs.Reader.{readFile}
 use Rattle.format_laws.proofs.Tests.{and-inv}
 use Rattle.format_laws.proofs.Readings.{none-some}
 use Rattle.hash.specs.Sha1.{sha1}
 use Rattle.hash.proofs.Bytes.{length-sha1}
 use Rattle.spelling.proofs.File.{read-spelled}
-use Rattle.writing.specs.Sound.{SoundEntry, SoundEntries, entries-none, entries-next, Sound}
+use Rattle.writing.specs.Sound.{SoundEntry, SoundEntries, entries-none, entries-next}
 use Rattle.writing.proofs.Entries.{entries-long}
 use Rattle.writing.proofs.File.{spelled-sound}
 use Rattle.file_contents.specs.declared.Parts.{Parts}

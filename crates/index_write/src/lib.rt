@@ -85,7 +85,16 @@ fn rewrite_read(file: &[u8], parts: Parts, work: &mut [u8], out: &mut [u8], aske
     ensures { λ r. ⌜ Writes (requested (readFile 20 sha1 (now (file .entry))) (rewriteRequest 20 sha1 asked (length (now (out .entry))))) (now (out .entry)) (now (work .entry)) (now (out .exit)) (now (work .exit)) r ⌝ }
 {
     if asked_ok(asked) {
-        return write_edited(file, parts, work, out, asked, Edit::Keep, file::no_fields(), b"");
+        return write_edited(
+            file,
+            parts,
+            work,
+            out,
+            asked,
+            Edit::Keep,
+            file::no_fields(),
+            b"",
+        );
     }
     Written::Refused(4, 0)
 }

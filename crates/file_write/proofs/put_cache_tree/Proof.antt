@@ -1,5 +1,6 @@
 -- The proof that `put_cache_tree` meets its contract.
-use Rattle.file_write.proofs.Extensions.{Within, part-length, tree-within, tree-grown, tree-wrote, no-tree-wrote}
+use Rattle.format_laws.proofs.Lists.{part-length}
+use Rattle.file_write.proofs.Extensions.{Within, tree-within, tree-grown, tree-wrote, no-tree-wrote}
 use native.Mathlib.Omega.{arith}
 use mathlib.Core.Path.{refl, _∙_}
 use Prim.Native.Nat.{_+_, _≤_}
@@ -38,7 +39,7 @@ put-tree-requires : tie.Need-put-tree-requires
 put-tree-requires c κs =
     let h = inside (c .before .before) in
     let a = c .before .before .before .before .before .before .args in
-    (omega (arith, part-length (a .b .now) _ _ (h .order) (h .inside)), omega arith)
+    (omega (arith, part-length (a .b .now) (a .tree .at) (a .tree .end) (h .inside)), omega arith)
 
 slice-aggregate-put-head : tie.Need-slice-aggregate-put-head
 slice-aggregate-put-head c = search needs
@@ -51,7 +52,7 @@ cast-put-head c =
     let q = c .before .before .before .before in
     let h = inside (q .before .before .before) in
     let a = q .before .before .before .before .before .before .before .args in
-    let l = part-length (a .b .now) _ _ (h .order) (h .inside) in
+    let l = part-length (a .b .now) (a .tree .at) (a .tree .end) (h .inside) in
     let f = grown q in
     omega (arith, q .put-tree .ensures .short)
 
@@ -69,12 +70,12 @@ returns c =
     let st = t .before .before .before .before in
     let a = st .args in
     let h = inside t in
-    let l = part-length (a .b .now) _ _ (h .order) (h .inside) in (
+    let l = part-length (a .b .now) (a .tree .at) (a .tree .end) (h .inside) in (
       λ o is d. tree-wrote (a .b .now) (a .name .now) (a .tree) (a .way) _ _ _ (a .at) _ _ o is d (t .if1 .taken) (p .put-tree .ensures .wrote) (q .put-head .ensures),
       omega (arith, p .put-tree .ensures .short),
       q .put-head .ensures .long
-      ∙ tree-grown (a .b .now) (a .name .now) (a .tree) (a .way) _ _ _ _ (st .pre .2 .0) (st .pre .2 .1) (st .pre .2 .2) (t .if1 .taken)
-      (p .put-tree .ensures .wrote) .1,
+          ∙ tree-grown (a .b .now) (a .name .now) (a .tree) (a .way) _ _ _ _ (st .pre .2 .0) (st .pre .2 .1) (st .pre .2 .2) (t .if1 .taken)
+          (p .put-tree .ensures .wrote) .1,
     )
 
 returns-2 : tie.Need-returns-2

@@ -1,5 +1,6 @@
 -- The proof that `put_resolve_undo` meets its contract.
-use Rattle.file_write.proofs.Extensions.{Within, part-length, head-length, undo-within, undo-wrote, no-undo-wrote}
+use Rattle.format_laws.proofs.Lists.{part-length}
+use Rattle.file_write.proofs.Extensions.{Within, head-length, undo-within, undo-wrote, no-undo-wrote}
 use native.Mathlib.Omega.{arith}
 use mathlib.Core.Path.{_≡_, refl, _∙_}
 use Prim.Native.Nat.{_+_}
@@ -49,7 +50,7 @@ returns c =
     let t = p .before .before .before in
     let a = t .before .before .before .args in
     let h = inside t in
-    let l = part-length (a .b .now) _ _ (h .order) (h .inside) in (
+    let l = part-length (a .b .now) (a .undo .at) (a .undo .end) (h .inside) in (
       λ o is. undo-wrote (a .b .now) (a .undo) _ _ _ (a .at) _ _ o is (t .if1 .taken) (p .put-head .ensures) (q .put-bytes .ensures),
       omega (arith, q .put-bytes .ensures .end, headed p),
       q .put-bytes .ensures .long ∙ p .put-head .ensures .long,

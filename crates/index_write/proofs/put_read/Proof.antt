@@ -22,7 +22,6 @@ use Rattle.index_write.proofs.put_read.Tie as tie
 sound : (c : tie.Else2) → let a = c .before .before .before .before .before .before .before .before .args in recordNumber (a .fields) (a .name .now) ≡ 0
 sound c = let e = c .before .record-number .ensures in omega (arith, c .if2 .left)
 
-
 asked-ok-requires : tie.Need-asked-ok-requires
 asked-ok-requires c κs = search needs
 
