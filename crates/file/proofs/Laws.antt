@@ -5,12 +5,13 @@ use mathlib.Core.Bool.{true, false}
 use Prim.Native.Nat.{ℕ, _+_, _-_, _/_, _%_, _≤_, _<_}
 use native.Mathlib.Nat.{add-zero}
 use native.Mathlib.Omega.{arith}
-use lib.ListN.{length, take, drop, replicate, length-append}
+use lib.ListN.{length, take, drop, replicate, length-append, length-replicate, length-drop}
 use lib.Seq.{length-take-le, take-at, drop-drop}
 use lib.Dec.{eqb}
 use borrow.Author.Tests.{lt-ltb, le-ltb, le-leb, lt-leb}
 use Rattle.format.specs.Bytes.{be32, be32s}
 use Rattle.format.specs.Reader.{isSet, entryOf}
+use Rattle.format_laws.proofs.Lists.{past-zeros}
 use Rattle.format_laws.proofs.Numbers.{be32-drop}
 use Rattle.file.specs.declared.Fields.{Fields}
 use Rattle.file.specs.declared.Shown.{Shown}
@@ -36,6 +37,20 @@ module _ (work : List ℕ) where
   pub cleared-large : 8192 ≤ length work → cleared work ≡ replicate 8192 0 ++ drop 8192 work
   unfolding cleared
   cleared-large h = rw (large h)
+
+  pub cleared-past : 8192 ≤ length work → drop 8192 (cleared work) ≡ drop 8192 work
+  cleared-past h = rw (cleared-large h) (past-zeros 8192 (drop 8192 work))
+
+  pub cleared-long : 8192 ≤ length work → length (cleared work) ≡ length work
+  cleared-long h =
+      rw (cleared-large h)
+      (length-append (replicate 8192 0) (drop 8192 work) ∙ omega (arith, length-replicate {A = ℕ} 8192 0, length-drop 8192 work))
+
+-- only what lies past the 8,192nd byte of a workspace matters to what is left of it when it is cleared
+pub cleared-same : (work written : List ℕ) → 8192 ≤ length work → length written ≡ length work → drop 8192 written ≡ drop 8192 work → cleared written ≡ cleared work
+cleared-same work written room long rest =
+    let also : 8192 ≤ length written = omega arith in
+    cleared-large written also ∙ rw rest (sym (cleared-large work room))
 
 -- a workspace that was written up to its 8,192nd byte: what fields::clear_from leaves of it
 module _ (work written : List ℕ) (rest : drop 8192 written ≡ drop 8192 work) where

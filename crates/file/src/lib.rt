@@ -28,6 +28,7 @@ pub enum Checked {
 }
 
 // The fields of an entry but its name; zeros and false in a refusal.
+#[repr(C)]
 pub struct Fields {
     pub ctime_seconds: u32,
     pub ctime_nanoseconds: u32,

@@ -1,26 +1,20 @@
 -- Laws of parts of lists, of the answers' views, and of refusals.
 use mathlib.Core.Path.{_≡_, refl, sym, ap, _∙_}
-use mathlib.Core.List.{List, [], _∷_, _++_}
+use mathlib.Core.List.{List, [], _∷_}
 use mathlib.Core.Bool.{Bool, true, false, cond}
 use mathlib.Core.Option.{Option, none, some}
 use Prim.Native.Nat.{ℕ, zero, suc, _+_, _-_, _≤_, _<_}
 use native.Mathlib.Omega.{arith}
-use lib.ListN.{length, take, drop, getD, replicate, getElem?, length-take}
+use lib.ListN.{length, take, drop, getD, getElem?, length-take}
 use lib.Seq.{take-take}
-use lib.Dec.{ltb}
-use borrow.Author.Tests.{ltb-false}
 use Rattle.format.specs.Records as F
-use Rattle.format.specs.Reading.{Read, bad, good}
+use Rattle.format.specs.Reading.{Read, bad}
 use Rattle.format.specs.Reader.{Contents}
-use Rattle.format_laws.proofs.Lists.{past-zeros}
-use Rattle.format_laws.proofs.Readings.{bad-good}
-use Rattle.entries_run.specs.Steps.{Room}
 use Rattle.file.specs.declared.Checked.the-variants as K
 use Rattle.file.specs.declared.EntryAnswer.{EntryAnswer}
 use Rattle.file.specs.declared.NodeAnswer.{NodeAnswer}
 use Rattle.file.specs.declared.UndoAnswer.{UndoAnswer}
 use Rattle.file.specs.Answers.{tooSmall, View, refused, inFile, inWorkspace, pick, given, cleared, checkedOf, checkAnswer, entryOf, entryAnswer, nodeOf, nodeAnswer, undoOf, undoAnswer, entrySaid, nodeSaid, undoSaid, refusedEntry, refusedNode, refusedUndo}
-use Rattle.file.proofs.Laws.{small, large, cleared-large}
 use Rattle.extensions.specs.Heads.{part}
 use Rattle.file_contents.specs.Contents.{bodyOf, inRoom}
 use Rattle.index.specs.Calls.{EntryShows, NodeShows, UndoShows}
@@ -50,11 +44,6 @@ module _ {A : Type 0} where
   item-some [] k z h = absurd (omega arith)
   item-some (a ∷ l) zero z h = refl
   item-some (a ∷ l) (suc k) z h = item-some l k z (omega arith)
-
--- ---- the workspace, cleared
-
-pub cleared-past : (work : List ℕ) → 8192 ≤ length work → drop 8192 (cleared work) ≡ drop 8192 work
-cleared-past work room = rw (cleared-large work room) (past-zeros 8192 (drop 8192 work))
 
 -- ---- views
 

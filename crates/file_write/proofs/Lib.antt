@@ -1,0 +1,4 @@
+-- Laws that the proofs of this crate cite.
+pub mod Extensions
+pub mod Bodies
+pub mod Files

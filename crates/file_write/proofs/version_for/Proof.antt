@@ -1,0 +1,16 @@
+-- The proof that `version_for` meets its contract.
+use borrow.Author.Tests.{ne-eqb}
+use Rattle.file_write.proofs.version_for.Statement.{statement}
+use Rattle.file_write.proofs.version_for.Tie as tie
+
+returns : tie.Need-returns
+returns c = rw (c .before .if1 .taken, c .if2 .taken)
+
+returns-2 : tie.Need-returns-2
+returns-2 c = rw (c .before .if1 .taken, c .if2 .left)
+
+returns-3 : tie.Need-returns-3
+returns-3 c = rw (ne-eqb _ _ (c .if1 .left))
+
+pub version-for-spec : {M : Type 1} → statement M
+version-for-spec = tie.close (tie.spec returns returns-2 returns-3)

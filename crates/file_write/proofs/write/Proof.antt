@@ -1,0 +1,133 @@
+-- The proof that `write` meets its contract.
+use mathlib.Core.Path.{_≡_, sym, _∙_}
+use mathlib.Core.Bool.{false, _&&_}
+use native.Mathlib.Omega.{arith}
+use lib.Dec.{eqb}
+use Rattle.file.specs.Answers.{entryWith}
+use Rattle.file_write.specs.Results.{Measured, likeOf}
+use Rattle.file_write.proofs.Files.{file-worded, file-long-refused, file-small-refused, same-size, file-done}
+use borrow.Author.Needs.{needs}
+use Rattle.file_write.proofs.write.Statement.{statement}
+use Rattle.file_write.proofs.write.Tie as tie
+
+-- the body was measured
+measured :
+    (c : tie.After-measure) →
+    let a = c .before .before .before .before .before .before .before .args in
+    Measured (a .b .now) (a .parts) (a .work .now) (a .edit) (entryWith (a .fields) (a .name .now)) (likeOf (a .asked)) (c .measure .last .1 .1 .0)
+    (c .measure .result)
+measured c = rw (c .before .like .ensures) at (c .measure .ensures)
+
+-- no entry needs a word that its version lacks
+free : (c : tie.Else1) → (eqb (c .before .before .before .before .before .before .before .before .before .before .before .args .asked) 2 && c .before .before .before .before .measure .result .extended) ≡ false
+free c = sym (c .before .is-barred .ensures) ∙ c .if1 .left
+
+-- it was written as long as it was measured
+lengths : (c : tie.After-put-body) → c .put-body .result .at ≡ c .before .before .before .before .before .before .before .before .before .before .before .before .measure .result .at
+lengths c =
+    let v = c .before .before .before in
+    let r = v .before .before .before in
+    let f = r .before .before in
+    let m = f .before .before .before .before in
+    let st = m .before .before .before .before .before .before .before in
+    let p = st .pre in
+    same-size _ _ _ _ (st .args .asked) _ _ _ (measured m) _ (free f) (r .if2 .left) (v .before .if3 .left) _ (v .version-for .ensures) _ _ _ (c .put-body .ensures)
+    (p .records) (p .has) (p .there)
+
+like-requires : tie.Need-like-requires
+like-requires c κs = search needs
+
+measure-requires : tie.Need-measure-requires
+measure-requires c κs = search needs
+
+is-barred-requires : tie.Need-is-barred-requires
+is-barred-requires c κs = search needs
+
+same-length : tie.Need-same-length
+same-length c = search needs
+
+returns : tie.Need-returns
+returns c =
+    let t = c .before in
+    file-worded _ _ _ _ _ _ _ _ (measured (t .before .before .before)) _ (sym (t .is-barred .ensures) ∙ c .if1 .taken)
+
+same-length-2 : tie.Need-same-length-2
+same-length-2 c = search needs
+
+returns-2 : tie.Need-returns-2
+returns-2 c =
+    let f = c .before .before in
+    file-long-refused _ _ _ _ _ _ _ _ (measured (f .before .before .before .before)) _ (free f) (c .if2 .taken)
+
+add-if3 : tie.Need-add-if3
+add-if3 c = search needs
+
+same-length-3 : tie.Need-same-length-3
+same-length-3 c = search needs
+
+returns-3 : tie.Need-returns-3
+returns-3 c =
+    let s = c .before .before in
+    let f = s .before .before in
+    file-small-refused _ _ _ _ _ _ _ _ (measured (f .before .before .before .before)) _ (free f) (s .if2 .left) (c .if3 .taken)
+
+version-for-requires : tie.Need-version-for-requires
+version-for-requires c κs = search needs
+
+put-body-requires : tie.Need-put-body-requires
+put-body-requires c κs =
+    let m = c .before .before .before .before .before .before .before .before .before .before .before in
+    let p = m .before .before .before .before .before .before .before .pre in
+    record {
+      room = record { least = p .room .least; most = p .room .most; room = omega (arith, measured m .long, p .room .room) };
+      few = p .few;
+      reach = p .reach;
+      stage = p .stage;
+      short = p .short;
+      records = p .records;
+      has = p .has;
+      there = p .there;
+    }
+
+seal-requires : tie.Need-seal-requires
+seal-requires c κs =
+    let l = c .before .before .before .before .before in
+    let same = lengths l in
+    (omega (arith, l .put-body .ensures .out-long), omega arith)
+
+same-length-4 : tie.Need-same-length-4
+same-length-4 c = search needs
+
+same-length-5 : tie.Need-same-length-5
+same-length-5 c = search needs
+
+returns-4 : tie.Need-returns-4
+returns-4 c =
+    let s = c .before .before in
+    let l = s .before .before .before .before .before .before in
+    let v = l .before .before .before in
+    let r = v .before .before .before in
+    let f = r .before .before in
+    file-done _ _ _ _ _ _ _ _ (measured (f .before .before .before .before)) _ (free f) (r .if2 .left) (v .before .if3 .left) _ (v .version-for .ensures) _ _ _ (l .put-body .ensures) _ _
+    (s .seal .ensures)
+
+pub write-spec : {M : Type 1} → statement M
+write-spec =
+    tie.close
+    (tie.spec
+    like-requires
+    measure-requires
+    is-barred-requires
+    same-length
+    returns
+    same-length-2
+    returns-2
+    add-if3
+    same-length-3
+    returns-3
+    version-for-requires
+    put-body-requires
+    seal-requires
+    same-length-4
+    same-length-5
+    returns-4)

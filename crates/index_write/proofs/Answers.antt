@@ -1,0 +1,181 @@
+-- What the requests answer: by their tests, and by the reading of the file.
+use mathlib.Core.Path.{_≡_, refl, sym, _∙_}
+use mathlib.Core.List.{List, _++_}
+use mathlib.Core.Bool.{Bool, true, false, cond}
+use Prim.Native.Nat.{ℕ, _+_, _≤_, _<_}
+use native.Mathlib.Omega.{arith}
+use lib.ListN.{length, drop, replicate}
+use lib.Dec.{ltb}
+use borrow.Author.Tests.{ltb-true}
+use Rattle.format.specs.Bytes.{Bytes}
+use Rattle.format.specs.Names.{okName}
+use Rattle.format.specs.Records.{modeOf, Key, Records}
+use Rattle.format.specs.Layout.{okMode}
+use Rattle.format.specs.Reading.{Read, bad, good, need}
+use Rattle.format.specs.Reader.{Contents, readFile}
+use Rattle.format.specs.Requests.{okAsked, putRecord, removeRecord, holds, writing, rewriteRequest, putRequest, removeRequest}
+use Rattle.format_laws.proofs.Tests.{by-test}
+use Rattle.format_laws.proofs.Readings.{bad-good, good-inv}
+use Rattle.hash.specs.Sha1.{sha1}
+use Rattle.file.specs.declared.Fields.{Fields}
+use Rattle.file.specs.declared.Written.{Written}
+use Rattle.file.specs.declared.Written.the-variants as W
+use Rattle.file.specs.Answers.{tooSmall, cleared, entryWith}
+use Rattle.file.specs.Writing.{requested, answered}
+use Rattle.file.proofs.Laws.{cleared-past, cleared-long, cleared-same}
+use Rattle.file_contents.specs.declared.Parts.{Parts}
+use Rattle.file_contents.specs.Contents.{bodyOf, inRoom, Contains}
+use Rattle.file_contents.proofs.Room.{room-of, in-room, cleared-by}
+use Rattle.entries_edit.specs.declared.Edit.{Edit}
+use Rattle.file_write.specs.Results.{changed, Ready, FileWritten}
+use Rattle.index_write.specs.Calls.{Writes, Opened, Planned, recordNumber}
+use Rattle.index_write.proofs.Files.{has-of, count-few}
+
+-- ---- the answer's parts
+
+pub writes-bad : (x : Read (List ℕ)) (n p : ℕ) (out work work′ : List ℕ) → x ≡ bad n p → work′ ≡ cleared work → Writes x out work out work′ (W.Refused n p)
+writes-bad x n p out work work′ e after = record { said = rw e; filled = rw e; after = after }
+
+-- of another answer that is the same, and another workspace of which the same is left
+pub writes-as : (x y : Read (List ℕ)) (out work work₁ out′ work′ : List ℕ) (r : Written) → x ≡ y → cleared work₁ ≡ cleared work → Writes y out work₁ out′ work′ r
+    → Writes x out work out′ work′ r
+writes-as x y out work work₁ out′ work′ r e same h = record { said = rw e (h .said); filled = rw e (h .filled); after = h .after ∙ same }
+
+-- ---- what is asked of the records that were read
+
+module _ (x : Read Contents) (c : Contents) (m : ℕ) (read : x ≡ good c m) (asked room : ℕ) where
+  pub asked-refused : (ask : Records → Read (List ℕ)) → okAsked asked ≡ false → requested x (λ r. need (okAsked asked) 4 0 (ask r)) ≡ bad 4 0
+  unfolding need
+  asked-refused ask refused = rw (read, refused)
+
+  pub rewrite-refused : okAsked asked ≡ false → requested x (rewriteRequest 20 sha1 asked room) ≡ bad 4 0
+  unfolding rewriteRequest
+  rewrite-refused refused = asked-refused _ refused
+
+  pub rewrite-is : okAsked asked ≡ true → requested x (rewriteRequest 20 sha1 asked room) ≡ writing 20 sha1 asked room (c .records)
+  unfolding rewriteRequest need
+  rewrite-is ok = rw (read, ok)
+
+  module _ (fields : Fields) (name : List ℕ) where
+    pub put-refused : okAsked asked ≡ false → requested x (putRequest 20 sha1 asked (entryWith fields name) room) ≡ bad 4 0
+    unfolding putRequest
+    put-refused refused = asked-refused _ refused
+
+    pub put-unsound : okAsked asked ≡ true → 0 < recordNumber fields name → requested x (putRequest 20 sha1 asked (entryWith fields name) room) ≡ bad (recordNumber fields name) 0
+    unfolding putRequest need recordNumber modeOf
+    put-unsound ok h =
+        by-test (okMode (fields .mode))
+        (λ mode.
+        by-test (ltb (fields .stage) 4)
+        (λ stage. by-test (okName name) (λ named. absurd (let z : 0 < 0 = rw (mode, stage, named) at h in omega arith)) (λ named. rw (read, ok, mode, stage, named)))
+        (λ stage. rw (read, ok, mode, stage)))
+        (λ mode. rw (read, ok, mode))
+
+    pub put-is : okAsked asked ≡ true → recordNumber fields name ≡ 0
+        → requested x (putRequest 20 sha1 asked (entryWith fields name) room) ≡ writing 20 sha1 asked room (putRecord 20 (entryWith fields name) (c .records))
+    unfolding putRequest need recordNumber modeOf
+    put-is ok h =
+        by-test (okMode (fields .mode))
+        (λ mode.
+        by-test (ltb (fields .stage) 4)
+        (λ stage. by-test (okName name) (λ named. rw (read, ok, mode, stage, named)) (λ named. absurd (let z : _≡_ {A = ℕ} 9 0 = rw (mode, stage, named) at h in omega arith)))
+        (λ stage. absurd (let z : _≡_ {A = ℕ} 8 0 = rw (mode, stage) at h in omega arith)))
+        (λ mode. absurd (let z : _≡_ {A = ℕ} 7 0 = rw mode at h in omega arith))
+
+  module _ (k : Key) where
+    pub remove-refused : okAsked asked ≡ false → requested x (removeRequest 20 sha1 asked k room) ≡ bad 4 0
+    unfolding removeRequest
+    remove-refused refused = asked-refused _ refused
+
+    pub remove-absent : okAsked asked ≡ true → holds k (c .records .entries) ≡ false → requested x (removeRequest 20 sha1 asked k room) ≡ bad 18 0
+    unfolding removeRequest need
+    remove-absent ok absent = rw (read, ok, absent)
+
+    pub remove-is : okAsked asked ≡ true → holds k (c .records .entries) ≡ true
+        → requested x (removeRequest 20 sha1 asked k room) ≡ writing 20 sha1 asked room (removeRecord 20 k (c .records))
+    unfolding removeRequest need
+    remove-is ok there = rw (read, ok, there)
+
+-- a sound record: its stage, its name
+pub sound-record : (fields : Fields) (name : List ℕ) → recordNumber fields name ≡ 0 → (fields .stage ≤ 3) × (okName name ≡ true)
+unfolding recordNumber
+sound-record fields name h =
+    by-test (okMode (fields .mode))
+    (λ mode.
+    by-test (ltb (fields .stage) 4)
+    (λ stage.
+    by-test (okName name) (λ named. (let l : fields .stage < 4 = ltb-true (fields .stage) 4 stage in omega arith, named)) (λ named. absurd (let z : _≡_ {A = ℕ} 9 0 = rw (mode, stage, named) at h in omega arith)))
+    (λ stage. absurd (let z : _≡_ {A = ℕ} 8 0 = rw (mode, stage) at h in omega arith)))
+    (λ mode. absurd (let z : _≡_ {A = ℕ} 7 0 = rw mode at h in omega arith))
+
+-- ---- the calls, with a workspace that may be too small
+
+module _ (work : List ℕ) (x : Read Contents) (ask : Records → Read (List ℕ)) where
+  pub answered-bad : (n p : ℕ) → inRoom work x ≡ bad n p → answered work x ask ≡ bad n p
+  unfolding answered inRoom
+  answered-bad n p e = by (tooSmall work) e
+    where
+      by : (t : Bool) → cond t (bad 19 0) x ≡ bad n p → cond t (bad 19 0) (requested x ask) ≡ bad n p
+      by true q = let a : 19 ≡ n = cc in let b : 0 ≡ p = cc in rw (a, b)
+      by false q = rw q
+
+  pub answered-good : (c : Contents) (m : ℕ) → inRoom work x ≡ good c m → answered work x ask ≡ requested x ask
+  unfolding answered inRoom
+  answered-good c m e = by (tooSmall work) e
+    where
+      by : (t : Bool) → cond t (bad 19 0) x ≡ good c m → cond t (bad 19 0) (requested x ask) ≡ requested x ask
+      by true q = bad-good _ _ _ _ q
+      by false q = refl
+
+-- ---- what the calls leave behind, from what their second part does
+
+module _ (f work work₁ : List ℕ) (clear : work₁ ≡ cleared work) where
+  -- the file is refused
+  pub call-refused : (ask : Records → Read (List ℕ)) (n p : ℕ) (out : List ℕ) → inRoom work (readFile 20 sha1 f) ≡ bad n p
+      → Writes (answered work (readFile 20 sha1 f) ask) out work out work₁ (W.Refused n p)
+  call-refused ask n p out e = writes-bad _ n p out work work₁ (answered-bad work (readFile 20 sha1 f) ask n p e) clear
+
+  -- it is accepted
+  module _ (parts : Parts) (h : Contains 0 0 (inRoom work (readFile 20 sha1 f)) (bodyOf f) parts) where
+    room : 8192 ≤ length work
+    room = room-of work (readFile 20 sha1 f) (h .contents) (h .taken) (h .read)
+
+    same : cleared work₁ ≡ cleared work
+    same = rw clear (cleared-same work (cleared work) room (cleared-long work room) (cleared-past work room))
+
+    pub call-opened : Opened f work₁ parts × (work₁ ≡ cleared work₁)
+    call-opened =
+        let long : length work₁ ≡ length work = rw clear (cleared-long work room) in
+        let r = room in
+        (record { room = omega arith; contains = rw (in-room work (readFile 20 sha1 f) r) at h }, clear ∙ sym same)
+
+    pub call-answered : (ask : Records → Read (List ℕ)) (out out′ work′ : List ℕ) (r : Written)
+        → Writes (requested (readFile 20 sha1 f) ask) out work₁ out′ work′ r → Writes (answered work (readFile 20 sha1 f) ask) out work out′ work′ r
+    call-answered ask out out′ work′ r w =
+        writes-as _ _ out work work₁ out′ work′ r (answered-good work (readFile 20 sha1 f) ask (h .contents) (h .taken) (h .read)) same w
+
+-- ---- an edit, written
+
+module _ (f work : List ℕ) (bytes : Bytes f) (parts : Parts) (edit : Edit) (fields : Fields) (name : List ℕ) (p : Planned f work parts edit fields name) where
+  pub edit-ready : Ready (bodyOf f) work parts edit fields name
+  edit-ready =
+      let h = p .opened .contains in
+      record {
+        room = record { least = h .least; most = h .most; room = p .opened .room };
+        few = count-few f bytes parts h;
+        reach = p .reach;
+        stage = p .stage;
+        short = p .short;
+        records = h .contents .records;
+        has = has-of f bytes parts h;
+        there = p .there;
+      }
+
+  pub edit-writes : (asked : ℕ) (out work₁ out′ work₂ : List ℕ) (r : Written) → FileWritten (bodyOf f) parts work asked edit (entryWith fields name) out work₁ out′ r
+      → work₂ ≡ replicate 8192 0 ++ drop 8192 work₁ → (c : Contents) (m : ℕ) → readFile 20 sha1 f ≡ good c m
+      → Writes (writing 20 sha1 asked (length out) (changed edit (entryWith fields name) (c .records))) out work out′ work₂ r
+  edit-writes asked out work₁ out′ work₂ r w clear c m read =
+      let h = p .opened .contains in
+      good-inv _ _ _ _ (sym (h .read) ∙ read) λ is taken.
+      let a = w .answers (h .contents .records) (has-of f bytes parts h) (p .there) in
+      rw (← is) (record { said = a .said; filled = a .filled; after = cleared-by work work₂ (drop 8192 work₁) (p .opened .room) clear (w .past) })

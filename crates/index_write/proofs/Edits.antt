@@ -1,0 +1,54 @@
+-- What is put and removed, as an edit at the place that was found.
+use mathlib.Core.Path.{_≡_, refl, sym, ap, _∙_}
+use mathlib.Core.List.{List}
+use mathlib.Core.Bool.{Bool, true, false}
+use mathlib.Core.Option.{some}
+use Prim.Native.Nat.{ℕ}
+use lib.ListN.{drop, getElem?}
+use Rattle.format.specs.Records.{Entry, Key, keyOf, start, Records}
+use Rattle.format.specs.Reading.{good}
+use Rattle.format.specs.Reader.{readEntries}
+use Rattle.format.specs.Requests.{putRecord, removeRecord, holds}
+use Rattle.entries_place.specs.declared.Place.{Place}
+use Rattle.entries_place.specs.Places.{Ranked}
+use Rattle.entries_place.proofs.Places.{there-inv, there-name, put-at, remove-at, holds-at}
+use Rattle.entries_edit.specs.declared.Edit.the-variants as E
+use Rattle.entries_edit.specs.Edits.{Replaces}
+use Rattle.file_write.specs.Results.{treeAfter, changed}
+
+-- nothing is changed
+pub keep-changed : (e : Entry) (r : Records) → changed E.Keep e r ≡ r
+unfolding changed treeAfter
+keep-changed e r = refl
+
+module _ (v : ℕ) (b work : List ℕ) (count : ℕ) (k : Key) (work′ : List ℕ) (p : Place) (h : Ranked v b work count k work′ p) (r : Records) (m : ℕ)
+    (q : readEntries 20 v count start 12 (drop 12 b) ≡ good (r .entries) m) where
+  pub put-changed : (e : Entry) → keyOf e ≡ k → putRecord 20 e r ≡ changed (E.Put (p .before) (p .there)) e r
+  unfolding putRecord changed treeAfter
+  put-changed e is = rw (put-at v b work count k work′ p h (r .entries) m q e is)
+
+  pub remove-changed : (e : Entry) → e .name ≡ k .name → p .there ≡ true → removeRecord 20 k r ≡ changed (E.Remove (p .before)) e r
+  unfolding removeRecord changed treeAfter
+  remove-changed e is found = rw (remove-at v b work count k work′ p h (r .entries) m q found, is)
+
+  pub holds-there : holds k (r .entries) ≡ p .there
+  holds-there = holds-at v b work count k work′ p h (r .entries) m q
+
+  -- where an entry is there, it has the name
+  pub named-there : p .there ≡ true → (x : Entry) → getElem? (r .entries) (p .before) ≡ some x → x .name ≡ k .name
+  named-there found x at =
+      let (before, there) = h .is (r .entries) m q in
+      there-name k (r .entries) (sym there ∙ found) x (rw before at at) .0
+
+  pub put-replaces : Replaces (E.Put (p .before) (p .there)) (k .name) (r .entries)
+  put-replaces = by (p .there) (λ found. named-there found)
+    where
+      by : (t : Bool) → (t ≡ true → (x : Entry) → getElem? (r .entries) (p .before) ≡ some x → x .name ≡ k .name) → Replaces (E.Put (p .before) t) (k .name) (r .entries)
+      by true f = f refl
+      by false f = tt
+
+  -- the entry that is there
+  pub entry-there {ℓ} : {X : Type ℓ} → p .there ≡ true → ((x : Entry) → getElem? (r .entries) (p .before) ≡ some x → x .name ≡ k .name → X) → X
+  entry-there found f =
+      let (before, there) = h .is (r .entries) m q in
+      there-inv k (r .entries) (sym there ∙ found) λ x xs at here is. f x (rw before here) (ap (λ (z : Key). z .name) is)

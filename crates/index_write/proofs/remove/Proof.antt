@@ -1,0 +1,64 @@
+-- The proof that `remove` meets its contract.
+use Rattle.format.specs.Reader.{readFile}
+use Rattle.hash.specs.Sha1.{sha1}
+use Rattle.file.specs.Writing.{removeAnswer}
+use Rattle.file_contents.specs.Contents.{bodyOf, inRoom, Contains}
+use Rattle.index_write.proofs.Answers.{call-refused, call-opened, call-answered}
+use borrow.Author.Needs.{needs}
+use Rattle.index_write.proofs.remove.Statement.{statement}
+use Rattle.index_write.proofs.remove.Tie as tie
+
+-- the file is accepted
+accepted :
+    (c : tie.After-whole2) →
+    let a = c .before .before .before .before .before .before .before .before .before .before .args in
+    Contains 0 0 (inRoom (a .work .now) (readFile 20 sha1 (a .file .now))) (bodyOf (a .file .now)) (c .whole2 .given .0 .0)
+accepted c = rw (c .whole2 .given .1) at (c .before .before .before .before .read-cleared .ensures .0)
+
+read-cleared-requires : tie.Need-read-cleared-requires
+read-cleared-requires c κs = search needs
+
+enum-known-whole : tie.Need-enum-known-whole
+enum-known-whole c = search needs
+
+enum-known-whole-2 : tie.Need-enum-known-whole-2
+enum-known-whole-2 c = search needs
+
+remove-read-requires : tie.Need-remove-read-requires
+remove-read-requires c κs = let w = c .before .before .before in call-opened _ _ _ (w .before .before .before .before .read-cleared .ensures .1) _ (accepted w)
+
+same-length : tie.Need-same-length
+same-length c = search needs
+
+returns : tie.Need-returns
+unfolding removeAnswer
+returns c =
+    let q = c .before .before .before .before .before in
+    call-refused _ _ _ (q .read-cleared .ensures .1) _ _ _ _ (rw (c .before .whole .given .1) at (q .read-cleared .ensures .0))
+
+same-length-2 : tie.Need-same-length-2
+same-length-2 c = search needs
+
+same-length-3 : tie.Need-same-length-3
+same-length-3 c = search needs
+
+returns-2 : tie.Need-returns-2
+unfolding removeAnswer
+returns-2 c =
+    let r = c .before .before .before .before in
+    let w = r .before .before .before .before in
+    call-answered _ _ _ (w .before .before .before .before .read-cleared .ensures .1) _ (accepted w) _ _ _ _ _ (r .remove-read .ensures)
+
+pub remove-spec : {M : Type 1} → statement M
+remove-spec =
+    tie.close
+    (tie.spec
+    read-cleared-requires
+    enum-known-whole
+    enum-known-whole-2
+    remove-read-requires
+    same-length
+    returns
+    same-length-2
+    same-length-3
+    returns-2)

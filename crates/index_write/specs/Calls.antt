@@ -1,0 +1,59 @@
+-- What the calls that write an index leave behind.
+use mathlib.Core.Path.{_≡_}
+use mathlib.Core.List.{List}
+use mathlib.Core.Bool.{cond}
+use Prim.Native.Nat.{ℕ, _≤_}
+use lib.ListN.{length}
+use lib.Dec.{ltb}
+use Rattle.format.specs.Names.{okName}
+use Rattle.format.specs.Layout.{okMode}
+use Rattle.format.specs.Reading.{Read}
+use Rattle.format.specs.Reader.{readFile}
+use Rattle.hash.specs.Sha1.{sha1}
+use Rattle.file.specs.declared.Fields.{Fields}
+use Rattle.file.specs.declared.Written.{Written}
+use Rattle.file.specs.declared.Written.the-variants as W
+use Rattle.file.specs.Answers.{cleared}
+use Rattle.file.specs.Writing.{writtenOf, outputAfter}
+use Rattle.file_contents.specs.declared.Parts.{Parts}
+use Rattle.file_contents.specs.Contents.{bodyOf, Contains}
+use Rattle.entries_edit.specs.declared.Edit.{Edit}
+use Rattle.entries_edit.specs.Edits.{passes, Replaces}
+use Rattle.index_write.specs.declared.WriteAnswer.{WriteAnswer}
+
+-- the answer x as the code gives it; the output and the workspace after it
+pub record Writes (x : Read (List ℕ)) (out work out′ work′ : List ℕ) (r : Written) : Type 0 where
+  pub said : r ≡ writtenOf x
+  pub filled : out′ ≡ outputAfter x out
+  pub after : work′ ≡ cleared work
+
+-- ---- between the reading of a file and the writing
+
+-- the file f was read, and parts tell where its records stand; the workspace is long enough
+pub record Opened (f work : List ℕ) (parts : Parts) : Type 0 where
+  pub room : 8192 ≤ length work
+  pub contains : Contains 0 0 (readFile 20 sha1 f) (bodyOf f) parts
+
+-- and an edit is to be made; fields and name are those of the entry that is put
+pub record Planned (f work : List ℕ) (parts : Parts) (edit : Edit) (fields : Fields) (name : List ℕ) : Type 0 where
+  pub opened : Opened f work parts
+  pub reach : passes edit ≤ parts .count
+  pub stage : fields .stage ≤ 3
+  pub short : length name ≤ 8192
+  pub there : Replaces edit name (opened .contains .contents .records .entries)
+
+-- the refusal of a record that is to be put, 0 where it is sound
+unfoldable pub recordNumber : Fields → List ℕ → ℕ
+recordNumber fields name = cond (okMode (fields .mode)) (cond (ltb (fields .stage) 4) (cond (okName name) 0 9) 8) 7
+
+-- ---- the answers in plain fields: refusal is 0 of a success, and all that does not apply is 0
+
+abbrev pub plainOf : Written → WriteAnswer
+plainOf (W.Refused n p) = record { refusal = n; place = p; length = 0 }
+plainOf (W.Done n) = record { refusal = 0; place = 0; length = n }
+
+-- the same with plain fields
+pub record PlainWrites (x : Read (List ℕ)) (out work out′ work′ : List ℕ) (r : WriteAnswer) : Type 0 where
+  pub said : r ≡ plainOf (writtenOf x)
+  pub filled : out′ ≡ outputAfter x out
+  pub after : work′ ≡ cleared work

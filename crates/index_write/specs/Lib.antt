@@ -1,0 +1,2 @@
+-- What the calls that write an index leave behind.
+pub mod Calls

@@ -1,0 +1,280 @@
+// The calls that write an index: rewrite it in a version, put one record, remove one name and stage.
+ghost use mathlib.Core.Path.{_≡_};
+ghost use Prim.Native.Nat.{ℕ};
+ghost use lib.ListN.{length};
+ghost use Rattle.format.specs.Reading.{good};
+ghost use Rattle.format.specs.Reader.{Contents, readFile};
+ghost use Rattle.format.specs.Requests.{okAsked, writing, rewriteRequest, putRequest, removeRequest};
+ghost use Rattle.hash.specs.Sha1.{sha1};
+ghost use Rattle.file.specs.Answers.{cleared, entryWith};
+ghost use Rattle.file.specs.Writing.{requested, rewriteAnswer, putAnswer, removeAnswer};
+ghost use Rattle.file_write.specs.Results.{changed};
+ghost use Rattle.index_write.specs.Calls.{Writes, PlainWrites, Opened, Planned, recordNumber, plainOf};
+use entries_edit::Edit;
+use entries_place::find_place;
+use file::Fields;
+use file::Written;
+use file_contents::Parts;
+use file_contents::Whole;
+use file_contents::read_cleared;
+
+// ---- the tests of a request
+
+// Whether a version may be asked for.
+fn asked_ok(asked: u32) -> bool
+    ensures { λ r. ⌜ r ≡ okAsked asked ⌝ }
+{
+    if asked == 0 {
+        return true;
+    }
+    if asked < 2 {
+        return false;
+    }
+    asked <= 4
+}
+
+// The refusal of a record that is to be put, 0 where it is sound.
+fn record_number(fields: Fields, name: &[u8]) -> u32
+    ensures { λ r. ⌜ r ≡ recordNumber fields (now (name .entry)) ⌝ }
+{
+    if entries::mode_ok(fields.mode) {
+        if fields.stage < 4 {
+            if fields::name_ok(name) {
+                return 0;
+            }
+            return 9;
+        }
+        return 8;
+    }
+    7
+}
+
+// ---- the requests on a file that was read
+
+// The file with an edit, written; the workspace is cleared.
+fn write_edited(
+    file: &[u8],
+    parts: Parts,
+    work: &mut [u8],
+    out: &mut [u8],
+    asked: u32,
+    edit: Edit,
+    fields: Fields,
+    name: &[u8],
+) -> Written
+    requires { ⌜ Planned (now file) (now work) parts edit fields (now name) ⌝ }
+    ensures { λ r. ⌜ ((c : Contents) (m : ℕ) → readFile 20 sha1 (now (file .entry)) ≡ good c m → Writes (writing 20 sha1 asked (length (now (out .entry))) (changed edit (entryWith fields (now (name .entry))) (c .records))) (now (out .entry)) (now (work .entry)) (now (out .exit)) (now (work .exit)) r) ⌝ }
+{
+    let n = file.len() - 20;
+    let written = file_write::write(
+        &file[..n],
+        parts,
+        &mut *work,
+        asked,
+        edit,
+        fields,
+        name,
+        out,
+    );
+    fields::clear(work);
+    written
+}
+
+fn rewrite_read(file: &[u8], parts: Parts, work: &mut [u8], out: &mut [u8], asked: u32) -> Written
+    requires { ⌜ Opened (now file) (now work) parts × (now work ≡ cleared (now work)) ⌝ }
+    ensures { λ r. ⌜ Writes (requested (readFile 20 sha1 (now (file .entry))) (rewriteRequest 20 sha1 asked (length (now (out .entry))))) (now (out .entry)) (now (work .entry)) (now (out .exit)) (now (work .exit)) r ⌝ }
+{
+    if asked_ok(asked) {
+        return write_edited(
+            file,
+            parts,
+            work,
+            out,
+            asked,
+            Edit::Keep,
+            file::no_fields(),
+            b"",
+        );
+    }
+    Written::Refused(4, 0)
+}
+
+fn put_read(
+    file: &[u8],
+    parts: Parts,
+    work: &mut [u8],
+    out: &mut [u8],
+    asked: u32,
+    name: &[u8],
+    fields: Fields,
+) -> Written
+    requires { ⌜ Opened (now file) (now work) parts × (now work ≡ cleared (now work)) ⌝ }
+    ensures { λ r. ⌜ Writes (requested (readFile 20 sha1 (now (file .entry))) (putRequest 20 sha1 asked (entryWith fields (now (name .entry))) (length (now (out .entry))))) (now (out .entry)) (now (work .entry)) (now (out .exit)) (now (work .exit)) r ⌝ }
+{
+    if asked_ok(asked) {
+        let refusal = record_number(fields, name);
+        if 0 < refusal {
+            return Written::Refused(refusal, 0);
+        }
+        let n = file.len() - 20;
+        let place = find_place(
+            &file[..n],
+            parts.version,
+            &mut *work,
+            parts.count,
+            name,
+            fields.stage,
+        );
+        let edit = Edit::Put(place.before, place.there);
+        return write_edited(file, parts, work, out, asked, edit, fields, name);
+    }
+    Written::Refused(4, 0)
+}
+
+fn remove_read(
+    file: &[u8],
+    parts: Parts,
+    work: &mut [u8],
+    out: &mut [u8],
+    asked: u32,
+    name: &[u8],
+    stage: u32,
+) -> Written
+    requires { ⌜ Opened (now file) (now work) parts × (now work ≡ cleared (now work)) ⌝ }
+    ensures { λ r. ⌜ Writes (requested (readFile 20 sha1 (now (file .entry))) (removeRequest 20 sha1 asked (record { name = now (name .entry); stage = stage }) (length (now (out .entry))))) (now (out .entry)) (now (work .entry)) (now (out .exit)) (now (work .exit)) r ⌝ }
+{
+    if asked_ok(asked) {
+        let n = file.len() - 20;
+        let place = find_place(
+            &file[..n],
+            parts.version,
+            &mut *work,
+            parts.count,
+            name,
+            stage,
+        );
+        if place.there {
+            let edit = Edit::Remove(place.before);
+            return write_edited(file, parts, work, out, asked, edit, file::no_fields(), name);
+        }
+        fields::clear(work);
+        return Written::Refused(18, 0);
+    }
+    Written::Refused(4, 0)
+}
+
+// ---- the calls
+
+// The same records in a version: 2, 3, 4, or 0 for 2 where no record needs the extended word, else 3.
+pub fn rewrite(file: &[u8], work: &mut [u8], out: &mut [u8], asked: u32) -> Written
+    ensures { λ r. ⌜ Writes (rewriteAnswer 20 sha1 (now (work .entry)) asked (length (now (out .entry))) (readFile 20 sha1 (now (file .entry)))) (now (out .entry)) (now (work .entry)) (now (out .exit)) (now (work .exit)) r ⌝ }
+{
+    let whole = read_cleared(file, &mut *work, 0, 0);
+    match whole {
+        Whole::Bad(n, p) => Written::Refused(n, p),
+        Whole::Good(parts) => rewrite_read(file, parts, work, out, asked),
+    }
+}
+
+// The records with this one in place of the entry of its name and stage, or inserted.
+pub fn put(
+    file: &[u8],
+    work: &mut [u8],
+    out: &mut [u8],
+    asked: u32,
+    name: &[u8],
+    fields: Fields,
+) -> Written
+    ensures { λ r. ⌜ Writes (putAnswer 20 sha1 (now (work .entry)) asked (entryWith fields (now (name .entry))) (length (now (out .entry))) (readFile 20 sha1 (now (file .entry)))) (now (out .entry)) (now (work .entry)) (now (out .exit)) (now (work .exit)) r ⌝ }
+{
+    let whole = read_cleared(file, &mut *work, 0, 0);
+    match whole {
+        Whole::Bad(n, p) => Written::Refused(n, p),
+        Whole::Good(parts) => put_read(file, parts, work, out, asked, name, fields),
+    }
+}
+
+// The records without the entry of this name and stage.
+pub fn remove(
+    file: &[u8],
+    work: &mut [u8],
+    out: &mut [u8],
+    asked: u32,
+    name: &[u8],
+    stage: u32,
+) -> Written
+    ensures { λ r. ⌜ Writes (removeAnswer 20 sha1 (now (work .entry)) asked (record { name = now (name .entry); stage = stage }) (length (now (out .entry))) (readFile 20 sha1 (now (file .entry)))) (now (out .entry)) (now (work .entry)) (now (out .exit)) (now (work .exit)) r ⌝ }
+{
+    let whole = read_cleared(file, &mut *work, 0, 0);
+    match whole {
+        Whole::Bad(n, p) => Written::Refused(n, p),
+        Whole::Good(parts) => remove_read(file, parts, work, out, asked, name, stage),
+    }
+}
+
+// ---- for programs in other languages
+
+// The answer of the three calls in plain fields: refusal is 0 of a success, and all that does not apply is 0.
+#[repr(C)]
+pub struct WriteAnswer {
+    pub refusal: u32,
+    pub place: usize,
+    pub length: usize,
+}
+
+fn plain(written: Written) -> WriteAnswer
+    ensures { λ r. ⌜ r ≡ plainOf written ⌝ }
+{
+    match written {
+        Written::Refused(n, p) => WriteAnswer {
+            refusal: n,
+            place: p,
+            length: 0,
+        },
+        Written::Done(n) => WriteAnswer {
+            refusal: 0,
+            place: 0,
+            length: n,
+        },
+    }
+}
+
+#[no_mangle]
+pub extern "C" fn nerupazhil_rewrite(
+    file: &[u8],
+    work: &mut [u8],
+    out: &mut [u8],
+    asked: u32,
+) -> WriteAnswer
+    ensures { λ r. ⌜ PlainWrites (rewriteAnswer 20 sha1 (now (work .entry)) asked (length (now (out .entry))) (readFile 20 sha1 (now (file .entry)))) (now (out .entry)) (now (work .entry)) (now (out .exit)) (now (work .exit)) r ⌝ }
+{
+    plain(rewrite(file, work, out, asked))
+}
+
+#[no_mangle]
+pub extern "C" fn nerupazhil_put(
+    file: &[u8],
+    work: &mut [u8],
+    out: &mut [u8],
+    asked: u32,
+    name: &[u8],
+    fields: Fields,
+) -> WriteAnswer
+    ensures { λ r. ⌜ PlainWrites (putAnswer 20 sha1 (now (work .entry)) asked (entryWith fields (now (name .entry))) (length (now (out .entry))) (readFile 20 sha1 (now (file .entry)))) (now (out .entry)) (now (work .entry)) (now (out .exit)) (now (work .exit)) r ⌝ }
+{
+    plain(put(file, work, out, asked, name, fields))
+}
+
+#[no_mangle]
+pub extern "C" fn nerupazhil_remove(
+    file: &[u8],
+    work: &mut [u8],
+    out: &mut [u8],
+    asked: u32,
+    name: &[u8],
+    stage: u32,
+) -> WriteAnswer
+    ensures { λ r. ⌜ PlainWrites (removeAnswer 20 sha1 (now (work .entry)) asked (record { name = now (name .entry); stage = stage }) (length (now (out .entry))) (readFile 20 sha1 (now (file .entry)))) (now (out .entry)) (now (work .entry)) (now (out .exit)) (now (work .exit)) r ⌝ }
+{
+    plain(remove(file, work, out, asked, name, stage))
+}
