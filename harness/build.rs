@@ -6,7 +6,7 @@ use std::process::exit;
 
 /// The folder of the archives; where it is not set, `target/staticlib` of the repository.
 const FOLDER: &str = "NERUPAZHIL_STATICLIB";
-const LIBRARIES: [&str; 2] = ["hash", "index"];
+const LIBRARIES: [&str; 3] = ["hash", "index", "index_write"];
 
 fn main() {
     println!("cargo:rerun-if-env-changed={FOLDER}");
