@@ -1,16 +1,16 @@
 -- Laws of a table of siblings: one more is noted, all are.
 use mathlib.Core.Path.{_≡_, refl, sym, ap, subst, _∙_}
-use mathlib.Core.List.{List, []}
-use mathlib.Core.Bool.{true, false, cond, _&&_}
-use mathlib.Core.Option.{none, some}
-use Prim.Native.Nat.{ℕ, suc, _+_, _-_, _%_, _≤_, _<_}
+use mathlib.Core.List.{List}
+use mathlib.Core.Bool.{true, false, _&&_}
+use mathlib.Core.Option.{none}
+use Prim.Native.Nat.{ℕ, _+_, _-_, _%_, _≤_, _<_}
 use native.Mathlib.Omega.{arith}
 use lib.ListN.{length, getD, set, drop, length-set}
 use lib.Seq.{getD-set-same, getD-set-other}
 use lib.Dec.{eqb}
 use borrow.Author.Tests.{eqb-true, eqb-false, eq-eqb, ne-eqb}
 use Rattle.format.specs.Bytes.{eqList}
-use Rattle.format.specs.Records.{Forest, nil, tree}
+use Rattle.format.specs.Records.{Forest, nil}
 use Rattle.format.specs.Layout.{distinct}
 use Rattle.tree_counts.specs.Judge.{child}
 use Rattle.format_laws.proofs.Tests.{by-test, and-inv}

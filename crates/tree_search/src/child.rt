@@ -53,7 +53,7 @@ pub fn scan(d: &[u8], at: usize, k: u32, name: &[u8]) -> Child
     Child::Missing
 }
 
-// Whether k trees at a place take more than so many bytes. The look at them ends there.
+// Whether k trees at a place take more than so many bytes. The look at them ends there. It only chooses how to search: nothing rests on the answer.
 pub fn is_long(d: &[u8], at: usize, k: u32, limit: usize) -> bool
     requires { ⌜ (at ≤ length (now d)) × (length (now d) ≤ 16777216) ⌝ }
 {

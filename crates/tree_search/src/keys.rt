@@ -1,5 +1,5 @@
-// Keys of names, and the slots of a table that they stand in. Keys are numbers below a prime, made with a number that whoever writes a file can't
-// choose: two names have the same key by chance only.
+// Keys of names, and the slots of a table that they stand in. A key is a polynomial of the name's bytes, modulo a prime, at a number that whoever writes
+// a file can't choose: two names have the same key by chance only.
 ghost use mathlib.Core.Path.{_≡_};
 ghost use Prim.Native.Nat.{_<_};
 ghost use lib.ListN.{length};
@@ -11,9 +11,6 @@ pub type Table = [u32; 2051];
 
 pub const SLOTS: usize = 1024;
 
-// Keys are below it.
-pub const PRIME: u64 = 4294967291;
-
 fn wide(x: u8) -> u64
     ensures { λ r. ⌜ (r ≡ x) × (r < 256) ⌝ }
 {
@@ -21,17 +18,19 @@ fn wide(x: u8) -> u64
 }
 
 // One more byte of a key.
-fn step_key(m: u32, h: u64, x: u64) -> u64
-    requires { ⌜ (h < 4294967291) × (x < 256) ⌝ }
-    ensures { λ r. ⌜ (r ≡ stepKey m h x) × (r < 4294967291) ⌝ }
+fn step_key(m: u64, h: u64, x: u64) -> u64
+    requires { ⌜ (m < 1073741824) × (h < 4294967296) × (x < 256) ⌝ }
+    ensures { λ r. ⌜ (r ≡ stepKey m h x) × (r < 4294967296) ⌝ }
 {
-    (h * m as u64 + x + 1) % PRIME
+    let y = h * m + x + 1;
+    y % 2147483648 + y / 2147483648
 }
 
 // The key of a name.
-pub fn key_of(s: &[u8], m: u32) -> u32
-    ensures { λ r. ⌜ r ≡ keyOf m (now (s .entry)) ⌝ }
+pub fn key_of(s: &[u8], maker: u32) -> u32
+    ensures { λ r. ⌜ r ≡ keyOf maker (now (s .entry)) ⌝ }
 {
+    let m = maker as u64 % 1073741824;
     let mut h: u64 = 0;
     let mut i = 0;
     while i < s.len() {

@@ -11,7 +11,6 @@ use entries_run::first;
 use tree_nodes::node::Node;
 use tree_nodes::node::NodeRead;
 use tree_nodes::node::read_node;
-use tree_search::keys::PRIME;
 use tree_search::table::reset;
 ghost use Prim.Native.Nat.{_≤_};
 ghost use lib.ListN.{length};
@@ -26,7 +25,7 @@ fn walk_all(d: &[u8], root: Node, b: &[u8], v: u32, work: &mut [u8], s: Front, s
 {
     let mut near = [0u32; 2051];
     let mut far = [0u32; 2051];
-    let m = (seed % PRIME) as u32;
+    let m = (seed % 4294967296) as u32;
     reset(&mut near, m);
     reset(&mut far, m);
     walk_directory(

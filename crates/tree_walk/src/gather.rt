@@ -1,4 +1,4 @@
-// The names ahead in a directory: their next components are wanted in a table.
+// The names ahead in a directory: their next components are wanted in a table. What a table says does not depend on which keys are wanted.
 use crate::front::Front;
 use crate::front::advance;
 use crate::front::stays;

@@ -10,14 +10,14 @@ use Rattle.tree_search.proofs.keys.key_of.Statement.{statement}
 use Rattle.tree_search.proofs.keys.key_of.Tie as tie
 
 abbrev Inv-loop : tie.InvT-loop
-Inv-loop s m h₀ i₀ h i = (i ≤ length s) × (h < 4294967291) × (keyOf m s ≡ keyFrom m h (drop i s))
+Inv-loop s maker m h₀ i₀ h i = (i ≤ length s) × (h < 4294967296) × (m < 1073741824) × (keyOf maker s ≡ keyFrom m h (drop i s))
 
 abbrev μ-loop : tie.MeasureT-loop
-μ-loop s m h₀ i₀ h i = length s - i
+μ-loop s maker m h₀ i₀ h i = length s - i
 
 loop-holds : tie.Need-loop-holds Inv-loop μ-loop
 unfolding keyOf
-loop-holds c = (omega arith, omega arith, refl)
+loop-holds c = (omega arith, omega arith, omega arith, refl)
 
 shared-slice-read-wide : tie.Need-shared-slice-read-wide Inv-loop μ-loop
 shared-slice-read-wide c = search needs
@@ -38,7 +38,7 @@ loop-again : tie.Need-loop-again Inv-loop μ-loop
 loop-again c =
     let l = c .before .before .before .before in
     let s = c .before .before .before .before .before .before .args .s .now in
-    (omega arith, c .step-key .ensures .1, rw (c .step-key .ensures .0, c .before .wide .ensures .0) (l .loop .inv .2 ∙ key-more _ (l .loop .h) s (l .loop .i) (c .before .before .before .loop-test .taken)))
+    (omega arith, c .step-key .ensures .1, l .loop .inv .2, rw (c .step-key .ensures .0, c .before .wide .ensures .0) (l .loop .inv .3 ∙ key-more _ (l .loop .h) s (l .loop .i) (c .before .before .before .loop-test .taken)))
 
 step-key-requires-2 : tie.Need-step-key-requires-2 Inv-loop μ-loop
 step-key-requires-2 c κs = search needs
@@ -49,7 +49,7 @@ cast-result c = search needs
 returns : tie.Need-returns Inv-loop μ-loop
 returns c =
     let l = c .before .before in
-    sym (l .loop .inv .2 ∙ key-end _ _ (l .before .before .args .s .now) (l .loop .i) (c .before .loop-test .left) ∙ sym (c .step-key2 .ensures .0))
+    sym (l .loop .inv .3 ∙ key-end _ _ (l .before .before .args .s .now) (l .loop .i) (c .before .loop-test .left) ∙ sym (c .step-key2 .ensures .0))
 
 pub key-of-spec : {M : Type 1} → statement M
 key-of-spec =

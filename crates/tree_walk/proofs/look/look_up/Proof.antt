@@ -1,7 +1,5 @@
 -- The proof that `look_up` meets its contract.
-use Prim.Native.Nat.{_≤_, _<_}
 use native.Mathlib.Omega.{arith}
-use lib.ListN.{length}
 use Rattle.tree_walk.proofs.Components.{fits-length, at-name, look-file, look-child}
 use borrow.Author.Needs.{needs}
 use Rattle.tree_walk.proofs.look.look_up.Statement.{statement}
