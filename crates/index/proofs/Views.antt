@@ -6,7 +6,6 @@ use mathlib.Core.Option.{Option, none, some}
 use Prim.Native.Nat.{ℕ, zero, suc, _+_, _-_, _≤_, _<_}
 use native.Mathlib.Omega.{arith}
 use lib.ListN.{length, take, drop, getD, replicate, getElem?, length-take}
-use lib.Seq.{take-take}
 use lib.Dec.{ltb}
 use borrow.Author.Tests.{ltb-false}
 use Rattle.format.specs.Records as F
@@ -20,19 +19,12 @@ use Rattle.file.specs.declared.EntryAnswer.{EntryAnswer}
 use Rattle.file.specs.declared.NodeAnswer.{NodeAnswer}
 use Rattle.file.specs.declared.UndoAnswer.{UndoAnswer}
 use Rattle.file.specs.Answers.{tooSmall, View, refused, inFile, inWorkspace, pick, given, cleared, checkedOf, checkAnswer, entryOf, entryAnswer, nodeOf, nodeAnswer, undoOf, undoAnswer, entrySaid, nodeSaid, undoSaid, refusedEntry, refusedNode, refusedUndo}
-use Rattle.file.proofs.Laws.{small, large, cleared-large}
+use Rattle.file.proofs.Laws.{small, large, cleared-large, part-within, same-refusal}
 use Rattle.extensions.specs.Heads.{part}
 use Rattle.file_contents.specs.Contents.{bodyOf, inRoom}
 use Rattle.index.specs.Calls.{EntryShows, NodeShows, UndoShows}
 
 -- ---- lists
-
--- a part of the first m elements
-pub part-within : (m at n : ℕ) (s : List ℕ) → at + n ≤ m → take n (drop at (take m s)) ≡ take n (drop at s)
-part-within m zero n s h = take-take n m s (omega arith)
-part-within zero (suc at) n s h = absurd (omega arith)
-part-within (suc m) (suc at) n [] h = refl
-part-within (suc m) (suc at) n (x ∷ s) h = part-within m at n s (omega arith)
 
 -- data in the body are data in the file
 pub part-of-body : (f : List ℕ) (a e : ℕ) → a ≤ e → e ≤ length (bodyOf f) → part (bodyOf f) a e ≡ part f a e
@@ -96,11 +88,6 @@ module _ (work : List ℕ) (k : ℕ) (x y : Read Contents) (e : inRoom work x �
   undo-is = given-by (undoOf k) (tooSmall work) refl ∙ ap (undoOf k) e
 
 -- ---- refusals
-
-same-refusal : {A : Type 0} {B : Type 0} (g : ℕ → ℕ → B) (v : View A) (n p i j : ℕ) (r : B) → v ≡ refused n p → r ≡ g n p → v ≡ refused i j → r ≡ g i j
-same-refusal g v n p i j r e q f =
-    let a : n ≡ i = cc in
-    let b : p ≡ j = cc in q ∙ rw (a, b)
 
 module _ (n p : ℕ) (f : List ℕ) where
   pub entry-refused :

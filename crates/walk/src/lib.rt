@@ -1,0 +1,142 @@
+// A walk over the entries of a file of version 2 or 3: the next entry, step by step, without a workspace.
+ghost use mathlib.Core.Path.{_≡_};
+ghost use mathlib.Core.Bool.{false};
+ghost use mathlib.Core.List.{[]};
+ghost use Prim.Native.Nat.{_-_, _≤_};
+ghost use lib.ListN.{length, drop};
+ghost use lib.Dec.{eqb};
+ghost use Rattle.format.specs.Records as F;
+ghost use Rattle.format.specs.Reader.{readEntry};
+ghost use Rattle.file.specs.Answers.{nameIn};
+ghost use Rattle.walk.specs.Walks.{bodyIn, or18, walkRead, walkAnswer, placeAfter, StepShows};
+ghost use Rattle.walk.specs.Walks as W;
+ghost use Rattle.walk.specs.Sights.{Sees};
+use entries::Fixed;
+use entries::Head;
+use entries::Text;
+use file::EntryAnswer;
+use file::Shown;
+
+// The answer of start: a refusal's number and place, or how many entries a walk has before it.
+pub enum Started {
+    Refused(u32, usize),
+    Ready(u32),
+}
+
+// The place of the next entry, and how many remain.
+pub struct Place {
+    pub at: usize,
+    pub left: u32,
+}
+
+// A walk: the file, the place of the next entry, and how many remain.
+pub struct Walk<'a> {
+    pub file: &'a [u8],
+    pub at: usize,
+    pub left: u32,
+}
+
+// Nothing, or an entry: the bytes before its name, the length of its name, and how many bytes it has from its name on.
+pub enum Sight {
+    Nothing,
+    Found(Head, usize, usize),
+}
+
+// ---- the entry at a place
+
+// Whether the header is one of version 2 or 3.
+fn walkable(file: &[u8]) -> bool
+    ensures { λ r. ⌜ r ≡ W.walkable 20 (now (file .entry)) ⌝ }
+{
+    if file.len() < 32 {
+        return false;
+    }
+    if fields::same(&file[..4], b"DIRC") {
+        let v = fields::read32(file, 4);
+        if v == 2 {
+            return true;
+        }
+        return v == 3;
+    }
+    false
+}
+
+// The entry of version v, 2 or 3, at a place of the body b.
+fn plain_at(b: &[u8], at: usize, v: u32) -> Sight
+    requires { ⌜ (at ≤ length (now b)) × (eqb v 4 ≡ false) ⌝ }
+    ensures { λ r. ⌜ Sees (or18 (readEntry 20 v F.start at (drop at (now (b .entry))))) (now (b .entry)) at r ⌝ }
+{
+    let fixed = entries::read_fixed(b, at, v);
+    match fixed {
+        Fixed::Bad(_) => Sight::Nothing,
+        Fixed::Good(h) => {
+            let text = entries::read_plain(b, at + h.length, h.length, h.flags % 4096);
+            match text {
+                Text::Bad(_) => Sight::Nothing,
+                Text::Good(n, m) => Sight::Found(h, n, m),
+            }
+        }
+    }
+}
+
+// The next entry of a file at a place, where some remain.
+fn see(file: &[u8], at: usize, left: u32) -> Sight
+    ensures { λ r. ⌜ Sees (walkRead 20 (now (file .entry)) at left) (bodyIn 20 (now (file .entry))) at r ⌝ }
+{
+    if left == 0 {
+        return Sight::Nothing;
+    }
+    if walkable(file) {
+        let n = file.len() - 20;
+        if n < at {
+            return Sight::Nothing;
+        }
+        return plain_at(&file[..n], at, fields::read32(file, 4));
+    }
+    Sight::Nothing
+}
+
+// The next entry of a file at a place, where so many remain: 18 where there is none.
+pub fn entry_at(file: &[u8], at: usize, left: u32) -> EntryAnswer
+    ensures { λ r. ⌜ StepShows (walkAnswer 20 (now (file .entry)) at left) (now (file .entry)) r ⌝ }
+{
+    let sight = see(file, at, left);
+    match sight {
+        Sight::Nothing => file::refused_entry(18, 0),
+        Sight::Found(h, length, _) => {
+            let n = file.len() - 20;
+            EntryAnswer {
+                shown: Shown::InFile(at + h.length, length),
+                fields: file::fields_at(&file[..n], at, h.flags, h.word),
+            }
+        }
+    }
+}
+
+// One fewer, from 1 on.
+fn fewer(left: u32) -> u32
+    ensures { λ r. ⌜ r ≡ left - 1 ⌝ }
+{
+    if left == 0 {
+        return 0;
+    }
+    left - 1
+}
+
+// The place after the next entry, with one fewer to come. Where there is none, the place stays.
+pub fn place_after(file: &[u8], at: usize, left: u32) -> Place
+    ensures { λ r. ⌜ r ≡ placeAfter 20 (now (file .entry)) at left ⌝ }
+{
+    let sight = see(file, at, left);
+    match sight {
+        Sight::Nothing => Place {
+            at: at,
+            left: fewer(left),
+        },
+        Sight::Found(h, _, m) => Place {
+            at: at + h.length + m,
+            left: fewer(left),
+        },
+    }
+}
+
