@@ -2,10 +2,11 @@
 use mathlib.Core.Path.{_≡_, refl, sym, _∙_}
 use mathlib.Core.List.{List, [], _∷_, _++_}
 use mathlib.Core.Bool.{true, false}
+use mathlib.Core.Option.{none}
 use Prim.Native.Nat.{ℕ, zero, suc, _+_, _-_, _/_, _%_, _≤_, _<_}
 use native.Mathlib.Nat.{add-zero}
 use native.Mathlib.Omega.{arith}
-use lib.ListN.{length, take, drop, replicate, length-append}
+use lib.ListN.{length, take, drop, replicate, getElem?, length-append}
 use lib.Seq.{length-take-le, take-take, take-at, drop-drop}
 use lib.Dec.{eqb}
 use borrow.Author.Tests.{lt-ltb, le-ltb, le-leb, lt-leb}
@@ -105,7 +106,13 @@ fields-entry b at x y name =
     let at-k : (k : ℕ) → be32 b (at + k) ≡ be32 (drop at b) k = λ k. sym (be32-drop at b k) in
     rw (first, at-k 4, at-k 8, at-k 12, at-k 16, at-k 20, at-k 24, at-k 28, at-k 32, at-k 36, ← (drop-drop 40 at b)) refl
 
--- ---- refusals
+-- ---- items and refusals
+
+-- a list has no item past its end
+pub item-none : {A : Type 0} (l : List A) (k : ℕ) → length l ≤ k → getElem? l k ≡ none
+item-none [] k h = refl
+item-none (a ∷ l) zero h = absurd (omega arith)
+item-none (a ∷ l) (suc k) h = item-none l k (omega arith)
 
 -- of one view there is one refusal
 pub same-refusal : {A : Type 0} {B : Type 0} (g : ℕ → ℕ → B) (v : View A) (n p i j : ℕ) (r : B) → v ≡ refused n p → r ≡ g n p → v ≡ refused i j → r ≡ g i j

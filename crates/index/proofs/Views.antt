@@ -33,11 +33,6 @@ part-of-body f a e order inside =
     part-within (length f - 20) a (e - a) f (omega arith)
 
 module _ {A : Type 0} where
-  pub item-none : (l : List A) (k : ℕ) → length l ≤ k → getElem? l k ≡ none
-  item-none [] k h = refl
-  item-none (a ∷ l) zero h = absurd (omega arith)
-  item-none (a ∷ l) (suc k) h = item-none l k (omega arith)
-
   pub item-some : (l : List A) (k : ℕ) (z : A) → k < length l → getElem? l k ≡ some (getD l k z)
   item-some [] k z h = absurd (omega arith)
   item-some (a ∷ l) zero z h = refl

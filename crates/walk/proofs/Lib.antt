@@ -1,3 +1,7 @@
 -- Laws of a walk, and the theorem that it shows the entries of a file one after another.
 pub mod Plain
+pub mod Steps
 pub mod Seeing
+pub mod Starts
+pub mod Statements
+pub mod Proved

@@ -30,9 +30,10 @@ use Rattle.file.proofs.Laws.{part-in, part-within, same-refusal}
 use Rattle.walk.specs.declared.Place.{Place}
 use Rattle.walk.specs.declared.Sight.{Sight}
 use Rattle.walk.specs.declared.Sight.the-variants.{Nothing, Found}
-use Rattle.walk.specs.Walks.{bodyIn, walkable, or18, walkRead, viewIn, takenIn, walkAnswer, placeAfter, StepShows}
+use Rattle.walk.specs.Walks.{placeAt, bodyIn, walkable, or18, walkRead, viewIn, takenIn, walkAnswer, placeAfter, StepShows}
 use Rattle.walk.specs.Sights.{sightRead, Stands, Sees}
 use Rattle.walk.proofs.Plain.{tail-bad, tail-start}
+use Rattle.walk.proofs.Steps.{walk-on, view-is, place-is}
 
 -- ---- nothing, or an entry
 
@@ -100,19 +101,6 @@ module _ (f : List ℕ) where
       unfolding walkable
       version-three e = rw (le-leb 32 (length f) long, signed, ne-eqb (be32 f 4) 2 e)
 
-  tests : walkable 20 f ≡ true → (leb 32 (length f) ≡ true) × (eqList (take 4 f) DIRC ≡ true) × ((eqb (be32 f 4) 2 || eqb (be32 f 4) 3) ≡ true)
-  unfolding walkable
-  tests e = and-inv₃ (leb 32 (length f)) (eqList (take 4 f) DIRC) (eqb (be32 f 4) 2 || eqb (be32 f 4) 3) e
-
-  pub walkable-long : walkable 20 f ≡ true → 32 ≤ length f
-  walkable-long e = leb-true 32 (length f) (tests e .0)
-
-  pub walkable-old : walkable 20 f ≡ true → eqb (be32 f 4) 4 ≡ false
-  walkable-old e =
-      or-inv (eqb (be32 f 4) 2) (eqb (be32 f 4) 3) (tests e .2)
-      (λ two. ne-eqb (be32 f 4) 4 (λ four. omega (arith, eqb-true (be32 f 4) 2 two)))
-      (λ three. ne-eqb (be32 f 4) 4 (λ four. omega (arith, eqb-true (be32 f 4) 3 three)))
-
   module _ (at left : ℕ) where
     pub none-left : left ≡ 0 → Sees (walkRead 20 f at left) (bodyIn 20 f) at Nothing
     unfolding walkRead need
@@ -128,8 +116,7 @@ module _ (f : List ℕ) where
 
       module _ (ok : walkable 20 f ≡ true) where
         walk-is : walkRead 20 f at left ≡ or18 (readEntry 20 (be32 f 4) start at (drop at (bodyIn 20 f)))
-        unfolding walkRead need
-        walk-is = rw (more, ok)
+        walk-is = walk-on 20 f at left more ok
 
         pub past-body : length f - 20 < at → Sees (walkRead 20 f at left) (bodyIn 20 f) at Nothing
         unfolding readEntry need fixedLength
@@ -144,27 +131,19 @@ module _ (f : List ℕ) where
 -- ---- what is shown, and the place after it
 
 module _ (f : List ℕ) (at left : ℕ) where
-  view-is : (x : Read Entry) → walkRead 20 f at left ≡ x → walkAnswer 20 f at left ≡ viewIn x
-  unfolding walkAnswer
-  view-is x e = ap viewIn e
-
-  place-is : (x : Read Entry) → walkRead 20 f at left ≡ x → placeAfter 20 f at left ≡ record { at = at + takenIn x; left = left - 1 }
-  unfolding placeAfter
-  place-is x e = rw e
-
   pub step-refused : (r : EntryAnswer) → Sees (walkRead 20 f at left) (bodyIn 20 f) at Nothing
       → ((file work : List ℕ) → entrySaid r file work ≡ refused 18 0) × (r ≡ refusedEntry 18 0) → StepShows (walkAnswer 20 f at left) f r
   step-refused r s (said, is) =
-      let v : walkAnswer 20 f at left ≡ refused 18 0 = view-is _ (s .same) in
+      let v : walkAnswer 20 f at left ≡ refused 18 0 = view-is 20 f at left _ (s .same) in
       record { said = λ work. said f work ∙ sym v; bare = λ i j q. same-refusal refusedEntry _ 18 0 i j r v is q }
 
   pub place-stays : (less : ℕ) → Sees (walkRead 20 f at left) (bodyIn 20 f) at Nothing → less ≡ left - 1
-      → record { at = at; left = less } ≡ placeAfter 20 f at left
-  place-stays less s e = rw (place-is _ (s .same), add-zero at, e)
+      → placeAt at less ≡ placeAfter 20 f at left
+  place-stays less s e = rw (place-is 20 f at left _ (s .same), add-zero at, e)
 
   module _ (h : Head) (n m : ℕ) (s : Sees (walkRead 20 f at left) (bodyIn 20 f) at (Found h n m)) where
-    pub place-moves : (end less : ℕ) → end ≡ at + h .length + m → less ≡ left - 1 → record { at = end; left = less } ≡ placeAfter 20 f at left
-    place-moves end less e l = let sum : end ≡ at + (h .length + m) = omega arith in rw (place-is _ (s .same), sum, l)
+    pub place-moves : (end less : ℕ) → end ≡ at + h .length + m → less ≡ left - 1 → placeAt end less ≡ placeAfter 20 f at left
+    place-moves end less e l = let sum : end ≡ at + (h .length + m) = omega arith in rw (place-is 20 f at left _ (s .same), sum, l)
 
     pub found-stands : Stands (bodyIn 20 f) at h n m
     found-stands = s .stands h n m refl
@@ -176,7 +155,7 @@ module _ (f : List ℕ) (at left : ℕ) where
         → StepShows (walkAnswer 20 f at left) f (record { shown = S.InFile (at + h .length) n; fields = x })
     unfolding entrySaid nameIn
     step-shows x fields =
-        let v = view-is _ (s .same) in
+        let v = view-is 20 f at left _ (s .same) in
         let t = found-stands in
         let whole = body-long in
         let inside : at + h .length + n ≤ length f - 20 = omega arith in

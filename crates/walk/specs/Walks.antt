@@ -25,9 +25,12 @@ startedOf (good c m) = cond (eqb (c .version) 4) (Refused 4 0) (Ready (length (c
 unfoldable pub startAnswer : List ℕ → Read Contents → Started
 startAnswer work x = cond (tooSmall work) (Refused 19 0) (startedOf x)
 
+abbrev pub placeAt : ℕ → ℕ → Place
+placeAt at left = record { at = at; left = left }
+
 -- before the first entry, n remaining
 abbrev pub firstPlace : ℕ → Place
-firstPlace n = record { at = 12; left = n }
+firstPlace n = placeAt 12 n
 
 -- ---- one step, whatever the file, the place and the number of entries that remain
 
@@ -62,7 +65,7 @@ walkAnswer w f at left = viewIn (walkRead w f at left)
 
 -- the place after it, with one fewer to come; where there is none, the place stays
 unfoldable pub placeAfter : ℕ → List ℕ → ℕ → ℕ → Place
-placeAfter w f at left = record { at = at + takenIn (walkRead w f at left); left = left - 1 }
+placeAfter w f at left = placeAt (at + takenIn (walkRead w f at left)) (left - 1)
 
 -- ---- many steps
 

@@ -6,9 +6,10 @@ ghost use Prim.Native.Nat.{_-_, _≤_};
 ghost use lib.ListN.{length, drop};
 ghost use lib.Dec.{eqb};
 ghost use Rattle.format.specs.Records as F;
-ghost use Rattle.format.specs.Reader.{readEntry};
-ghost use Rattle.file.specs.Answers.{nameIn};
-ghost use Rattle.walk.specs.Walks.{bodyIn, or18, walkRead, walkAnswer, placeAfter, StepShows};
+ghost use Rattle.format.specs.Reader.{readEntry, readFile};
+ghost use Rattle.hash.specs.Sha1.{sha1};
+ghost use Rattle.file.specs.Answers.{cleared, nameIn};
+ghost use Rattle.walk.specs.Walks.{startAnswer, placeAt, firstPlace, bodyIn, or18, walkRead, walkAnswer, placeAfter, StepShows};
 ghost use Rattle.walk.specs.Walks as W;
 ghost use Rattle.walk.specs.Sights.{Sees};
 use entries::Fixed;
@@ -16,6 +17,7 @@ use entries::Head;
 use entries::Text;
 use file::EntryAnswer;
 use file::Shown;
+use file_contents::Whole;
 
 // The answer of start: a refusal's number and place, or how many entries a walk has before it.
 pub enum Started {
@@ -140,3 +142,66 @@ pub fn place_after(file: &[u8], at: usize, left: u32) -> Place
     }
 }
 
+// ---- the start
+
+// Whether a walk can go over a file: the refusals of the file, then 4 for version 4, else how many entries there are.
+pub fn start(file: &[u8], work: &mut [u8]) -> Started
+    ensures { λ r. ⌜ (r ≡ startAnswer (now (work .entry)) (readFile 20 sha1 (now (file .entry)))) × (now (work .exit) ≡ cleared (now (work .entry))) ⌝ }
+{
+    let whole = file_contents::read_cleared(file, work, 0, 0);
+    match whole {
+        Whole::Bad(n, p) => Started::Refused(n, p),
+        Whole::Good(parts) => {
+            if parts.version == 4 {
+                return Started::Refused(4, 0);
+            }
+            Started::Ready(parts.count)
+        }
+    }
+}
+
+// ---- the walk as one value
+
+// A walk before the first of so many entries.
+pub fn new<'a>(file: &'a [u8], entries: u32) -> Walk<'a>
+    ensures { λ r. ⌜ (r .file ≡ file .entry) × (placeAt (r .at) (r .left) ≡ firstPlace entries) ⌝ }
+{
+    Walk {
+        file: file,
+        at: 12,
+        left: entries,
+    }
+}
+
+// The next entry; 18 where none remain.
+pub fn next<'a>(w: Walk<'a>) -> EntryAnswer
+    ensures { λ r. ⌜ StepShows (walkAnswer 20 (now (w .entry .file)) (w .entry .at) (w .entry .left)) (now (w .entry .file)) r ⌝ }
+{
+    entry_at(w.file, w.at, w.left)
+}
+
+// The walk after the next entry.
+pub fn advance<'a>(w: Walk<'a>) -> Walk<'a>
+    ensures { λ r. ⌜ (r .file ≡ w .entry .file) × (placeAt (r .at) (r .left) ≡ placeAfter 20 (now (w .entry .file)) (w .entry .at) (w .entry .left)) ⌝ }
+{
+    let p = place_after(w.file, w.at, w.left);
+    Walk {
+        file: w.file,
+        at: p.at,
+        left: p.left,
+    }
+}
+
+// The name that an answer of the walk points at: a part of the file.
+pub fn name<'a>(w: Walk<'a>, shown: Shown) -> &'a [u8]
+    ensures { λ r. ⌜ now r ≡ nameIn shown (now (w .entry .file)) [] ⌝ }
+{
+    file::part_of(w.file, shown)
+}
+
+// How many entries remain.
+pub fn remaining<'a>(w: Walk<'a>) -> u32
+    ensures { λ r. ⌜ r ≡ w .entry .left ⌝ }
+{
+    w.left
+}

@@ -7,7 +7,8 @@ use lib.ListN.{length}
 use lib.Seq.{length-take-le}
 use borrow.Author.Needs.{needs}
 use Rattle.walk.specs.Walks.{walkable}
-use Rattle.walk.proofs.Seeing.{walkable-long, walkable-old, none-left, not-walkable, past-body, at-place}
+use Rattle.walk.proofs.Seeing.{none-left, not-walkable, past-body, at-place}
+use Rattle.walk.proofs.Steps.{walkable-long, walkable-old}
 use Rattle.walk.proofs.see.Statement.{statement}
 use Rattle.walk.proofs.see.Tie as tie
 
@@ -22,7 +23,7 @@ walkable-requires : tie.Need-walkable-requires
 walkable-requires c κs = search needs
 
 sub-n : tie.Need-sub-n
-sub-n c = omega (arith, walkable-long _ (ok c))
+sub-n c = omega (arith, walkable-long 20 _ (ok c))
 
 returns-2 : tie.Need-returns-2
 returns-2 c = past-body _ _ _ (c .before .before .before .if1 .left) (ok (c .before)) (c .if3 .taken)
@@ -31,13 +32,13 @@ slice-aggregate-plain-at : tie.Need-slice-aggregate-plain-at
 slice-aggregate-plain-at c = let f = c .before .before .before .before .before .before .args .file .now in sym (length-take-le (length f - 20) f (omega arith))
 
 read32-requires : tie.Need-read32-requires
-read32-requires c κs = omega (arith, walkable-long _ (ok (c .before .before)))
+read32-requires c κs = omega (arith, walkable-long 20 _ (ok (c .before .before)))
 
 plain-at-requires : tie.Need-plain-at-requires
 plain-at-requires c κs =
     let e = c .before .before in
     let f = e .before .before .before .before .before .args .file .now in
-    (rw (length-take-le (length f - 20) f (omega arith)) (e .if3 .left), rw (c .read32 .ensures) (walkable-old f (ok (e .before))))
+    (rw (length-take-le (length f - 20) f (omega arith)) (e .if3 .left), rw (c .read32 .ensures) (walkable-old 20 f (ok (e .before))))
 
 returns-3 : tie.Need-returns-3
 returns-3 c =
