@@ -1,6 +1,6 @@
 -- What the code sees of the next entry, and what it shows.
 use mathlib.Core.Path.{_≡_, refl, sym, ap, _∙_}
-use mathlib.Core.List.{List}
+use mathlib.Core.List.{List, []}
 use mathlib.Core.Bool.{true, false, cond, _&&_, _||_}
 use Prim.Native.Nat.{ℕ, _+_, _-_, _%_, _≤_, _<_}
 use native.Mathlib.Nat.{add-zero}
@@ -24,13 +24,14 @@ use Rattle.entries.proofs.Before.{readEntry-bad, readEntry-good}
 use Rattle.entries.proofs.Names.{readPlain-bad, readPlain-good}
 use Rattle.file.specs.declared.EntryAnswer.{EntryAnswer}
 use Rattle.file.specs.declared.Fields.{Fields}
+use Rattle.file.specs.declared.Shown.{Shown}
 use Rattle.file.specs.declared.Shown.the-variants as S
 use Rattle.file.specs.Answers.{View, refused, inFile, partIn, nameIn, entryWith, entrySaid, refusedEntry}
 use Rattle.file.proofs.Laws.{part-in, part-within, same-refusal}
 use Rattle.walk.specs.declared.Place.{Place}
 use Rattle.walk.specs.declared.Sight.{Sight}
 use Rattle.walk.specs.declared.Sight.the-variants.{Nothing, Found}
-use Rattle.walk.specs.Walks.{placeAt, bodyIn, walkable, or18, walkRead, viewIn, takenIn, walkAnswer, placeAfter, StepShows}
+use Rattle.walk.specs.Walks.{placeAt, bodyIn, walkable, or18, walkRead, viewIn, takenIn, walkAnswer, nameShown, placeAfter, StepShows}
 use Rattle.walk.specs.Sights.{sightRead, Stands, Sees}
 use Rattle.walk.proofs.Plain.{tail-bad, tail-start}
 use Rattle.walk.proofs.Steps.{walk-on, view-is, place-is}
@@ -165,3 +166,13 @@ module _ (f : List ℕ) (at left : ℕ) where
           said = λ work. ap inFile (fields (partIn (at + h .length) n f) ∙ rw name) ∙ sym v;
           bare = λ i j q. let z : _≡_ {A = ℕ} 0 1 = cc in absurd (omega arith);
         }
+
+-- the name that an answer points at is the one of what it shows
+said-name : (x : Fields) (s : Shown) (f work : List ℕ) → nameIn s f work ≡ nameShown (entrySaid (record { shown = s; fields = x }) f work)
+unfolding entrySaid nameIn
+said-name x (S.Refused n p) f work = refl
+said-name x (S.InFile at n) f work = refl
+said-name x (S.InWorkspace n) f work = refl
+
+pub shown-name : (v : View Entry) (f : List ℕ) (r : EntryAnswer) → StepShows v f r → nameIn (r .shown) f [] ≡ nameShown v
+shown-name v f r h = said-name (r .fields) (r .shown) f [] ∙ ap nameShown (h .said [])

@@ -11,7 +11,7 @@ use Rattle.format.specs.Layout.{DIRC}
 use Rattle.format.specs.Reading.{Read, bad, good, need}
 use Rattle.format.specs.Reader.{Contents, readEntry}
 use Rattle.file.specs.declared.EntryAnswer.{EntryAnswer}
-use Rattle.file.specs.Answers.{View, refused, inFile, tooSmall, entrySaid, refusedEntry}
+use Rattle.file.specs.Answers.{View, refused, inFile, inWorkspace, tooSmall, entrySaid, refusedEntry}
 use Rattle.walk.specs.declared.Started.{Started}
 use Rattle.walk.specs.declared.Started.the-variants.{Refused, Ready}
 use Rattle.walk.specs.declared.Place.{Place}
@@ -62,6 +62,12 @@ takenIn (good e m) = m
 -- what the next entry shows
 unfoldable pub walkAnswer : ℕ → List ℕ → ℕ → ℕ → View Entry
 walkAnswer w f at left = viewIn (walkRead w f at left)
+
+-- its name
+abbrev pub nameShown : View Entry → List ℕ
+nameShown (refused n p) = []
+nameShown (inFile e) = e .name
+nameShown (inWorkspace e) = e .name
 
 -- the place after it, with one fewer to come; where there is none, the place stays
 unfoldable pub placeAfter : ℕ → List ℕ → ℕ → ℕ → Place

@@ -1,15 +1,14 @@
 // A walk over the entries of a file of version 2 or 3: the next entry, step by step, without a workspace.
 ghost use mathlib.Core.Path.{_≡_};
 ghost use mathlib.Core.Bool.{false};
-ghost use mathlib.Core.List.{[]};
 ghost use Prim.Native.Nat.{_-_, _≤_};
 ghost use lib.ListN.{length, drop};
 ghost use lib.Dec.{eqb};
 ghost use Rattle.format.specs.Records as F;
 ghost use Rattle.format.specs.Reader.{readEntry, readFile};
 ghost use Rattle.hash.specs.Sha1.{sha1};
-ghost use Rattle.file.specs.Answers.{cleared, nameIn};
-ghost use Rattle.walk.specs.Walks.{startAnswer, placeAt, firstPlace, bodyIn, or18, walkRead, walkAnswer, placeAfter, StepShows};
+ghost use Rattle.file.specs.Answers.{cleared};
+ghost use Rattle.walk.specs.Walks.{startAnswer, placeAt, firstPlace, bodyIn, or18, walkRead, walkAnswer, nameShown, placeAfter, StepShows};
 ghost use Rattle.walk.specs.Walks as W;
 ghost use Rattle.walk.specs.Sights.{Sees};
 use entries::Fixed;
@@ -115,6 +114,15 @@ pub fn entry_at(file: &[u8], at: usize, left: u32) -> EntryAnswer
     }
 }
 
+// Its name, a part of the file.
+pub fn name_at<'a>(file: &'a [u8], at: usize, left: u32) -> &'a [u8]
+    ensures { λ r. ⌜ now r ≡ nameShown (walkAnswer 20 (now (file .entry)) at left) ⌝ }
+{
+    let answer = entry_at(file, at, left);
+    let shown = answer.shown;
+    file::part_of(file, shown)
+}
+
 // One fewer, from 1 on.
 fn fewer(left: u32) -> u32
     ensures { λ r. ⌜ r ≡ left - 1 ⌝ }
@@ -192,11 +200,11 @@ pub fn advance<'a>(w: Walk<'a>) -> Walk<'a>
     }
 }
 
-// The name that an answer of the walk points at: a part of the file.
-pub fn name<'a>(w: Walk<'a>, shown: Shown) -> &'a [u8]
-    ensures { λ r. ⌜ now r ≡ nameIn shown (now (w .entry .file)) [] ⌝ }
+// The name of the next entry, a part of the file; none where there is no entry.
+pub fn name<'a>(w: Walk<'a>) -> &'a [u8]
+    ensures { λ r. ⌜ now r ≡ nameShown (walkAnswer 20 (now (w .entry .file)) (w .entry .at) (w .entry .left)) ⌝ }
 {
-    file::part_of(w.file, shown)
+    name_at(w.file, w.at, w.left)
 }
 
 // How many entries remain.
