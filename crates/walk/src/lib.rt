@@ -127,10 +127,10 @@ pub fn name_at<'a>(file: &'a [u8], at: usize, left: u32) -> &'a [u8]
 fn fewer(left: u32) -> u32
     ensures { λ r. ⌜ r ≡ left - 1 ⌝ }
 {
-    if left == 0 {
-        return 0;
+    if 0 < left {
+        return left - 1;
     }
-    left - 1
+    0
 }
 
 // The place after the next entry, with one fewer to come. Where there is none, the place stays.
@@ -143,10 +143,13 @@ pub fn place_after(file: &[u8], at: usize, left: u32) -> Place
             at: at,
             left: fewer(left),
         },
-        Sight::Found(h, _, m) => Place {
-            at: at + h.length + m,
-            left: fewer(left),
-        },
+        Sight::Found(h, _, m) => {
+            let end = at + h.length + m;
+            Place {
+                at: end,
+                left: fewer(left),
+            }
+        }
     }
 }
 

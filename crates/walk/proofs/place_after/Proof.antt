@@ -29,15 +29,15 @@ fewer-requires c κs = search needs
 enum-known-sight : tie.Need-enum-known-sight
 enum-known-sight c = search needs
 
-add-t9 : tie.Need-add-t9
-add-t9 c =
+add-end : tie.Need-add-end
+add-end c =
     let k = c .before .before in
     let t = found-stands _ _ _ _ _ _ (seen k) in
     let l = body-long _ _ _ _ _ _ (seen k) in
     search needs
 
-add-t10 : tie.Need-add-t10
-add-t10 c =
+add-end-2 : tie.Need-add-end-2
+add-end-2 c =
     let k = c .before .before in
     let t = found-stands _ _ _ _ _ _ (seen k) in
     let l = body-long _ _ _ _ _ _ (seen k) in
@@ -62,8 +62,8 @@ place-after-spec =
     enum-told
     fewer-requires
     enum-known-sight
-    add-t9
-    add-t10
+    add-end
+    add-end-2
     fewer-requires-2
     returns
     returns-2)
