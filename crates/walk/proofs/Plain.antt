@@ -1,5 +1,5 @@
 -- Laws of an entry of version 2 or 3, whose key before it matters for order alone.
-use mathlib.Core.Path.{_≡_, refl, sym, ap, _∙_}
+use mathlib.Core.Path.{_≡_, sym, _∙_}
 use mathlib.Core.List.{List}
 use mathlib.Core.Bool.{true, false}
 use Prim.Native.Nat.{ℕ, _+_, _/_, _%_}
@@ -7,13 +7,12 @@ use lib.ListN.{drop}
 use lib.Dec.{eqb}
 use Rattle.format.specs.Names.{okName, compare, rises}
 use Rattle.format.specs.Records.{Entry, Key, start}
-use Rattle.format.specs.Reading.{Read, bad, good, need, shift, bind}
+use Rattle.format.specs.Reading.{bad, good, need, shift, bind}
 use Rattle.format.specs.Reader.{readPlain, readName, entryOf, readTail, readEntry}
 use Rattle.format.specs.Requests.{goesBefore}
 use Rattle.format_laws.proofs.Keys.{start-before}
 use Rattle.format_laws.proofs.Readings.{good-inv, need-inv, bind-inv, bind-good}
 use Rattle.spelling_entries.proofs.Names.{name-read}
-use Rattle.entries.specs.Answers.{readHead}
 use Rattle.entries.proofs.Before.{readEntry-head}
 
 module _ (w v p : ℕ) (old : eqb v 4 ≡ false) where

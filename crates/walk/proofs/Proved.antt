@@ -1,28 +1,26 @@
 -- The theorem of Statements, for every width and every hash; so for SHA-1.
-use mathlib.Core.Path.{_≡_, refl, sym, ap, _∙_}
+use mathlib.Core.Path.{_≡_, refl, ap, _∙_}
 use mathlib.Core.List.{List}
-use mathlib.Core.Bool.{Bool, true, false, cond, _&&_, _||_}
-use Prim.Native.Nat.{ℕ, _+_, _-_, _≤_}
+use mathlib.Core.Bool.{true, false, _&&_, _||_}
+use Prim.Native.Nat.{ℕ, _-_}
 use native.Mathlib.Omega.{arith}
-use lib.ListN.{length, take, drop, getElem?}
+use lib.ListN.{length, drop, getElem?}
 use lib.Dec.{eqb, leb}
 use borrow.Author.Tests.{eq-eqb, eqb-false, leb-true}
-use Rattle.format.specs.Bytes.{be32, eqList}
-use Rattle.format.specs.Records.{Entry, start}
-use Rattle.format.specs.Layout.{DIRC}
+use Rattle.format.specs.Bytes.{be32}
+use Rattle.format.specs.Records.{start}
 use Rattle.format.specs.Reading.{Read, bad, good}
 use Rattle.format.specs.Reader.{Contents, readEntries, readBody, readFile}
 use Rattle.format_laws.proofs.Tests.{by-test, and-inv, and-both, cond-inv}
 use Rattle.format_laws.proofs.Readings.{good-inv, need-inv, shift-inv, bind-inv}
 use Rattle.hash.specs.Sha1.{sha1}
-use Rattle.file.specs.Answers.{tooSmall, refused, pick, given, entryAnswer}
+use Rattle.file.specs.Answers.{tooSmall, pick, given, entryAnswer}
 use Rattle.file.proofs.Laws.{item-none}
 use Rattle.file_contents.proofs.Bodies.{entries-length}
-use Rattle.walk.specs.declared.Started.{Started}
 use Rattle.walk.specs.declared.Started.the-variants.{Refused, Ready}
 use Rattle.walk.specs.Walks.{startedOf, startAnswer, bodyIn, walkable}
 use Rattle.walk.proofs.Steps.{steps-show, steps-show-all}
-use Rattle.walk.proofs.Statements.{shownAfter, WholeWalk}
+use Rattle.walk.proofs.Statements.{WholeWalk}
 
 -- ---- what a file has over which a walk goes
 

@@ -1,20 +1,19 @@
 -- What the code sees of the next entry, and what it shows.
 use mathlib.Core.Path.{_≡_, refl, sym, ap, _∙_}
 use mathlib.Core.List.{List, []}
-use mathlib.Core.Bool.{true, false, cond, _&&_, _||_}
+use mathlib.Core.Bool.{true, false}
 use Prim.Native.Nat.{ℕ, _+_, _-_, _%_, _≤_, _<_}
 use native.Mathlib.Nat.{add-zero}
 use native.Mathlib.Omega.{arith}
 use lib.ListN.{length, take, drop, length-take, length-drop}
 use lib.Seq.{drop-drop}
-use lib.Dec.{eqb, leb, ltb}
-use borrow.Author.Tests.{eq-eqb, ne-eqb, eqb-true, lt-ltb, leb-true, le-leb, lt-leb}
+use lib.Dec.{eqb, ltb}
+use borrow.Author.Tests.{eq-eqb, ne-eqb, lt-ltb, le-leb, lt-leb}
 use Rattle.format.specs.Bytes.{be32, eqList}
 use Rattle.format.specs.Records.{Entry, start}
 use Rattle.format.specs.Layout.{fixedLength, DIRC}
-use Rattle.format.specs.Reading.{Read, bad, good, need, shift}
+use Rattle.format.specs.Reading.{Read, bad, need, shift}
 use Rattle.format.specs.Reader.{readPlain, entryOf, readEntry}
-use Rattle.format_laws.proofs.Tests.{and-inv₃, or-inv}
 use Rattle.spelling_entries.proofs.Entries.{entry-takes}
 use Rattle.entries.specs.declared.Head.{Head}
 use Rattle.entries.specs.declared.Fixed.the-variants as F
@@ -28,10 +27,9 @@ use Rattle.file.specs.declared.Shown.{Shown}
 use Rattle.file.specs.declared.Shown.the-variants as S
 use Rattle.file.specs.Answers.{View, refused, inFile, partIn, nameIn, entryWith, entrySaid, refusedEntry}
 use Rattle.file.proofs.Laws.{part-in, part-within, same-refusal}
-use Rattle.walk.specs.declared.Place.{Place}
 use Rattle.walk.specs.declared.Sight.{Sight}
 use Rattle.walk.specs.declared.Sight.the-variants.{Nothing, Found}
-use Rattle.walk.specs.Walks.{placeAt, bodyIn, walkable, or18, walkRead, viewIn, takenIn, walkAnswer, nameShown, placeAfter, StepShows}
+use Rattle.walk.specs.Walks.{placeAt, bodyIn, walkable, or18, walkRead, walkAnswer, nameShown, placeAfter, StepShows}
 use Rattle.walk.specs.Sights.{sightRead, Stands, Sees}
 use Rattle.walk.proofs.Plain.{tail-bad, tail-start}
 use Rattle.walk.proofs.Steps.{walk-on, view-is, place-is}

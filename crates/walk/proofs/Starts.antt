@@ -3,10 +3,8 @@ use mathlib.Core.Path.{_≡_, refl, ap, _∙_}
 use mathlib.Core.List.{List}
 use mathlib.Core.Bool.{Bool, true, false, cond}
 use Prim.Native.Nat.{ℕ}
-use lib.ListN.{length}
-use lib.Dec.{eqb}
-use borrow.Author.Tests.{eq-eqb, ne-eqb}
-use Rattle.format.specs.Reading.{Read, bad, good}
+use borrow.Author.Tests.{ne-eqb}
+use Rattle.format.specs.Reading.{Read, bad}
 use Rattle.format.specs.Reader.{Contents}
 use Rattle.file.specs.Answers.{tooSmall}
 use Rattle.file_contents.specs.declared.Parts.{Parts}

@@ -1,6 +1,6 @@
 -- Laws of one step of a walk and of many, for any width.
-use mathlib.Core.Path.{_≡_, refl, sym, ap, _∙_}
-use mathlib.Core.List.{List, [], _∷_, map}
+use mathlib.Core.Path.{_≡_, refl, ap, _∙_}
+use mathlib.Core.List.{List, _∷_, map}
 use mathlib.Core.Bool.{true, false, _||_}
 use Prim.Native.Nat.{ℕ, zero, suc, _+_, _-_, _≤_}
 use native.Mathlib.Nat.{add-zero}
@@ -16,7 +16,7 @@ use Rattle.format.specs.Reading.{Read, good, bad, need}
 use Rattle.format.specs.Reader.{readEntry, readEntries}
 use Rattle.format_laws.proofs.Tests.{and-inv₃, or-inv}
 use Rattle.format_laws.proofs.Readings.{good-inv, bind-inv}
-use Rattle.file.specs.Answers.{View, refused, inFile, pick}
+use Rattle.file.specs.Answers.{View, inFile, pick}
 use Rattle.walk.specs.declared.Place.{Place}
 use Rattle.walk.specs.Walks.{placeAt, bodyIn, walkable, or18, walkRead, viewIn, takenIn, walkAnswer, placeAfter, placeAfterAll, walkOver}
 use Rattle.walk.proofs.Plain.{any-key}

@@ -1,6 +1,5 @@
 -- The proof that `place_after` meets its contract.
 use mathlib.Core.Path.{refl}
-use native.Mathlib.Omega.{arith}
 use borrow.Author.Needs.{needs}
 use Rattle.walk.specs.declared.Sight.the-variants.{Found}
 use Rattle.walk.specs.Walks.{bodyIn, walkRead}
