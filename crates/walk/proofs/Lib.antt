@@ -3,6 +3,7 @@ pub mod Plain
 pub mod Examples
 pub mod Steps
 pub mod Seeing
+pub mod Apart
 pub mod Starts
 pub mod Statements
 pub mod Proved
