@@ -3,6 +3,7 @@ use mathlib.Core.Path.{_≡_, refl, sym, ap, _∙_}
 use mathlib.Core.List.{List}
 use mathlib.Core.Bool.{Bool, true, false, cond, not, _&&_}
 use Prim.Native.Nat.{ℕ, _+_, _-_, _/_, _%_, _≤_, _<_}
+use native.Mathlib.Omega.{arith}
 use lib.ListN.{length, drop}
 use lib.Dec.{eqb, leb}
 use borrow.Author.Tests.{eq-eqb, ne-eqb}
@@ -12,7 +13,8 @@ use Rattle.format.specs.Layout.{okMode, fixedLength}
 use Rattle.format.specs.Reading.{Read, bad, good, need, shift, bind}
 use Rattle.format.specs.Reader.{isSet, okWord, readEntry, readFixed, readTail}
 use Rattle.format_laws.proofs.Numbers.{be16-drop, be32-drop}
-use Rattle.format_laws.proofs.Readings.{bind-need, bind-cond}
+use Rattle.format_laws.proofs.Tests.{cond-inv}
+use Rattle.format_laws.proofs.Readings.{good-inv, need-inv, bind-need, bind-cond}
 use Rattle.entries.specs.declared.Head.{Head}
 use Rattle.entries.specs.declared.Fixed.{Fixed}
 use Rattle.entries.specs.declared.Fixed.the-variants as F
@@ -54,6 +56,31 @@ module _ (w v : ℕ) (k : Key) (p : ℕ) (s : List ℕ) where
       → readEntry w v k p s ≡ shift (h .length) (readTail w v k p (h .length) (h .flags) (h .word) s)
   unfolding headRead bind
   readEntry-good h e = rw (readEntry-head w v k p s, head-kept w v p s .same, e)
+
+fixed-inv : {X : Type 0} (r : Read Head) (h : Head) → fixedOf r ≡ F.Good h → ((m : ℕ) → r ≡ good h m → X) → X
+unfolding fixedOf
+fixed-inv (bad n p) h e f = let z : _≡_ {A = ℕ} 0 1 = cc in absurd (omega arith)
+fixed-inv (good g m) h e f = f m (ap (λ (x : Head). good x m) (cc))
+
+-- how long it is
+pub record Size (h : Head) : Type 0 where
+  pub is : h .length ≡ fixedLength 20 (isSet 16384 (h .flags))
+  pub least : 62 ≤ h .length
+  pub most : h .length ≤ 64
+
+pub head-size : (v p : ℕ) (s : List ℕ) (h : Head) → fixedOf (readHead 20 v p s) ≡ F.Good h → Size h
+unfolding readHead fixedLength
+head-size v p s h e =
+    fixed-inv _ h e λ m q.
+    need-inv _ _ _ _ _ _ q λ long q₁.
+    need-inv _ _ _ _ _ _ q₁ λ mode q₂.
+    need-inv _ _ _ _ _ _ q₂ λ allowed q₃.
+    cond-inv (isSet 16384 (be16 s 60)) _ _ _ q₃
+    (λ set q₄.
+    need-inv _ _ _ _ _ _ q₄ λ longer q₅.
+    need-inv _ _ _ _ _ _ q₅ λ word q₆.
+    good-inv _ _ _ _ q₆ λ h-is m-is. rw (← h-is) (record { is = rw set; least = omega arith; most = omega arith }))
+    (λ clear q₄. good-inv _ _ _ _ q₄ λ h-is m-is. rw (← h-is) (record { is = rw clear; least = omega arith; most = omega arith }))
 
 -- at a place of the body b: the fixed part is there, its mode m is right, its flags are x
 pub record Flagged (b : List ℕ) (at m x : ℕ) : Type 0 where

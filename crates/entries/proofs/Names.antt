@@ -15,6 +15,7 @@ use Rattle.format.specs.Layout.{entryLength}
 use Rattle.format.specs.Reading.{Read, bad, good, need}
 use Rattle.format.specs.Reader.{readN, plainLength, readPlain}
 use Rattle.format_laws.proofs.Lists.{part-inside}
+use Rattle.format_laws.proofs.Names.{okName-length}
 use Rattle.entries.specs.declared.Text.{Text}
 use Rattle.entries.specs.declared.Text.the-variants as T
 use Rattle.entries.specs.declared.Number.{Number}
@@ -157,6 +158,12 @@ pub record Named (b : List ℕ) (at field n : ℕ) : Type 0 where
   pub here : Long b at field n
   pub name : okName (take (at + n - at) (drop at b)) ≡ true
   pub counted : field ≡ lengthField n
+
+-- so its length is within the limit
+pub named-short : (b : List ℕ) (at field n : ℕ) → Named b at field n → n ≤ 8192
+named-short b at field n q =
+    let l : at + n - at ≤ length (drop at b) = rw length-drop (omega (arith, q .here .long)) in
+    omega (arith, okName-length _ (q .name) .1, length-take-le (at + n - at) (drop at b) l)
 
 -- what the code answers there
 module _ (b : List ℕ) (at f field p n : ℕ) where

@@ -59,7 +59,7 @@ pub fn word_ok(x: u32) -> bool
 
 // What stands before the name of the entry of version v at a place.
 pub fn read_fixed(b: &[u8], at: usize, v: u32) -> Fixed
-    requires { ⌜ (at ≤ length (now b)) × (length (now b) ≤ 16777216) ⌝ }
+    requires { ⌜ at ≤ length (now b) ⌝ }
     ensures { λ r. ⌜ ((p : ℕ) → r ≡ fixedOf (readHead 20 v p (drop at (now (b .entry))))) × (at + headLength r ≤ length (now (b .entry))) ⌝ }
 {
     if b.len() - at < 62 {
@@ -151,7 +151,7 @@ pub fn entry_length(f: usize, n: usize) -> usize
 
 // The name of versions 2 and 3 at a place, with the NULs after it; f bytes of its entry stand before it.
 pub fn read_plain(b: &[u8], at: usize, f: usize, field: u32) -> Text
-    requires { ⌜ (at ≤ length (now b)) × (length (now b) ≤ 16777216) × (f ≤ 64) ⌝ }
+    requires { ⌜ (at ≤ length (now b)) × (f ≤ 64) ⌝ }
     ensures { λ r. ⌜ ((p : ℕ) → r ≡ textOf (readPlain f p field (drop at (now (b .entry))))) × (textLength r ≤ textTaken r) × (at + textTaken r ≤ length (now (b .entry))) ⌝ }
 {
     let n = plain_length(b, at, field);

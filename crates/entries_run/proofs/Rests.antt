@@ -1,5 +1,5 @@
 -- Laws of the rest of an entry after the bytes before its name, and of what answers say.
-use mathlib.Core.Path.{_≡_, refl, sym, ap, subst, _∙_}
+use mathlib.Core.Path.{_≡_, refl, sym, subst, _∙_}
 use mathlib.Core.List.{List}
 use mathlib.Core.Bool.{true, false}
 use Prim.Native.Nat.{ℕ, _+_, _/_, _%_, _≤_}
@@ -7,18 +7,14 @@ use native.Mathlib.Omega.{arith}
 use lib.ListN.{length, drop}
 use lib.Seq.{drop-drop}
 use lib.Dec.{eqb}
-use Rattle.format.specs.Bytes.{be16}
 use Rattle.format.specs.Names.{compare, rises}
 use Rattle.format.specs.Records.{Entry}
-use Rattle.format.specs.Layout.{fixedLength}
 use Rattle.format.specs.Reading.{Read, bad, good, need, shift, bind}
-use Rattle.format.specs.Reader.{isSet, readName, entryOf, readTail}
-use Rattle.format_laws.proofs.Tests.{cond-inv}
-use Rattle.format_laws.proofs.Readings.{good-inv, need-inv}
+use Rattle.format.specs.Reader.{readName, entryOf, readTail}
 use Rattle.entries.specs.declared.Head.{Head}
 use Rattle.entries.specs.declared.Fixed.the-variants as F
 use Rattle.entries.specs.Answers.{readHead, fixedOf}
-use Rattle.entries.proofs.Before.{readEntry-bad, readEntry-good}
+use Rattle.entries.proofs.Before.{Size, head-size, readEntry-bad, readEntry-good}
 use Rattle.entries_run.specs.declared.Cursor.{Cursor}
 use Rattle.entries_run.specs.declared.Step.{Step}
 use Rattle.entries_run.specs.declared.Next.{Next}
@@ -26,30 +22,6 @@ use Rattle.entries_run.specs.declared.Next.the-variants as N
 use Rattle.entries_run.specs.Steps.{nameAt, keyAt, Inside, Headed, said, Found, Answered, readRest, Stepped}
 
 -- ---- what stands before the name
-
-fixed-inv : {X : Type 0} (r : Read Head) (h : Head) → fixedOf r ≡ F.Good h → ((m : ℕ) → r ≡ good h m → X) → X
-unfolding fixedOf
-fixed-inv (bad n p) h e f = let z : _≡_ {A = ℕ} 0 1 = cc in absurd (omega arith)
-fixed-inv (good g m) h e f = f m (ap (λ (x : Head). good x m) (cc))
-
-record Size (h : Head) : Type 0 where
-  is : h .length ≡ fixedLength 20 (isSet 16384 (h .flags))
-  least : 62 ≤ h .length
-  most : h .length ≤ 64
-
-head-size : (v p : ℕ) (s : List ℕ) (h : Head) → fixedOf (readHead 20 v p s) ≡ F.Good h → Size h
-unfolding readHead fixedLength
-head-size v p s h e =
-    fixed-inv _ h e λ m q.
-    need-inv _ _ _ _ _ _ q λ long q₁.
-    need-inv _ _ _ _ _ _ q₁ λ mode q₂.
-    need-inv _ _ _ _ _ _ q₂ λ allowed q₃.
-    cond-inv (isSet 16384 (be16 s 60)) _ _ _ q₃
-    (λ set q₄.
-    need-inv _ _ _ _ _ _ q₄ λ longer q₅.
-    need-inv _ _ _ _ _ _ q₅ λ word q₆.
-    good-inv _ _ _ _ q₆ λ h-is m-is. rw (← h-is) (record { is = rw set; least = omega arith; most = omega arith }))
-    (λ clear q₄. good-inv _ _ _ _ q₄ λ h-is m-is. rw (← h-is) (record { is = rw clear; least = omega arith; most = omega arith }))
 
 pub headed : (b : List ℕ) (c : Cursor) (v : ℕ) (h : Head) → Inside b c → ((p : ℕ) → F.Good h ≡ fixedOf (readHead 20 v p (drop (c .at) b)))
     → c .at + h .length ≤ length b → Headed b c h

@@ -1,12 +1,13 @@
 -- Laws of the workspace, of names that answers point at, and of the fields of an entry.
 use mathlib.Core.Path.{_≡_, refl, sym, _∙_}
-use mathlib.Core.List.{List, [], _++_}
+use mathlib.Core.List.{List, [], _∷_, _++_}
 use mathlib.Core.Bool.{true, false}
-use Prim.Native.Nat.{ℕ, _+_, _-_, _/_, _%_, _≤_, _<_}
+use mathlib.Core.Option.{none}
+use Prim.Native.Nat.{ℕ, zero, suc, _+_, _-_, _/_, _%_, _≤_, _<_}
 use native.Mathlib.Nat.{add-zero}
 use native.Mathlib.Omega.{arith}
-use lib.ListN.{length, take, drop, replicate, length-append, length-replicate, length-drop}
-use lib.Seq.{length-take-le, take-at, drop-drop}
+use lib.ListN.{length, take, drop, replicate, getElem?, length-append, length-replicate, length-drop}
+use lib.Seq.{length-take-le, take-take, take-at, drop-drop}
 use lib.Dec.{eqb}
 use borrow.Author.Tests.{lt-ltb, le-ltb, le-leb, lt-leb}
 use Rattle.format.specs.Bytes.{be32, be32s}
@@ -16,7 +17,7 @@ use Rattle.format_laws.proofs.Numbers.{be32-drop}
 use Rattle.file.specs.declared.Fields.{Fields}
 use Rattle.file.specs.declared.Shown.{Shown}
 use Rattle.file.specs.declared.Shown.the-variants.{Refused, InFile, InWorkspace}
-use Rattle.file.specs.Answers.{tooSmall, cleared, holding, partIn, nameIn, entryWith}
+use Rattle.file.specs.Answers.{tooSmall, View, refused, cleared, holding, partIn, nameIn, entryWith}
 
 -- ---- the workspace
 
@@ -69,6 +70,13 @@ module _ (at n : ℕ) (s : List ℕ) where
   unfolding partIn
   part-in h = rw (le-leb (at + n) (length s) h)
 
+-- a part of the first m elements
+pub part-within : (m at n : ℕ) (s : List ℕ) → at + n ≤ m → take n (drop at (take m s)) ≡ take n (drop at s)
+part-within m zero n s h = take-take n m s (omega arith)
+part-within zero (suc at) n s h = absurd (omega arith)
+part-within (suc m) (suc at) n [] h = refl
+part-within (suc m) (suc at) n (x ∷ s) h = part-within m at n s (omega arith)
+
 -- the workspace does not matter where the name is a part of the file
 pub file-name : (s : Shown) (file work : List ℕ) → ((n : ℕ) → s ≡ InWorkspace n → ⊥) → nameIn s file work ≡ nameIn s file []
 unfolding nameIn
@@ -112,3 +120,17 @@ fields-entry b at x y name =
     let first : be32 b at ≡ be32 (drop at b) 0 = rw (add-zero at) at (sym (be32-drop at b 0)) in
     let at-k : (k : ℕ) → be32 b (at + k) ≡ be32 (drop at b) k = λ k. sym (be32-drop at b k) in
     rw (first, at-k 4, at-k 8, at-k 12, at-k 16, at-k 20, at-k 24, at-k 28, at-k 32, at-k 36, ← (drop-drop 40 at b)) refl
+
+-- ---- items and refusals
+
+-- a list has no item past its end
+pub item-none : {A : Type 0} (l : List A) (k : ℕ) → length l ≤ k → getElem? l k ≡ none
+item-none [] k h = refl
+item-none (a ∷ l) zero h = absurd (omega arith)
+item-none (a ∷ l) (suc k) h = item-none l k (omega arith)
+
+-- of one view there is one refusal
+pub same-refusal : {A : Type 0} {B : Type 0} (g : ℕ → ℕ → B) (v : View A) (n p i j : ℕ) (r : B) → v ≡ refused n p → r ≡ g n p → v ≡ refused i j → r ≡ g i j
+same-refusal g v n p i j r e q f =
+    let a : n ≡ i = cc in
+    let b : p ≡ j = cc in q ∙ rw (a, b)

@@ -16,10 +16,10 @@ use Rattle.file.specs.declared.EntryAnswer.{EntryAnswer}
 use Rattle.file.specs.declared.Fields.{Fields}
 use Rattle.file.specs.declared.Shown.the-variants as S
 use Rattle.file.specs.Answers.{View, refused, inFile, inWorkspace, pick, cleared, holding, workAfter, nameIn, entryWith, entrySaid}
-use Rattle.file.proofs.Laws.{cleared-large, cleared-past, holding-after, holding-name, part-in}
+use Rattle.file.proofs.Laws.{cleared-large, cleared-past, holding-after, holding-name, part-in, part-within}
 use Rattle.file_contents.specs.Contents.{bodyOf}
 use Rattle.index.specs.Calls.{EntryShows}
-use Rattle.index.proofs.Views.{part-within, pick-file, pick-work}
+use Rattle.index.proofs.Views.{pick-file, pick-work}
 
 module _ (v : ℕ) (f written : List ℕ) (at : ℕ) (st : Step) (o : Option F.Entry) (found : o ≡ some (entryAt v (bodyOf f) written at st))
     (x : Fields) (fields : (name : List ℕ) → entryWith x name ≡ R.entryOf 20 (drop at (bodyOf f)) (st .flags) (st .word) name)

@@ -24,13 +24,13 @@ use Rattle.cache_tree.proofs.Flat.{Shown}
 use Rattle.cache_tree.proofs.Shape.{tree-item, level-is}
 use Rattle.file.specs.declared.Shown.the-variants as S
 use Rattle.file.specs.Answers.{View, refused, inFile, listed, itemsOf, partIn, nameIn, countWith, nodeSaid}
-use Rattle.file.proofs.Laws.{part-in}
+use Rattle.file.proofs.Laws.{part-in, part-within, item-none}
 use Rattle.extensions.specs.declared.TreePlace.{TreePlace}
 use Rattle.extensions.specs.Heads.{part}
 use Rattle.extensions.specs.Found.{TreeIs, TreeFound}
 use Rattle.file_contents.specs.Contents.{bodyOf}
 use Rattle.index.specs.Calls.{NodeShows}
-use Rattle.index.proofs.Views.{part-within, part-of-body, item-none, item-some, pick-none, pick-file}
+use Rattle.index.proofs.Views.{part-of-body, item-some, pick-none, pick-file}
 
 -- ---- a tree that was found, with more than k nodes
 

@@ -14,13 +14,13 @@ use Rattle.resolve_undo.specs.Answers.{undoAt, item, shown}
 use Rattle.resolve_undo.proofs.Showing.{shown-path}
 use Rattle.file.specs.declared.Shown.the-variants as S
 use Rattle.file.specs.Answers.{View, refused, inFile, listed, partIn, nameIn, undoSaid}
-use Rattle.file.proofs.Laws.{part-in}
+use Rattle.file.proofs.Laws.{part-in, part-within, item-none}
 use Rattle.extensions.specs.declared.UndoPlace.{UndoPlace}
 use Rattle.extensions.specs.Heads.{part}
 use Rattle.extensions.specs.Found.{UndoFound}
 use Rattle.file_contents.specs.Contents.{bodyOf}
 use Rattle.index.specs.Calls.{UndoShows}
-use Rattle.index.proofs.Views.{part-within, part-of-body, item-none, item-some, pick-none, pick-file}
+use Rattle.index.proofs.Views.{part-of-body, item-some, pick-none, pick-file}
 
 item-is : (n : ℕ) (us : List F.Undo) → item n us ≡ getElem? us n
 unfolding item

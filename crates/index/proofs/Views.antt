@@ -3,10 +3,9 @@ use mathlib.Core.Path.{_≡_, refl, sym, ap, _∙_}
 use mathlib.Core.List.{List, [], _∷_}
 use mathlib.Core.Bool.{Bool, true, false, cond}
 use mathlib.Core.Option.{Option, none, some}
-use Prim.Native.Nat.{ℕ, zero, suc, _+_, _-_, _≤_, _<_}
+use Prim.Native.Nat.{ℕ, zero, suc, _-_, _≤_, _<_}
 use native.Mathlib.Omega.{arith}
-use lib.ListN.{length, take, drop, getD, getElem?, length-take}
-use lib.Seq.{take-take}
+use lib.ListN.{length, drop, getD, getElem?, length-take}
 use Rattle.format.specs.Records as F
 use Rattle.format.specs.Reading.{Read, bad}
 use Rattle.format.specs.Reader.{Contents}
@@ -15,18 +14,12 @@ use Rattle.file.specs.declared.EntryAnswer.{EntryAnswer}
 use Rattle.file.specs.declared.NodeAnswer.{NodeAnswer}
 use Rattle.file.specs.declared.UndoAnswer.{UndoAnswer}
 use Rattle.file.specs.Answers.{tooSmall, View, refused, inFile, inWorkspace, pick, given, cleared, checkedOf, checkAnswer, entryOf, entryAnswer, nodeOf, nodeAnswer, undoOf, undoAnswer, entrySaid, nodeSaid, undoSaid, refusedEntry, refusedNode, refusedUndo}
+use Rattle.file.proofs.Laws.{part-within, same-refusal}
 use Rattle.extensions.specs.Heads.{part}
 use Rattle.file_contents.specs.Contents.{bodyOf, inRoom}
 use Rattle.index.specs.Calls.{EntryShows, NodeShows, UndoShows}
 
 -- ---- lists
-
--- a part of the first m elements
-pub part-within : (m at n : ℕ) (s : List ℕ) → at + n ≤ m → take n (drop at (take m s)) ≡ take n (drop at s)
-part-within m zero n s h = take-take n m s (omega arith)
-part-within zero (suc at) n s h = absurd (omega arith)
-part-within (suc m) (suc at) n [] h = refl
-part-within (suc m) (suc at) n (x ∷ s) h = part-within m at n s (omega arith)
 
 -- data in the body are data in the file
 pub part-of-body : (f : List ℕ) (a e : ℕ) → a ≤ e → e ≤ length (bodyOf f) → part (bodyOf f) a e ≡ part f a e
@@ -35,11 +28,6 @@ part-of-body f a e order inside =
     part-within (length f - 20) a (e - a) f (omega arith)
 
 module _ {A : Type 0} where
-  pub item-none : (l : List A) (k : ℕ) → length l ≤ k → getElem? l k ≡ none
-  item-none [] k h = refl
-  item-none (a ∷ l) zero h = absurd (omega arith)
-  item-none (a ∷ l) (suc k) h = item-none l k (omega arith)
-
   pub item-some : (l : List A) (k : ℕ) (z : A) → k < length l → getElem? l k ≡ some (getD l k z)
   item-some [] k z h = absurd (omega arith)
   item-some (a ∷ l) zero z h = refl
@@ -85,11 +73,6 @@ module _ (work : List ℕ) (k : ℕ) (x y : Read Contents) (e : inRoom work x �
   undo-is = given-by (undoOf k) (tooSmall work) refl ∙ ap (undoOf k) e
 
 -- ---- refusals
-
-same-refusal : {A : Type 0} {B : Type 0} (g : ℕ → ℕ → B) (v : View A) (n p i j : ℕ) (r : B) → v ≡ refused n p → r ≡ g n p → v ≡ refused i j → r ≡ g i j
-same-refusal g v n p i j r e q f =
-    let a : n ≡ i = cc in
-    let b : p ≡ j = cc in q ∙ rw (a, b)
 
 module _ (n p : ℕ) (f : List ℕ) where
   pub entry-refused :

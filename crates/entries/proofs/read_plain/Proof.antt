@@ -2,7 +2,7 @@
 use mathlib.Core.Path.{sym, _∙_}
 use native.Mathlib.Omega.{arith}
 use borrow.Author.Needs.{needs}
-use Rattle.entries.proofs.Names.{Long, Named, plain-cut, plain-name, plain-field, plain-short, plain-filled, plain-good}
+use Rattle.entries.proofs.Names.{Long, Named, named-short, plain-cut, plain-name, plain-field, plain-short, plain-filled, plain-good}
 use Rattle.entries.proofs.read_plain.Statement.{statement}
 use Rattle.entries.proofs.read_plain.Tie as tie
 
@@ -53,7 +53,7 @@ length-field-requires : tie.Need-length-field-requires
 length-field-requires c κs = search needs
 
 entry-length-requires : tie.Need-entry-length-requires
-entry-length-requires c κs = search needs
+entry-length-requires c κs = let short = named-short _ _ _ _ (named c) in search needs
 
 sub-m : tie.Need-sub-m
 sub-m c = search needs

@@ -5,7 +5,8 @@ use Rattle.format.specs.Reader.{readFile}
 use Rattle.hash.specs.Sha1.{sha1}
 use Rattle.file_contents.specs.Contents.{bodyOf, inRoom, Contains}
 use Rattle.file_contents.proofs.Room.{room-of}
-use Rattle.index.proofs.Views.{item-none, pick-none, entry-is, entry-refused}
+use Rattle.file.proofs.Laws.{item-none}
+use Rattle.index.proofs.Views.{pick-none, entry-is, entry-refused}
 use Rattle.index.proofs.Entries.{shown-again}
 use borrow.Author.Needs.{needs}
 use Rattle.index.proofs.entry.Statement.{statement}

@@ -1,0 +1,38 @@
+-- Closed cases of a walk over the listing's example: two entries, at 12 and 76, up to 148.
+use mathlib.Core.Path.{_≡_, refl}
+use mathlib.Core.List.{[], _∷_}
+use lib.ListN.{set}
+use Rattle.format.specs.Bytes.{be16, be32, be32s, eqList, before, lacks, zeros}
+use Rattle.format.specs.Names.{componentsFrom, components, okComponent, okComponents, okName, lengthField, compare}
+use Rattle.format.specs.Layout.{okMode, fixedLength, entryLength}
+use Rattle.format.specs.Reading.{need, shift, bind}
+use Rattle.format.specs.Reader.{isSet, okWord, plainLength, readPlain, readName, entryOf, readTail, readFixed, readEntry}
+use Rattle.format.proofs.Examples.{fileEntry, listing}
+use Rattle.file.specs.Answers.{refused, inFile}
+use Rattle.walk.specs.Walks.{placeAt, firstPlace, walkable, walkRead, walkAnswer, placeAfter, placeAfterAll, walkOver}
+
+-- both entries, then 18
+listing-walked :
+    walkOver 20 listing 4 (firstPlace 2)
+    ≡ inFile (fileEntry 0x81a4 0x11 (97 ∷ [])) ∷ inFile (fileEntry 0x81ed 0x22 (98 ∷ 47 ∷ 99 ∷ [])) ∷ refused 18 0 ∷ refused 18 0 ∷ []
+unfolding listing be16 be32 be32s eqList before lacks zeros componentsFrom components okComponent okComponents okName lengthField compare okMode fixedLength entryLength need shift bind isSet okWord plainLength readPlain readName entryOf readTail readFixed readEntry walkable walkRead walkAnswer placeAfter walkOver
+listing-walked = refl
+
+listing-places : (placeAfterAll 20 listing 1 (firstPlace 2) ≡ placeAt 76 1) × (placeAfterAll 20 listing 4 (firstPlace 2) ≡ placeAt 148 0)
+unfolding listing be16 be32 be32s eqList before lacks zeros componentsFrom components okComponent okComponents okName lengthField compare okMode fixedLength entryLength need shift bind isSet okWord plainLength readPlain readName entryOf readTail readFixed readEntry walkable walkRead placeAfter placeAfterAll
+listing-places = (refl, refl)
+
+-- any place at which a sound entry stands will do
+second-alone : walkOver 20 listing 2 (placeAt 76 9) ≡ inFile (fileEntry 0x81ed 0x22 (98 ∷ 47 ∷ 99 ∷ [])) ∷ refused 18 0 ∷ []
+unfolding listing be16 be32 be32s eqList before lacks zeros componentsFrom components okComponent okComponents okName lengthField compare okMode fixedLength entryLength need shift bind isSet okWord plainLength readPlain readName entryOf readTail readFixed readEntry walkable walkRead walkAnswer placeAfter walkOver
+second-alone = refl
+
+-- no entry stands at 13 or past the end, and there the place stays; a header of version 4 or without the signature has none to show
+no-entry :
+    (walkAnswer 20 listing 13 2 ≡ refused 18 0)
+    × (placeAfter 20 listing 13 2 ≡ placeAt 13 1)
+    × (walkAnswer 20 listing 1000 2 ≡ refused 18 0)
+    × (walkAnswer 20 (set listing 7 4) 12 2 ≡ refused 18 0)
+    × (walkAnswer 20 (set listing 0 0) 12 2 ≡ refused 18 0)
+unfolding listing be16 be32 be32s eqList before lacks zeros componentsFrom components okComponent okComponents okName lengthField compare okMode fixedLength entryLength need shift bind isSet okWord plainLength readPlain readName entryOf readTail readFixed readEntry walkable walkRead walkAnswer placeAfter
+no-entry = (refl, refl, refl, refl, refl)

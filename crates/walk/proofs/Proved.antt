@@ -1,0 +1,91 @@
+-- The theorem of Statements, for every width and every hash; so for SHA-1.
+use mathlib.Core.Path.{_≡_, refl, ap, _∙_}
+use mathlib.Core.List.{List}
+use mathlib.Core.Bool.{true, false, _&&_, _||_}
+use Prim.Native.Nat.{ℕ, _-_}
+use native.Mathlib.Omega.{arith}
+use lib.ListN.{length, drop, getElem?}
+use lib.Dec.{eqb, leb}
+use borrow.Author.Tests.{eq-eqb, eqb-false, leb-true}
+use Rattle.format.specs.Bytes.{be32}
+use Rattle.format.specs.Records.{start}
+use Rattle.format.specs.Reading.{Read, bad, good}
+use Rattle.format.specs.Reader.{Contents, readEntries, readBody, readFile}
+use Rattle.format_laws.proofs.Tests.{by-test, and-inv, and-both, cond-inv}
+use Rattle.format_laws.proofs.Readings.{good-inv, need-inv, shift-inv, bind-inv}
+use Rattle.hash.specs.Sha1.{sha1}
+use Rattle.file.specs.Answers.{tooSmall, pick, given, entryAnswer}
+use Rattle.file.proofs.Laws.{item-none}
+use Rattle.file_contents.proofs.Bodies.{entries-length}
+use Rattle.walk.specs.declared.Started.the-variants.{Refused, Ready}
+use Rattle.walk.specs.Walks.{startedOf, startAnswer, bodyIn, walkable}
+use Rattle.walk.proofs.Steps.{steps-show, steps-show-all}
+use Rattle.walk.proofs.Statements.{WholeWalk}
+
+-- ---- what a file has over which a walk goes
+
+two-or-three : (v : ℕ) → (leb 2 v && leb v 4) ≡ true → eqb v 4 ≡ false → (eqb v 2 || eqb v 3) ≡ true
+two-or-three v known old =
+    let (low, high) = and-inv (leb 2 v) (leb v 4) known in
+    by-test (eqb v 2) (λ two. rw two)
+    (λ other. rw (other, eq-eqb v 3 (omega (arith, leb-true 2 v low, leb-true v 4 high, eqb-false v 2 other, eqb-false v 4 old))))
+
+module _ (w : ℕ) (hash : List ℕ → List ℕ) (f : List ℕ) where
+  file-read : {X : Type 0} (c : Contents) (m : ℕ) → readFile w hash f ≡ good c m → eqb (c .version) 4 ≡ false
+      → (walkable w f ≡ true → (j : ℕ)
+      → readEntries w (be32 f 4) (length (c .records .entries)) start 12 (drop 12 (bodyIn w f)) ≡ good (c .records .entries) j → X) → X
+  unfolding readFile readBody walkable
+  file-read c m q old g =
+      need-inv _ _ _ _ _ _ q λ long q₁.
+      need-inv _ _ _ _ _ _ q₁ λ short q₂.
+      need-inv _ _ _ _ _ _ q₂ λ signed q₃.
+      need-inv _ _ _ _ _ _ q₃ λ known q₄.
+      need-inv _ _ _ _ _ _ q₄ λ right q₅.
+      shift-inv _ _ _ _ q₅ λ i q₆ i-is.
+      bind-inv _ _ _ _ q₆ λ es a b q₇ q₈ b-is.
+      bind-inv _ _ _ _ q₈ λ xs d e q₉ q₁₀ e-is.
+      good-inv _ _ _ _ q₁₀ λ c-is d-is.
+      let version : be32 f 4 ≡ c .version = ap (λ (x : Contents). x .version) c-is in
+      let entries : es ≡ c .records .entries = ap (λ (x : Contents). x .records .entries) c-is in
+      let count : length es ≡ be32 (bodyIn w f) 8 = entries-length w (be32 f 4) (be32 (bodyIn w f) 8) start 12 (drop 12 (bodyIn w f)) es a q₇ in
+      g (and-both _ _ long (and-both _ _ signed (two-or-three (be32 f 4) known (rw version old)))) a (rw (← entries, count) q₇)
+
+-- a walk starts
+started-inv : {X : Type 0} (x : Read Contents) (n : ℕ) → startedOf x ≡ Ready n
+    → ((c : Contents) (m : ℕ) → x ≡ good c m → eqb (c .version) 4 ≡ false → length (c .records .entries) ≡ n → X) → X
+started-inv (bad i p) n e g = let z : _≡_ {A = ℕ} 0 1 = cc in absurd (omega arith)
+started-inv (good c m) n e g =
+    cond-inv (eqb (c .version) 4) (Refused 4 0) (Ready (length (c .records .entries))) (Ready n) e
+    (λ four r. let z : _≡_ {A = ℕ} 0 1 = cc in absurd (omega arith))
+    (λ old r. g c m refl old (cc))
+
+start-inv : {X : Type 0} (work : List ℕ) (x : Read Contents) (n : ℕ) → startAnswer work x ≡ Ready n
+    → ((c : Contents) (m : ℕ) → tooSmall work ≡ false → x ≡ good c m → eqb (c .version) 4 ≡ false → length (c .records .entries) ≡ n → X) → X
+unfolding startAnswer
+start-inv work x n e g =
+    cond-inv (tooSmall work) (Refused 19 0) (startedOf x) (Ready n) e
+    (λ small r. let z : _≡_ {A = ℕ} 0 1 = cc in absurd (omega arith))
+    (λ large r. started-inv x n r (λ c m read old count. g c m large read old count))
+
+-- ---- the theorem
+
+module _ (w : ℕ) (hash : List ℕ → List ℕ) (f : List ℕ) where
+  pub whole-walk : WholeWalk w hash f
+  whole-walk =
+      record {
+        each = λ c m q old k. file-read w hash f c m q old λ ok j es. steps-show w f ok (length (c .records .entries)) start 12 (c .records .entries) j es k;
+        all = λ c m q old. file-read w hash f c m q old λ ok j es. steps-show-all w f ok (length (c .records .entries)) start 12 (c .records .entries) j es;
+        started = λ work n e k.
+            start-inv work (readFile w hash f) n e λ c m large q old count.
+            let is : entryAnswer work k (readFile w hash f) ≡ pick false (getElem? (c .records .entries) k) = unfold entryAnswer given in rw (large, q, old) in
+            rw (is, ← count)
+            (file-read w hash f c m q old λ ok j es. steps-show w f ok (length (c .records .entries)) start 12 (c .records .entries) j es k);
+        ended = λ work n e k past.
+            start-inv work (readFile w hash f) n e λ c m large q old count.
+            let none-there = item-none (c .records .entries) k (omega arith) in
+            rw (← count)
+            ((file-read w hash f c m q old λ ok j es. steps-show w f ok (length (c .records .entries)) start 12 (c .records .entries) j es k) ∙ ap (pick false) none-there);
+      }
+
+pub whole-walk-sha1 : (f : List ℕ) → WholeWalk 20 sha1 f
+whole-walk-sha1 f = whole-walk 20 sha1 f

@@ -1,0 +1,176 @@
+-- What the code sees of the next entry, and what it shows.
+use mathlib.Core.Path.{_≡_, refl, sym, ap, _∙_}
+use mathlib.Core.List.{List, []}
+use mathlib.Core.Bool.{true, false}
+use Prim.Native.Nat.{ℕ, _+_, _-_, _%_, _≤_, _<_}
+use native.Mathlib.Nat.{add-zero}
+use native.Mathlib.Omega.{arith}
+use lib.ListN.{length, take, drop, length-take, length-drop}
+use lib.Seq.{drop-drop}
+use lib.Dec.{eqb, ltb}
+use borrow.Author.Tests.{eq-eqb, ne-eqb, lt-ltb, le-leb, lt-leb}
+use Rattle.format.specs.Bytes.{be32, eqList}
+use Rattle.format.specs.Records.{Entry, start}
+use Rattle.format.specs.Layout.{fixedLength, DIRC}
+use Rattle.format.specs.Reading.{Read, bad, need, shift}
+use Rattle.format.specs.Reader.{readPlain, entryOf, readEntry}
+use Rattle.spelling_entries.proofs.Entries.{entry-takes}
+use Rattle.entries.specs.declared.Head.{Head}
+use Rattle.entries.specs.declared.Fixed.the-variants as F
+use Rattle.entries.specs.declared.Text.the-variants as T
+use Rattle.entries.specs.Answers.{readHead, fixedOf, textOf}
+use Rattle.entries.proofs.Before.{readEntry-bad, readEntry-good}
+use Rattle.entries.proofs.Names.{readPlain-bad, readPlain-good}
+use Rattle.file.specs.declared.EntryAnswer.{EntryAnswer}
+use Rattle.file.specs.declared.Fields.{Fields}
+use Rattle.file.specs.declared.Shown.{Shown}
+use Rattle.file.specs.declared.Shown.the-variants as S
+use Rattle.file.specs.Answers.{View, refused, inFile, partIn, nameIn, entryWith, entrySaid, refusedEntry}
+use Rattle.file.proofs.Laws.{part-in, part-within, same-refusal}
+use Rattle.walk.specs.declared.Sight.{Sight}
+use Rattle.walk.specs.declared.Sight.the-variants.{Nothing, Found}
+use Rattle.walk.specs.Walks.{placeAt, bodyIn, walkable, or18, walkRead, walkAnswer, nameShown, placeAfter, StepShows}
+use Rattle.walk.specs.Sights.{sightRead, Stands, Sees}
+use Rattle.walk.proofs.Plain.{tail-bad, tail-start}
+use Rattle.walk.proofs.Steps.{walk-on, view-is, place-is}
+
+-- ---- nothing, or an entry
+
+sees-nothing : (x : Read Entry) (b : List ℕ) (at : ℕ) → x ≡ bad 18 0 → Sees x b at Nothing
+sees-nothing x b at e = record { same = e; stands = λ h n m q. let z : _≡_ {A = ℕ} 0 1 = cc in absurd (omega arith) }
+
+sees-found : (x : Read Entry) (b : List ℕ) (at : ℕ) (h : Head) (n m : ℕ) → x ≡ sightRead b at (Found h n m) → Stands b at h n m → Sees x b at (Found h n m)
+sees-found x b at h n m e s =
+    record {
+      same = e;
+      stands = λ h′ n′ m′ q.
+          let head : h ≡ h′ = cc in
+          let name : n ≡ n′ = cc in
+          let taken : m ≡ m′ = cc in rw (head, name, taken) at s;
+    }
+
+-- ---- at a place of the body b, in version v
+
+module _ (v : ℕ) (b : List ℕ) (at : ℕ) (old : eqb v 4 ≡ false) where
+  refused-at : (n : ℕ) → readEntry 20 v start at (drop at b) ≡ bad n at → Sees (or18 (readEntry 20 v start at (drop at b))) b at Nothing
+  refused-at n e = sees-nothing _ b at (ap or18 e)
+
+  pub no-head : (n : ℕ) → ((p : ℕ) → F.Bad n ≡ fixedOf (readHead 20 v p (drop at b))) → Sees (or18 (readEntry 20 v start at (drop at b))) b at Nothing
+  no-head n e = refused-at n (readEntry-bad 20 v start at (drop at b) n (sym (e at)))
+
+  module _ (h : Head) (head : (p : ℕ) → F.Good h ≡ fixedOf (readHead 20 v p (drop at b))) where
+    pub no-name : (n : ℕ) → ((p : ℕ) → T.Bad n ≡ textOf (readPlain (h .length) p (h .flags % 4096) (drop (at + h .length) b)))
+        → Sees (or18 (readEntry 20 v start at (drop at b))) b at Nothing
+    unfolding shift
+    no-name n e =
+        let name = readPlain-bad (h .length) at (h .flags % 4096) (drop (at + h .length) b) n (sym (e at)) in
+        let rest = tail-bad 20 v at old (h .length) (h .flags) (h .word) (drop at b) start n (rw drop-drop name) in
+        refused-at n (readEntry-good 20 v start at (drop at b) h (sym (head at)) ∙ rw rest)
+
+    pub a-name : (n m : ℕ) → ((p : ℕ) → T.Good n m ≡ textOf (readPlain (h .length) p (h .flags % 4096) (drop (at + h .length) b)))
+        → n ≤ m → at + h .length + m ≤ length b → Sees (or18 (readEntry 20 v start at (drop at b))) b at (Found h n m)
+    unfolding shift
+    a-name n m e fits end =
+        let name = readPlain-good (h .length) at (h .flags % 4096) (drop (at + h .length) b) n m (sym (e at)) in
+        let rest = tail-start 20 v at old (h .length) (h .flags) (h .word) (drop at b) (take n (drop (at + h .length) b)) m (rw drop-drop name) in
+        let is : readEntry 20 v start at (drop at b) ≡ sightRead b at (Found h n m) =
+        readEntry-good 20 v start at (drop at b) h (sym (head at)) ∙ rw (rest, add-zero m) in
+        let least : 62 ≤ h .length + m = entry-takes 20 v start at (drop at b) _ _ is in
+        sees-found _ b at h n m (ap or18 is) (record { fixed = omega arith; name = omega arith; end = end })
+
+-- ---- of a file
+
+-- a header of version 2 or 3
+module _ (f : List ℕ) where
+  pub not-long : length f < 32 → walkable 20 f ≡ false
+  unfolding walkable
+  not-long h = rw (lt-leb 32 (length f) h)
+
+  module _ (long : 32 ≤ length f) where
+    pub not-signed : eqList (take 4 f) DIRC ≡ false → walkable 20 f ≡ false
+    unfolding walkable
+    not-signed e = rw (le-leb 32 (length f) long, e)
+
+    module _ (signed : eqList (take 4 f) DIRC ≡ true) where
+      pub version-two : be32 f 4 ≡ 2 → walkable 20 f ≡ true
+      unfolding walkable
+      version-two e = rw (le-leb 32 (length f) long, signed, eq-eqb (be32 f 4) 2 e)
+
+      pub version-three : (be32 f 4 ≡ 2 → ⊥) → walkable 20 f ≡ eqb (be32 f 4) 3
+      unfolding walkable
+      version-three e = rw (le-leb 32 (length f) long, signed, ne-eqb (be32 f 4) 2 e)
+
+  module _ (at left : ℕ) where
+    pub none-left : left ≡ 0 → Sees (walkRead 20 f at left) (bodyIn 20 f) at Nothing
+    unfolding walkRead need
+    none-left e = sees-nothing _ _ at (rw e)
+
+    module _ (some : left ≡ 0 → ⊥) where
+      more : ltb 0 left ≡ true
+      more = lt-ltb 0 left (omega arith)
+
+      pub not-walkable : walkable 20 f ≡ false → Sees (walkRead 20 f at left) (bodyIn 20 f) at Nothing
+      unfolding walkRead need
+      not-walkable e = sees-nothing _ _ at (rw (more, e))
+
+      module _ (ok : walkable 20 f ≡ true) where
+        walk-is : walkRead 20 f at left ≡ or18 (readEntry 20 (be32 f 4) start at (drop at (bodyIn 20 f)))
+        walk-is = walk-on 20 f at left more ok
+
+        pub past-body : length f - 20 < at → Sees (walkRead 20 f at left) (bodyIn 20 f) at Nothing
+        unfolding readEntry need fixedLength
+        past-body h =
+            let cut : length (drop at (bodyIn 20 f)) < 62 = rw (length-drop, length-take) (omega arith) in
+            sees-nothing _ _ at (walk-is ∙ rw (lt-leb 62 (length (drop at (bodyIn 20 f))) cut))
+
+        pub at-place : (v : ℕ) (r : Sight) → v ≡ be32 f 4 → Sees (or18 (readEntry 20 v start at (drop at (bodyIn 20 f)))) (bodyIn 20 f) at r
+            → Sees (walkRead 20 f at left) (bodyIn 20 f) at r
+        at-place v r e s = rw (walk-is, ← e) s
+
+-- ---- what is shown, and the place after it
+
+module _ (f : List ℕ) (at left : ℕ) where
+  pub step-refused : (r : EntryAnswer) → Sees (walkRead 20 f at left) (bodyIn 20 f) at Nothing
+      → ((file work : List ℕ) → entrySaid r file work ≡ refused 18 0) × (r ≡ refusedEntry 18 0) → StepShows (walkAnswer 20 f at left) f r
+  step-refused r s (said, is) =
+      let v : walkAnswer 20 f at left ≡ refused 18 0 = view-is 20 f at left _ (s .same) in
+      record { said = λ work. said f work ∙ sym v; bare = λ i j q. same-refusal refusedEntry _ 18 0 i j r v is q }
+
+  pub place-stays : (less : ℕ) → Sees (walkRead 20 f at left) (bodyIn 20 f) at Nothing → less ≡ left - 1
+      → placeAt at less ≡ placeAfter 20 f at left
+  place-stays less s e = rw (place-is 20 f at left _ (s .same), add-zero at, e)
+
+  module _ (h : Head) (n m : ℕ) (s : Sees (walkRead 20 f at left) (bodyIn 20 f) at (Found h n m)) where
+    pub place-moves : (end less : ℕ) → end ≡ at + h .length + m → less ≡ left - 1 → placeAt end less ≡ placeAfter 20 f at left
+    place-moves end less e l = let sum : end ≡ at + (h .length + m) = omega arith in rw (place-is 20 f at left _ (s .same), sum, l)
+
+    pub found-stands : Stands (bodyIn 20 f) at h n m
+    found-stands = s .stands h n m refl
+
+    pub body-long : length (bodyIn 20 f) + 20 ≤ length f
+    body-long = let l = length-take (length f - 20) f in let t = found-stands in omega arith
+
+    pub step-shows : (x : Fields) → ((name : List ℕ) → entryWith x name ≡ entryOf 20 (drop at (bodyIn 20 f)) (h .flags) (h .word) name)
+        → StepShows (walkAnswer 20 f at left) f (record { shown = S.InFile (at + h .length) n; fields = x })
+    unfolding entrySaid nameIn
+    step-shows x fields =
+        let v = view-is 20 f at left _ (s .same) in
+        let t = found-stands in
+        let whole = body-long in
+        let inside : at + h .length + n ≤ length f - 20 = omega arith in
+        let name : partIn (at + h .length) n f ≡ take n (drop (at + h .length) (bodyIn 20 f)) =
+        part-in _ _ f (omega arith) ∙ sym (part-within (length f - 20) (at + h .length) n f inside) in
+        record {
+          said = λ work. ap inFile (fields (partIn (at + h .length) n f) ∙ rw name) ∙ sym v;
+          bare = λ i j q. let z : _≡_ {A = ℕ} 0 1 = cc in absurd (omega arith);
+        }
+
+-- the name that an answer points at is the one of what it shows
+said-name : (x : Fields) (s : Shown) (f work : List ℕ) → nameIn s f work ≡ nameShown (entrySaid (record { shown = s; fields = x }) f work)
+unfolding entrySaid nameIn
+said-name x (S.Refused n p) f work = refl
+said-name x (S.InFile at n) f work = refl
+said-name x (S.InWorkspace n) f work = refl
+
+pub shown-name : (v : View Entry) (f : List ℕ) (r : EntryAnswer) → StepShows v f r → nameIn (r .shown) f [] ≡ nameShown v
+shown-name v f r h = said-name (r .fields) (r .shown) f [] ∙ ap nameShown (h .said [])

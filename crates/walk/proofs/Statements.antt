@@ -1,0 +1,33 @@
+-- What a walk over a whole file shows. w is the width of an object name and of the checksum, hash the checksum's function, work the workspace. The calls
+-- answer startAnswer, walkAnswer and placeAfter: so their promises in crates/walk/src/lib.rt say. A walk begins at firstPlace n, and advances by placeAfter.
+use mathlib.Core.Path.{_≡_}
+use mathlib.Core.List.{List, map}
+use mathlib.Core.Bool.{false}
+use Prim.Native.Nat.{ℕ, _≤_}
+use lib.ListN.{length, getElem?}
+use lib.Dec.{eqb}
+use Rattle.format.specs.Records.{Entry}
+use Rattle.format.specs.Reading.{good}
+use Rattle.format.specs.Reader.{Contents, readFile}
+use Rattle.file.specs.Answers.{View, refused, inFile, pick, entryAnswer}
+use Rattle.walk.specs.declared.Place.{Place}
+use Rattle.walk.specs.declared.Started.the-variants.{Ready}
+use Rattle.walk.specs.Walks.{startAnswer, firstPlace, walkAnswer, placeAfterAll, walkOver}
+
+-- what is shown after k steps of a walk over n entries
+abbrev pub shownAfter : ℕ → List ℕ → ℕ → ℕ → View Entry
+shownAfter w f n k = let p : Place = placeAfterAll w f k (firstPlace n) in walkAnswer w f (p .at) (p .left)
+
+module _ (w : ℕ) (hash : List ℕ → List ℕ) (f : List ℕ) where
+  pub record WholeWalk : Type 0 where
+    -- over an accepted file of version 2 or 3, entries 0, 1, 2 and so on, with every field, then 18 for ever
+    pub each : (c : Contents) (m : ℕ) → readFile w hash f ≡ good c m → eqb (c .version) 4 ≡ false
+        → (k : ℕ) → shownAfter w f (length (c .records .entries)) k ≡ pick false (getElem? (c .records .entries) k)
+    -- so many steps show all entries, in order
+    pub all : (c : Contents) (m : ℕ) → readFile w hash f ≡ good c m → eqb (c .version) 4 ≡ false
+        → walkOver w f (length (c .records .entries)) (firstPlace (length (c .records .entries))) ≡ map inFile (c .records .entries)
+    -- where start says that n entries are before a walk, step k shows what entry k shows
+    pub started : (work : List ℕ) (n : ℕ) → startAnswer work (readFile w hash f) ≡ Ready n
+        → (k : ℕ) → shownAfter w f n k ≡ entryAnswer work k (readFile w hash f)
+    -- and 18 where none remain
+    pub ended : (work : List ℕ) (n : ℕ) → startAnswer work (readFile w hash f) ≡ Ready n → (k : ℕ) → n ≤ k → shownAfter w f n k ≡ refused 18 0

@@ -1,0 +1,111 @@
+-- Laws of one step of a walk and of many, for any width.
+use mathlib.Core.Path.{_≡_, refl, ap, _∙_}
+use mathlib.Core.List.{List, _∷_, map}
+use mathlib.Core.Bool.{true, false, _||_}
+use Prim.Native.Nat.{ℕ, zero, suc, _+_, _-_, _≤_}
+use native.Mathlib.Nat.{add-zero}
+use native.Mathlib.Omega.{arith}
+use lib.ListN.{length, take, drop, getElem?}
+use lib.Seq.{drop-drop}
+use lib.Dec.{eqb, leb, ltb}
+use borrow.Author.Tests.{ne-eqb, eqb-true, lt-ltb, leb-true}
+use Rattle.format.specs.Bytes.{be32, eqList}
+use Rattle.format.specs.Records.{Entry, Key, keyOf, start}
+use Rattle.format.specs.Layout.{DIRC}
+use Rattle.format.specs.Reading.{Read, good, bad, need}
+use Rattle.format.specs.Reader.{readEntry, readEntries}
+use Rattle.format_laws.proofs.Tests.{and-inv₃, or-inv}
+use Rattle.format_laws.proofs.Readings.{good-inv, bind-inv}
+use Rattle.file.specs.Answers.{View, inFile, pick}
+use Rattle.walk.specs.declared.Place.{Place}
+use Rattle.walk.specs.Walks.{placeAt, bodyIn, walkable, or18, walkRead, viewIn, takenIn, walkAnswer, placeAfter, placeAfterAll, walkOver}
+use Rattle.walk.proofs.Plain.{any-key}
+
+-- ---- a header of version 2 or 3
+
+module _ (w : ℕ) (f : List ℕ) (ok : walkable w f ≡ true) where
+  tests : (leb (12 + w) (length f) ≡ true) × (eqList (take 4 f) DIRC ≡ true) × ((eqb (be32 f 4) 2 || eqb (be32 f 4) 3) ≡ true)
+  unfolding walkable
+  tests = and-inv₃ (leb (12 + w) (length f)) (eqList (take 4 f) DIRC) (eqb (be32 f 4) 2 || eqb (be32 f 4) 3) ok
+
+  pub walkable-long : 12 + w ≤ length f
+  walkable-long = leb-true (12 + w) (length f) (tests .0)
+
+  pub walkable-old : eqb (be32 f 4) 4 ≡ false
+  walkable-old =
+      or-inv (eqb (be32 f 4) 2) (eqb (be32 f 4) 3) (tests .2)
+      (λ two. ne-eqb (be32 f 4) 4 (λ four. omega (arith, eqb-true (be32 f 4) 2 two)))
+      (λ three. ne-eqb (be32 f 4) 4 (λ four. omega (arith, eqb-true (be32 f 4) 3 three)))
+
+-- ---- one step
+
+module _ (w : ℕ) (f : List ℕ) (at : ℕ) where
+  module _ (left : ℕ) where
+    pub walk-on : ltb 0 left ≡ true → walkable w f ≡ true → walkRead w f at left ≡ or18 (readEntry w (be32 f 4) start at (drop at (bodyIn w f)))
+    unfolding walkRead need
+    walk-on more ok = rw (more, ok)
+
+    pub view-is : (x : Read Entry) → walkRead w f at left ≡ x → walkAnswer w f at left ≡ viewIn x
+    unfolding walkAnswer
+    view-is x e = ap viewIn e
+
+    pub place-is : (x : Read Entry) → walkRead w f at left ≡ x → placeAfter w f at left ≡ placeAt (at + takenIn x) (left - 1)
+    unfolding placeAfter
+    place-is x e = rw e
+
+  -- none remain
+  walk-none : walkRead w f at 0 ≡ bad 18 0
+  unfolding walkRead need
+  walk-none = refl
+
+  stays : placeAfter w f at 0 ≡ placeAt at 0
+  stays = place-is 0 _ walk-none ∙ rw (add-zero at)
+
+  stays-all : (k : ℕ) → placeAfterAll w f k (placeAt at 0) ≡ placeAt at 0
+  unfolding placeAfterAll
+  stays-all zero = refl
+  stays-all (suc k) = rw stays (stays-all k)
+
+  after-more : (left k : ℕ) (p : Place) → placeAfter w f at left ≡ p → placeAfterAll w f (suc k) (placeAt at left) ≡ placeAfterAll w f k p
+  unfolding placeAfterAll
+  after-more left k p e = ap (placeAfterAll w f k) e
+
+-- ---- the entries that remain are read well
+
+module _ (w : ℕ) (f : List ℕ) (ok : walkable w f ≡ true) where
+  -- so the next one is seen, and the others after it
+  next-entry : {X : Type 0} (n : ℕ) (k : Key) (at : ℕ) (es : List Entry) (m : ℕ) → readEntries w (be32 f 4) (suc n) k at (drop at (bodyIn w f)) ≡ good es m
+      → ((e : Entry) (i : ℕ) (fs : List Entry) (j : ℕ) → e ∷ fs ≡ es → walkRead w f at (suc n) ≡ good e i
+      → readEntries w (be32 f 4) n (keyOf e) (at + i) (drop (at + i) (bodyIn w f)) ≡ good fs j → X) → X
+  unfolding readEntries
+  next-entry n k at es m q g =
+      bind-inv _ _ _ _ q λ e i j q₁ q₂ m-is.
+      bind-inv _ _ _ _ q₂ λ fs c d q₃ q₄ j-is.
+      good-inv _ _ _ _ q₄ λ es-is d-is.
+      g e i fs c es-is
+      (walk-on w f at (suc n) (lt-ltb 0 (suc n) (omega arith)) ok ∙ ap or18 (any-key w (be32 f 4) at (walkable-old w f ok) k (drop at (bodyIn w f)) e i q₁))
+      (rw drop-drop at q₃)
+
+  moves : (at n i : ℕ) (e : Entry) → walkRead w f at (suc n) ≡ good e i → placeAfter w f at (suc n) ≡ placeAt (at + i) n
+  moves at n i e q = let less : suc n - 1 ≡ n = omega arith in place-is w f at (suc n) _ q ∙ rw less
+
+  -- step k shows entry k
+  pub steps-show : (n : ℕ) (key : Key) (at : ℕ) (es : List Entry) (m : ℕ) → readEntries w (be32 f 4) n key at (drop at (bodyIn w f)) ≡ good es m
+      → (k : ℕ) → let p : Place = placeAfterAll w f k (placeAt at n) in walkAnswer w f (p .at) (p .left) ≡ pick false (getElem? es k)
+  unfolding readEntries
+  steps-show zero key at es m q k =
+      good-inv _ _ _ _ q λ es-is m-is. rw (← es-is, stays-all w f at k) (view-is w f at 0 _ (walk-none w f at))
+  steps-show (suc n) key at es m q zero =
+      next-entry n key at es m q λ e i fs j es-is is rest. unfold placeAfterAll in rw (← es-is) (view-is w f at (suc n) _ is)
+  steps-show (suc n) key at es m q (suc k) =
+      next-entry n key at es m q λ e i fs j es-is is rest.
+      rw (← es-is, after-more w f at (suc n) k _ (moves at n i e is)) (steps-show n (keyOf e) (at + i) fs j rest k)
+
+  -- and n steps show them all
+  pub steps-show-all : (n : ℕ) (key : Key) (at : ℕ) (es : List Entry) (m : ℕ) → readEntries w (be32 f 4) n key at (drop at (bodyIn w f)) ≡ good es m
+      → walkOver w f n (placeAt at n) ≡ map inFile es
+  unfolding readEntries walkOver
+  steps-show-all zero key at es m q = good-inv _ _ _ _ q λ es-is m-is. rw (← es-is)
+  steps-show-all (suc n) key at es m q =
+      next-entry n key at es m q λ e i fs j es-is is rest.
+      rw (← es-is, moves at n i e is, view-is w f at (suc n) _ is) (ap (λ (l : List (View Entry)). inFile e ∷ l) (steps-show-all n (keyOf e) (at + i) fs j rest))

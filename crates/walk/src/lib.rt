@@ -1,0 +1,218 @@
+// A walk over the entries of a file of version 2 or 3: the next entry, step by step, without a workspace.
+ghost use mathlib.Core.Path.{_≡_};
+ghost use mathlib.Core.Bool.{false};
+ghost use Prim.Native.Nat.{_-_, _≤_};
+ghost use lib.ListN.{length, drop};
+ghost use lib.Dec.{eqb};
+ghost use Rattle.format.specs.Records as F;
+ghost use Rattle.format.specs.Reader.{readEntry, readFile};
+ghost use Rattle.hash.specs.Sha1.{sha1};
+ghost use Rattle.file.specs.Answers.{cleared};
+ghost use Rattle.walk.specs.Walks.{startAnswer, placeAt, firstPlace, bodyIn, or18, walkRead, walkAnswer, nameShown, placeAfter, StepShows};
+ghost use Rattle.walk.specs.Walks as W;
+ghost use Rattle.walk.specs.Sights.{Sees};
+use entries::Fixed;
+use entries::Head;
+use entries::Text;
+use file::EntryAnswer;
+use file::Shown;
+use file_contents::Whole;
+
+// The answer of start: a refusal's number and place, or how many entries a walk has before it.
+pub enum Started {
+    Refused(u32, usize),
+    Ready(u32),
+}
+
+// The place of the next entry, and how many remain.
+pub struct Place {
+    pub at: usize,
+    pub left: u32,
+}
+
+// A walk: the file, the place of the next entry, and how many remain.
+pub struct Walk<'a> {
+    pub file: &'a [u8],
+    pub at: usize,
+    pub left: u32,
+}
+
+// Nothing, or an entry: the bytes before its name, the length of its name, and how many bytes it has from its name on.
+pub enum Sight {
+    Nothing,
+    Found(Head, usize, usize),
+}
+
+// ---- the entry at a place
+
+// Whether the header is one of version 2 or 3.
+fn walkable(file: &[u8]) -> bool
+    ensures { λ r. ⌜ r ≡ W.walkable 20 (now (file .entry)) ⌝ }
+{
+    if file.len() < 32 {
+        return false;
+    }
+    if fields::same(&file[..4], b"DIRC") {
+        let v = fields::read32(file, 4);
+        if v == 2 {
+            return true;
+        }
+        return v == 3;
+    }
+    false
+}
+
+// The entry of version v, 2 or 3, at a place of the body b.
+fn plain_at(b: &[u8], at: usize, v: u32) -> Sight
+    requires { ⌜ (at ≤ length (now b)) × (eqb v 4 ≡ false) ⌝ }
+    ensures { λ r. ⌜ Sees (or18 (readEntry 20 v F.start at (drop at (now (b .entry))))) (now (b .entry)) at r ⌝ }
+{
+    let fixed = entries::read_fixed(b, at, v);
+    match fixed {
+        Fixed::Bad(_) => Sight::Nothing,
+        Fixed::Good(h) => {
+            let text = entries::read_plain(b, at + h.length, h.length, h.flags % 4096);
+            match text {
+                Text::Bad(_) => Sight::Nothing,
+                Text::Good(n, m) => Sight::Found(h, n, m),
+            }
+        }
+    }
+}
+
+// The next entry of a file at a place, where some remain.
+fn see(file: &[u8], at: usize, left: u32) -> Sight
+    ensures { λ r. ⌜ Sees (walkRead 20 (now (file .entry)) at left) (bodyIn 20 (now (file .entry))) at r ⌝ }
+{
+    if left == 0 {
+        return Sight::Nothing;
+    }
+    if walkable(file) {
+        let n = file.len() - 20;
+        if n < at {
+            return Sight::Nothing;
+        }
+        return plain_at(&file[..n], at, fields::read32(file, 4));
+    }
+    Sight::Nothing
+}
+
+// The next entry of a file at a place, where so many remain: 18 where there is none.
+pub fn entry_at(file: &[u8], at: usize, left: u32) -> EntryAnswer
+    ensures { λ r. ⌜ StepShows (walkAnswer 20 (now (file .entry)) at left) (now (file .entry)) r ⌝ }
+{
+    let sight = see(file, at, left);
+    match sight {
+        Sight::Nothing => file::refused_entry(18, 0),
+        Sight::Found(h, length, _) => {
+            let n = file.len() - 20;
+            EntryAnswer {
+                shown: Shown::InFile(at + h.length, length),
+                fields: file::fields_at(&file[..n], at, h.flags, h.word),
+            }
+        }
+    }
+}
+
+// Its name, a part of the file.
+pub fn name_at<'a>(file: &'a [u8], at: usize, left: u32) -> &'a [u8]
+    ensures { λ r. ⌜ now r ≡ nameShown (walkAnswer 20 (now (file .entry)) at left) ⌝ }
+{
+    let answer = entry_at(file, at, left);
+    let shown = answer.shown;
+    file::part_of(file, shown)
+}
+
+// One fewer, from 1 on.
+fn fewer(left: u32) -> u32
+    ensures { λ r. ⌜ r ≡ left - 1 ⌝ }
+{
+    if 0 < left {
+        return left - 1;
+    }
+    0
+}
+
+// The place after the next entry, with one fewer to come. Where there is none, the place stays.
+pub fn place_after(file: &[u8], at: usize, left: u32) -> Place
+    ensures { λ r. ⌜ r ≡ placeAfter 20 (now (file .entry)) at left ⌝ }
+{
+    let sight = see(file, at, left);
+    match sight {
+        Sight::Nothing => Place {
+            at: at,
+            left: fewer(left),
+        },
+        Sight::Found(h, _, m) => {
+            let end = at + h.length + m;
+            Place {
+                at: end,
+                left: fewer(left),
+            }
+        }
+    }
+}
+
+// ---- the start
+
+// Whether a walk can go over a file: the refusals of the file, then 4 for version 4, else how many entries there are.
+pub fn start(file: &[u8], work: &mut [u8]) -> Started
+    ensures { λ r. ⌜ (r ≡ startAnswer (now (work .entry)) (readFile 20 sha1 (now (file .entry)))) × (now (work .exit) ≡ cleared (now (work .entry))) ⌝ }
+{
+    let whole = file_contents::read_cleared(file, work, 0, 0);
+    match whole {
+        Whole::Bad(n, p) => Started::Refused(n, p),
+        Whole::Good(parts) => {
+            if parts.version == 4 {
+                return Started::Refused(4, 0);
+            }
+            Started::Ready(parts.count)
+        }
+    }
+}
+
+// ---- the walk as one value
+
+// A walk before the first of so many entries.
+pub fn new<'a>(file: &'a [u8], entries: u32) -> Walk<'a>
+    ensures { λ r. ⌜ (r .file ≡ file .entry) × (placeAt (r .at) (r .left) ≡ firstPlace entries) ⌝ }
+{
+    Walk {
+        file: file,
+        at: 12,
+        left: entries,
+    }
+}
+
+// The next entry; 18 where none remain.
+pub fn next<'a>(w: Walk<'a>) -> EntryAnswer
+    ensures { λ r. ⌜ StepShows (walkAnswer 20 (now (w .entry .file)) (w .entry .at) (w .entry .left)) (now (w .entry .file)) r ⌝ }
+{
+    entry_at(w.file, w.at, w.left)
+}
+
+// The walk after the next entry.
+pub fn advance<'a>(w: Walk<'a>) -> Walk<'a>
+    ensures { λ r. ⌜ (r .file ≡ w .entry .file) × (placeAt (r .at) (r .left) ≡ placeAfter 20 (now (w .entry .file)) (w .entry .at) (w .entry .left)) ⌝ }
+{
+    let p = place_after(w.file, w.at, w.left);
+    Walk {
+        file: w.file,
+        at: p.at,
+        left: p.left,
+    }
+}
+
+// The name of the next entry, a part of the file; none where there is no entry.
+pub fn name<'a>(w: Walk<'a>) -> &'a [u8]
+    ensures { λ r. ⌜ now r ≡ nameShown (walkAnswer 20 (now (w .entry .file)) (w .entry .at) (w .entry .left)) ⌝ }
+{
+    name_at(w.file, w.at, w.left)
+}
+
+// How many entries remain.
+pub fn remaining<'a>(w: Walk<'a>) -> u32
+    ensures { λ r. ⌜ r ≡ w .entry .left ⌝ }
+{
+    w.left
+}
