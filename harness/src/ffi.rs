@@ -118,3 +118,71 @@ pub fn check(file: &[u8], work: &mut [u8]) -> CheckAnswer {
     // SAFETY: both pointers and lengths are those of slices, and a mutable slice overlaps nothing.
     unsafe { nerupazhil_check(file.as_ptr(), file.len(), work.as_mut_ptr(), work.len()) }
 }
+
+/// Writes the file's records in a version.
+pub fn rewrite(file: &[u8], work: &mut [u8], out: &mut [u8], asked: u32) -> WriteAnswer {
+    // SAFETY: as in check.
+    unsafe {
+        nerupazhil_rewrite(
+            file.as_ptr(),
+            file.len(),
+            work.as_mut_ptr(),
+            work.len(),
+            out.as_mut_ptr(),
+            out.len(),
+            asked,
+        )
+    }
+}
+
+/// The same with one entry put.
+pub fn put(
+    file: &[u8],
+    work: &mut [u8],
+    out: &mut [u8],
+    asked: u32,
+    name: &[u8],
+    fields: Fields,
+) -> WriteAnswer {
+    // SAFETY: as in check.
+    unsafe {
+        nerupazhil_put(
+            file.as_ptr(),
+            file.len(),
+            work.as_mut_ptr(),
+            work.len(),
+            out.as_mut_ptr(),
+            out.len(),
+            asked,
+            name.as_ptr(),
+            name.len(),
+            fields,
+        )
+    }
+}
+
+/// The same with one entry removed.
+pub fn remove(
+    file: &[u8],
+    work: &mut [u8],
+    out: &mut [u8],
+    asked: u32,
+    name: &[u8],
+    stage: u32,
+) -> WriteAnswer {
+    // SAFETY: as in check.
+    unsafe {
+        nerupazhil_remove(
+            file.as_ptr(),
+            file.len(),
+            work.as_mut_ptr(),
+            work.len(),
+            out.as_mut_ptr(),
+            out.len(),
+            asked,
+            name.as_ptr(),
+            name.len(),
+            stage,
+        )
+    }
+}

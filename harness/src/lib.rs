@@ -5,5 +5,6 @@
 
 pub mod ffi;
 pub mod hostile;
+pub mod index_file;
 pub mod plain;
 pub mod random;
