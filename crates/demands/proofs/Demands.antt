@@ -9,14 +9,21 @@ use Rattle.hash.specs.Sha1.{sha1}
 use Rattle.hash.proofs.Bytes.{length-sha1}
 use Rattle.spelling.proofs.File.{one}
 use Rattle.demands.proofs.Statements.{Demand1, Demand2, Demand3}
+use Rattle.demands.proofs.Written.{rewritten, put-in, removed, filled}
 use Rattle.demands.proofs.Proved.{small-refused, zeroed, name-left, file-refused, file-read, checked, entry-shown, node-shown, undo-shown, accepted-spelled, cut-rule}
 
 module _ (w : ℕ) (hash : List ℕ → List ℕ) (work : List ℕ) (width : (b : List ℕ) → length (hash b) ≡ w) where
   pub demand1 : Demand1 w hash work
-  demand1 = record { small = small-refused w hash work; zeroed = zeroed work; shown = name-left w hash work width }
+  demand1 = record { small = small-refused w hash work; zeroed = zeroed work; shown = name-left w hash work width; left = λ out n p. refl; filled = filled }
 
   pub demand2 : tooSmall work ≡ false → Demand2 w hash work
-  demand2 room = record { refusals = file-refused w hash work width room; records = file-read w hash work width room }
+  demand2 room = record {
+    refusals = file-refused w hash work width room;
+    records = file-read w hash work width room;
+    rewritten = rewritten w hash work width room;
+    put-in = put-in w hash work width room;
+    removed = removed w hash work width room;
+  }
 
 pub demand3 : (w : ℕ) (hash : List ℕ → List ℕ) (work : List ℕ) → ((b : List ℕ) → length (hash b) ≡ w) → tooSmall work ≡ false → Demand3 w hash work
 demand3 w hash work width room = record {

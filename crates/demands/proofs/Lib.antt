@@ -1,5 +1,6 @@
--- The demands: Statements states them, Proved has the proofs, Demands joins the two.
+-- The demands: Statements states them, Proved and Written have the proofs, Demands joins the two.
 pub mod Statements
 pub mod Proved
+pub mod Written
 pub mod Demands
 pub mod Witness

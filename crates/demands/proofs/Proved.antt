@@ -23,7 +23,8 @@ use Rattle.file.specs.Answers.{tooSmall, cleared, holding, workAfter, refused, 
 use Rattle.format_laws.proofs.Tests.{and-inv}
 use Rattle.format_laws.proofs.Numbers.{bytes-take}
 use Rattle.spelling.proofs.File.{contentsOf, spelled-read, read-spelled, one, cut}
-use Rattle.demands.proofs.Statements.{check, entry, node, undo}
+use Rattle.file.specs.Writing.{answered, rewriteAnswer, putAnswer, removeAnswer}
+use Rattle.demands.proofs.Statements.{check, entry, node, undo, rewrite, put, remove}
 
 module _ (work : List ℕ) (room : tooSmall work ≡ false) where
   -- with room, an answer is that of the file's reading
@@ -51,8 +52,13 @@ pub small-refused : (w : ℕ) (hash : List ℕ → List ℕ) (work : List ℕ) �
     × (workAfter (entry w hash work k f) work ≡ work)
     × (node w hash work k f ≡ refused 19 0)
     × (undo w hash work k f ≡ refused 19 0))
-unfolding checkAnswer entryAnswer nodeAnswer undoAnswer given cleared
-small-refused w hash work small f = (rw small refl, rw small refl, λ k. (rw small refl, rw (small, small) refl, rw small refl, rw small refl))
+    × ((asked room : ℕ) (e : Entry) (k : Key) →
+    (rewrite w hash work asked room f ≡ bad 19 0)
+    × (put w hash work asked e room f ≡ bad 19 0)
+    × (remove w hash work asked k room f ≡ bad 19 0))
+unfolding checkAnswer entryAnswer nodeAnswer undoAnswer given cleared rewriteAnswer putAnswer removeAnswer answered
+small-refused w hash work small f =
+    (rw small refl, rw small refl, λ k. (rw small refl, rw (small, small) refl, rw small refl, rw small refl), λ asked room e k. (rw small refl, rw small refl, rw small refl))
 
 pub zeroed : (work : List ℕ) → tooSmall work ≡ false → (take 8192 (cleared work) ≡ replicate 8192 0) × (drop 8192 (cleared work) ≡ drop 8192 work)
 unfolding cleared
@@ -119,8 +125,13 @@ module _ (w : ℕ) (hash : List ℕ → List ℕ) (work : List ℕ) (width : (b 
   pub file-refused : (f : List ℕ) (n p : ℕ) → readFile w hash f ≡ bad n p →
       (check w hash work f ≡ Refused n p)
       × ((k : ℕ) → (entry w hash work k f ≡ refused n p) × (node w hash work k f ≡ refused n p) × (undo w hash work k f ≡ refused n p))
-  unfolding checkAnswer entryAnswer nodeAnswer undoAnswer given
-  file-refused f n p e = (rw (room, e) refl, λ k. (rw (room, e) refl, rw (room, e) refl, rw (room, e) refl))
+      × ((asked room : ℕ) (x : Entry) (k : Key) →
+      (rewrite w hash work asked room f ≡ bad n p)
+      × (put w hash work asked x room f ≡ bad n p)
+      × (remove w hash work asked k room f ≡ bad n p))
+  unfolding checkAnswer entryAnswer nodeAnswer undoAnswer given rewriteAnswer putAnswer removeAnswer answered
+  file-refused f n p e =
+      (rw (room, e) refl, λ k. (rw (room, e) refl, rw (room, e) refl, rw (room, e) refl), λ asked most x k. (rw (room, e) refl, rw (room, e) refl, rw (room, e) refl))
 
   pub file-read : (f : List ℕ) (c : Contents) (m : ℕ) → Bytes f → readFile w hash f ≡ good c m →
       Spells w hash (c .records) f

@@ -1,6 +1,8 @@
 -- The demands, in the paper's order and words. w is the width of an object name and of the checksum, hash the checksum's function, work the
 -- workspace. Check, entry k, tree node k and resolve-undo record k answer what checkAnswer, entryAnswer, nodeAnswer and undoAnswer say of the
--- file's reading, and leave the workspace that cleared and workAfter say: so their promises in crates/index/src/lib.rt say.
+-- file's reading, and leave the workspace that cleared and workAfter say: so their promises in crates/index/src/lib.rt say. Rewrite, put and
+-- remove answer what rewriteAnswer, putAnswer and removeAnswer say, clear the workspace, and leave the output that outputAfter says: so their
+-- promises in crates/index_write/src/lib.rt say.
 use mathlib.Core.Path.{_≡_}
 use mathlib.Core.Logic.{_↔_, _⊎_}
 use mathlib.Core.Bool.{true, false}
@@ -8,15 +10,18 @@ use mathlib.Core.List.{List}
 use Prim.Native.Nat.{ℕ, _-_, _<_}
 use lib.ListN.{length, take, drop, getElem?, replicate}
 use lib.Dec.{eqb}
-use Rattle.format.specs.Bytes.{Bytes}
-use Rattle.format.specs.Records.{Records, Entry, Item, Undo}
+use Rattle.format.specs.Bytes.{Bytes, fit32}
+use Rattle.format.specs.Records.{Records, Entry, Key, Item, Undo}
 use Rattle.format.specs.Layout.{Spells}
-use Rattle.format.specs.Reading.{bad, good}
+use Rattle.format.specs.Reading.{Read, bad, good}
 use Rattle.format.specs.Reader.{Contents, readFile}
+use Rattle.format.specs.Writer.{writeFile}
+use Rattle.format.specs.Requests.{putRecord, removeRecord, versionFor}
 use Rattle.file.specs.declared.Summary.{Summary}
 use Rattle.file.specs.declared.Checked.{Checked}
 use Rattle.file.specs.declared.Checked.the-variants.{Refused, Accepted}
 use Rattle.file.specs.Answers.{tooSmall, cleared, workAfter, treeCount, undoCount, summaryOf, checkAnswer, entryAnswer, nodeAnswer, undoAnswer, View, refused, inWorkspace, pick, listed, itemsOf}
+use Rattle.file.specs.Writing.{rewriteAnswer, putAnswer, removeAnswer, outputAfter}
 
 module _ (w : ℕ) (hash : List ℕ → List ℕ) (work : List ℕ) where
   abbrev pub check : List ℕ → Checked
@@ -31,8 +36,24 @@ module _ (w : ℕ) (hash : List ℕ → List ℕ) (work : List ℕ) where
   abbrev pub undo : ℕ → List ℕ → View Undo
   undo k f = undoAnswer work k (readFile w hash f)
 
+  abbrev pub rewrite : ℕ → ℕ → List ℕ → Read (List ℕ)
+  rewrite asked room f = rewriteAnswer w hash work asked room (readFile w hash f)
+
+  abbrev pub put : ℕ → Entry → ℕ → List ℕ → Read (List ℕ)
+  put asked e room f = putAnswer w hash work asked e room (readFile w hash f)
+
+  abbrev pub remove : ℕ → Key → ℕ → List ℕ → Read (List ℕ)
+  remove asked k room f = removeAnswer w hash work asked k room (readFile w hash f)
+
+  -- n bytes: the one file of the records r in the version v, which reads as these records
+  pub record OneFile (v : ℕ) (r : Records) (bytes : List ℕ) (n : ℕ) : Type 0 where
+    pub file : bytes ≡ writeFile w hash v r
+    pub size : n ≡ length bytes
+    pub spelled : Spells w hash r bytes
+    pub again : (end m : ℕ) × (readFile w hash bytes ≡ good (record { version = v; end = end; records = r }) m)
+
   -- Every call ends with an answer for every input and never touches a byte outside what it was lent: that is what a promise says, whatever else
-  -- it says. Each refusal has a number and a place, and leaves the workspace as document 01 states.
+  -- it says. Each refusal has a number and a place, leaves the output as it was, and the workspace as document 01 states.
   pub record Demand1 : Type 0 where
     -- on 19 nothing is written
     pub small :
@@ -40,6 +61,7 @@ module _ (w : ℕ) (hash : List ℕ → List ℕ) (work : List ℕ) where
         (check f ≡ Refused 19 0)
         × (cleared work ≡ work)
         × ((k : ℕ) → (entry k f ≡ refused 19 0) × (workAfter (entry k f) work ≡ work) × (node k f ≡ refused 19 0) × (undo k f ≡ refused 19 0))
+        × ((asked room : ℕ) (e : Entry) (k : Key) → (rewrite asked room f ≡ bad 19 0) × (put asked e room f ≡ bad 19 0) × (remove asked k room f ≡ bad 19 0))
     -- on every other answer the first 8,192 bytes are zero, and what is past them is never touched
     pub zeroed : tooSmall work ≡ false → (take 8192 (cleared work) ≡ replicate 8192 0) × (drop 8192 (cleared work) ≡ drop 8192 work)
     -- except that an entry shown from version 4 stands there first and zeros follow
@@ -48,13 +70,19 @@ module _ (w : ℕ) (hash : List ℕ → List ℕ) (work : List ℕ) where
         (take (length (e .name)) (workAfter (entry k f) work) ≡ e .name)
         × (take (8192 - length (e .name)) (drop (length (e .name)) (workAfter (entry k f) work)) ≡ replicate (8192 - length (e .name)) 0)
         × (drop 8192 (workAfter (entry k f) work) ≡ drop 8192 work)
+    -- a refusal leaves the output as it was; success fills the first n bytes, and no more
+    pub left : (out : List ℕ) (n p : ℕ) → outputAfter (bad n p) out ≡ out
+    pub filled :
+        (out bytes : List ℕ) (n : ℕ) → n ≡ length bytes → (take n (outputAfter (good bytes n) out) ≡ bytes) × (drop n (outputAfter (good bytes n) out) ≡ drop n out)
 
   -- For versions 2, 3 and 4, the records read are those that the format gives these bytes, and the refusal is the first that applies: readFile
   -- has the tests in their order.
   pub record Demand2 : Type 0 where
     pub refusals :
         (f : List ℕ) (n p : ℕ) → readFile w hash f ≡ bad n p →
-        (check f ≡ Refused n p) × ((k : ℕ) → (entry k f ≡ refused n p) × (node k f ≡ refused n p) × (undo k f ≡ refused n p))
+        (check f ≡ Refused n p)
+        × ((k : ℕ) → (entry k f ≡ refused n p) × (node k f ≡ refused n p) × (undo k f ≡ refused n p))
+        × ((asked room : ℕ) (e : Entry) (k : Key) → (rewrite asked room f ≡ bad n p) × (put asked e room f ≡ bad n p) × (remove asked k room f ≡ bad n p))
     pub records :
         (f : List ℕ) (c : Contents) (m : ℕ) → Bytes f → readFile w hash f ≡ good c m →
         Spells w hash (c .records) f
@@ -63,6 +91,18 @@ module _ (w : ℕ) (hash : List ℕ → List ℕ) (work : List ℕ) where
         (entry k f ≡ pick (eqb (c .version) 4) (getElem? (c .records .entries) k))
         × (node k f ≡ listed (itemsOf (c .records .cacheTree)) k)
         × (undo k f ≡ listed (c .records .resolveUndo) k))
+    -- what is written is the one file that document 01 names, and reading it gives the same records
+    pub rewritten :
+        (f : List ℕ) (c : Contents) (m asked room : ℕ) (bytes : List ℕ) (n : ℕ) → Bytes f → readFile w hash f ≡ good c m → rewrite asked room f ≡ good bytes n →
+        OneFile (versionFor asked (c .records .entries)) (c .records) bytes n
+    pub put-in :
+        (f : List ℕ) (c : Contents) (m asked room : ℕ) (e : Entry) (bytes : List ℕ) (n : ℕ) → Bytes f → readFile w hash f ≡ good c m →
+        length (e .numbers) ≡ 10 → fit32 (e .numbers) ≡ true → length (e .object) ≡ w → put asked e room f ≡ good bytes n →
+        OneFile (versionFor asked (putRecord w e (c .records) .entries)) (putRecord w e (c .records)) bytes n
+    pub removed :
+        (f : List ℕ) (c : Contents) (m asked room : ℕ) (k : Key) (bytes : List ℕ) (n : ℕ) → Bytes f → readFile w hash f ≡ good c m →
+        remove asked k room f ≡ good bytes n →
+        OneFile (versionFor asked (removeRecord w k (c .records) .entries)) (removeRecord w k (c .records)) bytes n
 
   -- With the workspace that document 01 asks for:
   pub record Demand3 : Type 0 where

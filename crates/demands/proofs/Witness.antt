@@ -1,6 +1,6 @@
 -- The statements of the demands are not empty: a file of 198 bytes that is accepted, so spelled, and whose cut to 96 bytes is accepted too, and
 -- to 95 bytes refused. The cut's checksum reads, in the whole file, as the head of an extension that is passed over. And a file of version 4,
--- whose entry is shown in the workspace.
+-- whose entry is shown in the workspace. The first file is rewritten.
 use mathlib.Core.Path.{_≡_, refl}
 use mathlib.Core.List.{List, [], _∷_, _++_}
 use mathlib.Core.Bool.{Bool, true, false, _&&_}
@@ -12,10 +12,10 @@ use borrow.Author.Tests.{ltb-true}
 use Rattle.hash_words.specs.Padding.{be64, padded, pad}
 use Rattle.hash_words.specs.Words.{bytes4, words, be32 as word}
 use Rattle.hash.specs.Sha1.{quarter, f, K, H0, nextWord, extended, schedule, round, rounds, chain, block, absorb, digest, sha1}
-use Rattle.format.specs.Bytes.{Bytes, be16, be32, be32s, two, eqList, before, lacks, zeros, digits, decimal, valueFrom, value}
+use Rattle.format.specs.Bytes.{Bytes, put16, put32, put32s, be16, be32, be32s, two, eqList, before, lacks, zeros, digits, decimal, valueFrom, value}
 use Rattle.format.specs.Names.{componentsFrom, components, okComponent, okComponents, okName, lengthField, compare}
-use Rattle.format.specs.Layout.{okMode, fixedLength, entryLength, okNodeName, has, distinct, under, inside, files, allValid, sum, okCount, okCounts, okTreeCounts, modeText, someStage, optional, trees, undos, names, Spells}
-use Rattle.format.specs.Reading.{need, shift, bind}
+use Rattle.format.specs.Layout.{okMode, fixedLength, entryLength, flagsOf, wordOf, okNodeName, has, distinct, under, inside, files, allValid, sum, okCount, okCounts, okTreeCounts, modeText, someStage, optional, trees, undos, names, Spells}
+use Rattle.format.specs.Reading.{good, need, shift, bind}
 use Rattle.format.specs.Reader.{Contents, isSet, okWord, plainLength, readPlain, readN, joined, readSuffix, readPacked, readName, entryOf, readTail, readFixed, readEntry, readEntries, readText, countIn, needSome, readCount, readSubtrees, readObject, readNode, readSiblings, readForest, readNodes, readTree, modeIn, readMode, readStage, readStages, readUndo, readUndos, readData, readExtension, readExtensions, readBody, readFile}
 use Rattle.format.specs.Records.{Records, Entry}
 use Rattle.file.specs.declared.Summary.{Summary}
@@ -23,7 +23,10 @@ use Rattle.file.specs.declared.Count.the-variants.{Absent}
 use Rattle.file.specs.declared.Checked.the-variants.{Refused, Accepted}
 use Rattle.file.specs.Answers.{tooSmall, checkAnswer, given, entryAnswer, inWorkspace}
 use Rattle.format_laws.proofs.Tests.{and-inv}
-use Rattle.demands.proofs.Statements.{check, entry}
+use Rattle.file.specs.Writing.{answered, rewriteAnswer}
+use Rattle.format.specs.Writer.{needsWord, writePlain, writeName, writeRest, writeEntry, writeEntries, writeCacheTree, writeResolveUndo, writeExtensions, writeHeader, writeBody, writeFile}
+use Rattle.format.specs.Requests.{anyWord, okAsked, versionFor, fitting, writing, rewriteRequest}
+use Rattle.demands.proofs.Statements.{check, entry, rewrite}
 use Rattle.demands.proofs.Demands.{sha1-demand3}
 
 file : List ℕ
@@ -78,3 +81,8 @@ packed = 68 ∷ 73 ∷ 82 ∷ 67 ∷ 0 ∷ 0 ∷ 0 ∷ 4 ∷ 0 ∷ 0 ∷ 0 ∷ 1
 entry-shown : (e : Entry) × (entry 20 sha1 work 0 packed ≡ inWorkspace e) × (e .name ≡ 97 ∷ [])
 unfolding packed work tooSmall given entryAnswer be16 be32 be32s two eqList before lacks zeros digits decimal valueFrom value componentsFrom components okComponent okComponents okName lengthField compare okMode fixedLength entryLength okNodeName has distinct under inside files allValid sum okCount okCounts okTreeCounts modeText someStage optional trees undos names need shift bind isSet okWord plainLength readPlain readN joined readSuffix readPacked readName entryOf readTail readFixed readEntry readEntries readText countIn needSome readCount readSubtrees readObject readNode readSiblings readForest readNodes readTree modeIn readMode readStage readStages readUndo readUndos readData readExtension readExtensions readBody readFile word bytes4 words be64 padded pad quarter f K H0 nextWord extended schedule round rounds chain block absorb digest sha1
 entry-shown = (_, refl, refl)
+
+-- rewritten, the file is that cut of it: the extension that is passed over is dropped
+file-rewritten : rewrite 20 sha1 work 0 96 file ≡ good (take 96 file) 96
+unfolding file work tooSmall answered rewriteAnswer put16 put32 put32s flagsOf wordOf needsWord writePlain writeName writeRest writeEntry writeEntries writeCacheTree writeResolveUndo writeExtensions writeHeader writeBody writeFile anyWord okAsked versionFor fitting writing rewriteRequest be16 be32 be32s two eqList before lacks zeros digits decimal valueFrom value componentsFrom components okComponent okComponents okName lengthField compare okMode fixedLength entryLength okNodeName has distinct under inside files allValid sum okCount okCounts okTreeCounts modeText someStage optional trees undos names need shift bind isSet okWord plainLength readPlain readN joined readSuffix readPacked readName entryOf readTail readFixed readEntry readEntries readText countIn needSome readCount readSubtrees readObject readNode readSiblings readForest readNodes readTree modeIn readMode readStage readStages readUndo readUndos readData readExtension readExtensions readBody readFile word bytes4 words be64 padded pad quarter f K H0 nextWord extended schedule round rounds chain block absorb digest sha1
+file-rewritten = refl
