@@ -1,0 +1,2 @@
+-- The answers in plain fields.
+pub mod Replies

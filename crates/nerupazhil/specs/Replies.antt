@@ -1,0 +1,154 @@
+-- The answers of the calls in plain fields, as C sees them: refusal is 0 of a success, and all that does not apply is 0 or false.
+use mathlib.Core.Path.{_≡_}
+use mathlib.Core.List.{List}
+use mathlib.Core.Bool.{Bool, true, false}
+use Prim.Native.Nat.{ℕ}
+use Rattle.format.specs.Records as F
+use Rattle.format.specs.Reading.{Read}
+use Rattle.file.specs.declared.Count.{Count}
+use Rattle.file.specs.declared.Count.the-variants.{Absent, Present}
+use Rattle.file.specs.declared.Checked.{Checked}
+use Rattle.file.specs.declared.Checked.the-variants as K
+use Rattle.file.specs.declared.Shown.{Shown}
+use Rattle.file.specs.declared.Shown.the-variants as S
+use Rattle.file.specs.declared.EntryAnswer.{EntryAnswer}
+use Rattle.file.specs.declared.NodeAnswer.{NodeAnswer}
+use Rattle.file.specs.declared.UndoAnswer.{UndoAnswer}
+use Rattle.file.specs.declared.Written.{Written}
+use Rattle.file.specs.declared.Written.the-variants as W
+use Rattle.file.specs.Answers.{View, cleared}
+use Rattle.file.specs.Writing.{writtenOf, outputAfter}
+use Rattle.index.specs.Calls.{EntryShows, NodeShows, UndoShows}
+use Rattle.walk.specs.declared.Started.{Started}
+use Rattle.walk.specs.declared.Started.the-variants as T
+use Rattle.walk.specs.declared.Place.{Place}
+use Rattle.walk.specs.Walks.{StepShows}
+use Rattle.nerupazhil.specs.declared.CheckReply.{CheckReply}
+use Rattle.nerupazhil.specs.declared.Name.{Name}
+use Rattle.nerupazhil.specs.declared.EntryReply.{EntryReply}
+use Rattle.nerupazhil.specs.declared.NodeReply.{NodeReply}
+use Rattle.nerupazhil.specs.declared.Stage.{Stage}
+use Rattle.nerupazhil.specs.declared.UndoReply.{UndoReply}
+use Rattle.nerupazhil.specs.declared.WriteReply.{WriteReply}
+use Rattle.nerupazhil.specs.declared.StartReply.{StartReply}
+use Rattle.nerupazhil.specs.declared.StepReply.{StepReply}
+
+-- ---- check
+
+abbrev pub isPresent : Count → Bool
+isPresent Absent = false
+isPresent (Present n) = true
+
+abbrev pub numberOf : Count → ℕ
+numberOf Absent = 0
+numberOf (Present n) = n
+
+abbrev pub checkReply : Checked → CheckReply
+checkReply (K.Refused n p) =
+    record { refusal = n; version = 0; place = p; end = 0; entries = 0; nodes = 0; records = 0; «has_tree» = false; «has_undo» = false }
+checkReply (K.Accepted s) =
+    record {
+      refusal = 0;
+      version = s .version;
+      place = 0;
+      end = s .end;
+      entries = s .entries;
+      nodes = numberOf (s .nodes);
+      records = numberOf (s .records);
+      «has_tree» = isPresent (s .nodes);
+      «has_undo» = isPresent (s .records);
+    }
+
+-- ---- what is shown
+
+abbrev pub refusalOf : Shown → ℕ
+refusalOf (S.Refused n p) = n
+refusalOf (S.InFile at n) = 0
+refusalOf (S.InWorkspace n) = 0
+
+abbrev pub placeOf : Shown → ℕ
+placeOf (S.Refused n p) = p
+placeOf (S.InFile at n) = 0
+placeOf (S.InWorkspace n) = 0
+
+-- a name: 1 in the file, 2 in the workspace, 0 none
+abbrev pub nameOf : Shown → Name
+nameOf (S.Refused n p) = record { buffer = 0; offset = 0; length = 0 }
+nameOf (S.InFile at n) = record { buffer = 1; offset = at; length = n }
+nameOf (S.InWorkspace n) = record { buffer = 2; offset = 0; length = n }
+
+abbrev pub entryReply : EntryAnswer → EntryReply
+entryReply a = record { refusal = refusalOf (a .shown); place = placeOf (a .shown); name = nameOf (a .shown); fields = a .fields }
+
+abbrev pub nodeReply : NodeAnswer → NodeReply
+nodeReply a = record {
+  refusal = refusalOf (a .shown);
+  place = placeOf (a .shown);
+  name = nameOf (a .shown);
+  level = a .level;
+  count = a .count;
+  subtrees = a .subtrees;
+  valid = a .valid;
+  object = a .object;
+}
+
+abbrev pub stageOf : ℕ → List ℕ → Stage
+stageOf mode object = record { mode = mode; object = object }
+
+abbrev pub undoReply : UndoAnswer → UndoReply
+undoReply a = record {
+  refusal = refusalOf (a .shown);
+  place = placeOf (a .shown);
+  path = nameOf (a .shown);
+  first = stageOf (a .«first_mode») (a .first);
+  second = stageOf (a .«second_mode») (a .second);
+  third = stageOf (a .«third_mode») (a .third);
+}
+
+abbrev pub stepReply : EntryAnswer → Place → StepReply
+stepReply a next = record {
+  refusal = refusalOf (a .shown);
+  place = placeOf (a .shown);
+  name = nameOf (a .shown);
+  fields = a .fields;
+  at = next .at;
+  left = next .left;
+}
+
+-- ---- replies by the answer that they carry: it shows v
+
+pub record EntryReplies (v : View F.Entry) (f work work′ : List ℕ) (r : EntryReply) : Type 0 where
+  pub answer : EntryAnswer
+  pub shows : EntryShows v f work work′ answer
+  pub plain : r ≡ entryReply answer
+
+pub record NodeReplies (v : View F.Item) (f : List ℕ) (r : NodeReply) : Type 0 where
+  pub answer : NodeAnswer
+  pub shows : NodeShows v f answer
+  pub plain : r ≡ nodeReply answer
+
+pub record UndoReplies (v : View F.Undo) (f : List ℕ) (r : UndoReply) : Type 0 where
+  pub answer : UndoAnswer
+  pub shows : UndoShows v f answer
+  pub plain : r ≡ undoReply answer
+
+pub record StepReplies (v : View F.Entry) (next : Place) (f : List ℕ) (r : StepReply) : Type 0 where
+  pub answer : EntryAnswer
+  pub shows : StepShows v f answer
+  pub plain : r ≡ stepReply answer next
+
+-- ---- the calls that write, the start of a walk
+
+abbrev pub writeReply : Written → WriteReply
+writeReply (W.Refused n p) = record { refusal = n; place = p; length = 0 }
+writeReply (W.Done n) = record { refusal = 0; place = 0; length = n }
+
+-- the answer x in plain fields; the output and the workspace after it
+pub record WriteReplies (x : Read (List ℕ)) (out work out′ work′ : List ℕ) (r : WriteReply) : Type 0 where
+  pub said : r ≡ writeReply (writtenOf x)
+  pub filled : out′ ≡ outputAfter x out
+  pub after : work′ ≡ cleared work
+
+abbrev pub startReply : Started → StartReply
+startReply (T.Refused n p) = record { refusal = n; place = p; at = 0; left = 0 }
+startReply (T.Ready n) = record { refusal = 0; place = 0; at = 12; left = n }
