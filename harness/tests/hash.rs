@@ -4,6 +4,7 @@
 
 use harness::random::Random;
 use harness::{ffi, plain};
+use nerupazhil::raw;
 use std::ptr;
 
 /// What fills the bytes around an input and an output.
@@ -105,7 +106,7 @@ fn unaligned_slices() {
 fn null_with_length_0_is_the_empty_message() {
     let mut out = [GUARD; 20];
     // SAFETY: no byte is read where the length is 0, and `out` is an array of 20 bytes.
-    unsafe { ffi::nerupazhil_sha1(ptr::null(), 0, &mut out) };
+    unsafe { raw::nerupazhil_sha1(ptr::null(), 0, &mut out) };
     assert_eq!(hex(out), "da39a3ee5e6b4b0d3255bfef95601890afd80709");
 }
 
@@ -121,7 +122,7 @@ fn bytes_around_input_and_output_stay() {
             let out: &mut [u8; 20] = (&mut output[front..front + 20]).try_into().unwrap();
             // SAFETY: `length` bytes start at `front`, and `out` is an array of 20 bytes. The input's pointer is a
             // mutable one, so that the comparison below would see a write through it.
-            unsafe { ffi::nerupazhil_sha1(input[front..].as_mut_ptr(), length, out) };
+            unsafe { raw::nerupazhil_sha1(input[front..].as_mut_ptr(), length, out) };
             assert_eq!(input, guarded(front, &message));
             assert_eq!(output, guarded(front, &plain::sha1(&message)));
         }
@@ -142,7 +143,7 @@ fn the_old_output_plays_no_part() {
     for fill in [0x00, 0xff] {
         let mut out = [fill; 20];
         // SAFETY: the pointer and the length are those of a slice, and `out` is an array of 20 bytes.
-        unsafe { ffi::nerupazhil_sha1(b"abc".as_ptr(), 3, &mut out) };
+        unsafe { raw::nerupazhil_sha1(b"abc".as_ptr(), 3, &mut out) };
         assert_eq!(hex(out), "a9993e364706816aba3e25717850c26c9cd0d89d");
     }
 }

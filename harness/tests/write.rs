@@ -3,12 +3,13 @@
 #![deny(warnings)]
 
 use harness::{ffi, hostile, index_file};
+use nerupazhil::raw;
 use std::ptr::{null, null_mut};
 use std::thread;
 
 /// A refusal of any call has no length.
-fn refused(number: u32) -> ffi::WriteAnswer {
-    ffi::WriteAnswer {
+fn refused(number: u32) -> ffi::WriteReply {
+    ffi::WriteReply {
         refusal: number,
         place: 0,
         length: 0,
@@ -30,8 +31,8 @@ fn null_pointers_are_empty_slices() {
     // SAFETY: each length is 0.
     let answers = unsafe {
         [
-            ffi::nerupazhil_rewrite(null(), 0, null_mut(), 0, null_mut(), 0, 0),
-            ffi::nerupazhil_put(
+            raw::nerupazhil_rewrite(null(), 0, null_mut(), 0, null_mut(), 0, 0),
+            raw::nerupazhil_put(
                 null(),
                 0,
                 null_mut(),
@@ -43,7 +44,7 @@ fn null_pointers_are_empty_slices() {
                 0,
                 fields,
             ),
-            ffi::nerupazhil_remove(null(), 0, null_mut(), 0, null_mut(), 0, 0, null(), 0, 0),
+            raw::nerupazhil_remove(null(), 0, null_mut(), 0, null_mut(), 0, 0, null(), 0, 0),
         ]
     };
     assert_eq!(answers, [refused(19); 3]);

@@ -104,7 +104,7 @@ fn remove(file: &[u8], work: &mut [u8], out: &mut [u8]) -> usize {
     ))
 }
 
-fn done(answer: ffi::WriteAnswer) -> usize {
+fn done(answer: ffi::WriteReply) -> usize {
     assert_eq!(answer.refusal, 0, "refused at {}", answer.place);
     answer.length
 }

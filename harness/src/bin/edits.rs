@@ -5,6 +5,7 @@
 #![deny(warnings)]
 
 use harness::ffi;
+use nerupazhil::raw;
 use std::fmt::Display;
 use std::io::{self, BufRead, BufReader, BufWriter, Read, Write};
 use std::process::exit;
@@ -237,7 +238,7 @@ fn check(request: &Request, output: &mut impl Write) -> io::Result<()> {
     let mut work = Lent::blank("workspace", request.work);
     let (length, room) = (file.length(), work.length());
     // SAFETY: the pointers and lengths are those of bytes that are lent here, apart from each other.
-    let answer = unsafe { ffi::nerupazhil_check(file.pointer(), length, work.pointer(), room) };
+    let answer = unsafe { raw::nerupazhil_check(file.pointer(), length, work.pointer(), room) };
     file.unchanged_after(0);
     work.cleared(answer.refusal);
     if answer.refusal > 0 {
@@ -289,7 +290,7 @@ fn call(
     name: &mut Lent,
     work: &mut Lent,
     out: &mut Lent,
-) -> ffi::WriteAnswer {
+) -> ffi::WriteReply {
     let (length, room, out_length) = (file.length(), work.length(), out.length());
     let (file, work, out) = (file.pointer(), work.pointer(), out.pointer());
     let (name_length, name) = (name.length(), name.pointer());
@@ -297,8 +298,8 @@ fn call(
     // SAFETY: the pointers and lengths are those of bytes that are lent by the caller, apart from each other.
     unsafe {
         match request.call.as_str() {
-            "rewrite" => ffi::nerupazhil_rewrite(file, length, work, room, out, out_length, asked),
-            "put" => ffi::nerupazhil_put(
+            "rewrite" => raw::nerupazhil_rewrite(file, length, work, room, out, out_length, asked),
+            "put" => raw::nerupazhil_put(
                 file,
                 length,
                 work,
@@ -310,7 +311,7 @@ fn call(
                 name_length,
                 fields,
             ),
-            "remove" => ffi::nerupazhil_remove(
+            "remove" => raw::nerupazhil_remove(
                 file,
                 length,
                 work,
