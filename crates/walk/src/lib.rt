@@ -30,6 +30,12 @@ pub struct Place {
     pub left: u32,
 }
 
+// The next entry, and the place after it.
+pub struct Step {
+    pub answer: EntryAnswer,
+    pub next: Place,
+}
+
 // A walk: the file, the place of the next entry, and how many remain.
 pub struct Walk<'a> {
     pub file: &'a [u8],
@@ -97,21 +103,52 @@ fn see(file: &[u8], at: usize, left: u32) -> Sight
     Sight::Nothing
 }
 
-// The next entry of a file at a place, where so many remain: 18 where there is none.
-pub fn entry_at(file: &[u8], at: usize, left: u32) -> EntryAnswer
-    ensures { λ r. ⌜ StepShows (walkAnswer 20 (now (file .entry)) at left) (now (file .entry)) r ⌝ }
+// One fewer, from 1 on.
+fn fewer(left: u32) -> u32
+    ensures { λ r. ⌜ r ≡ left - 1 ⌝ }
+{
+    if 0 < left {
+        return left - 1;
+    }
+    0
+}
+
+// The next entry of a file at a place, where so many remain, and the place after it, with one fewer to come. Where there is none, the entry is 18 and the place stays.
+pub fn step_at(file: &[u8], at: usize, left: u32) -> Step
+    ensures { λ r. ⌜ StepShows (walkAnswer 20 (now (file .entry)) at left) (now (file .entry)) (r .answer) × (r .next ≡ placeAfter 20 (now (file .entry)) at left) ⌝ }
 {
     let sight = see(file, at, left);
+    let less = fewer(left);
     match sight {
-        Sight::Nothing => file::refused_entry(18, 0),
-        Sight::Found(h, length, _) => {
+        Sight::Nothing => Step {
+            answer: file::refused_entry(18, 0),
+            next: Place { at: at, left: less },
+        },
+        Sight::Found(h, length, m) => {
             let n = file.len() - 20;
-            EntryAnswer {
-                shown: Shown::InFile(at + h.length, length),
-                fields: file::fields_at(&file[..n], at, h.flags, h.word),
+            let name = at + h.length;
+            let end = name + m;
+            Step {
+                answer: EntryAnswer {
+                    shown: Shown::InFile(name, length),
+                    fields: file::fields_at(&file[..n], at, h.flags, h.word),
+                },
+                next: Place {
+                    at: end,
+                    left: less,
+                },
             }
         }
     }
+}
+
+// The entry alone.
+pub fn entry_at(file: &[u8], at: usize, left: u32) -> EntryAnswer
+    ensures { λ r. ⌜ StepShows (walkAnswer 20 (now (file .entry)) at left) (now (file .entry)) r ⌝ }
+{
+    let step = step_at(file, at, left);
+    let answer = step.answer;
+    answer
 }
 
 // Its name, a part of the file.
@@ -123,34 +160,13 @@ pub fn name_at<'a>(file: &'a [u8], at: usize, left: u32) -> &'a [u8]
     file::part_of(file, shown)
 }
 
-// One fewer, from 1 on.
-fn fewer(left: u32) -> u32
-    ensures { λ r. ⌜ r ≡ left - 1 ⌝ }
-{
-    if 0 < left {
-        return left - 1;
-    }
-    0
-}
-
-// The place after the next entry, with one fewer to come. Where there is none, the place stays.
+// The place alone.
 pub fn place_after(file: &[u8], at: usize, left: u32) -> Place
     ensures { λ r. ⌜ r ≡ placeAfter 20 (now (file .entry)) at left ⌝ }
 {
-    let sight = see(file, at, left);
-    match sight {
-        Sight::Nothing => Place {
-            at: at,
-            left: fewer(left),
-        },
-        Sight::Found(h, _, m) => {
-            let end = at + h.length + m;
-            Place {
-                at: end,
-                left: fewer(left),
-            }
-        }
-    }
+    let step = step_at(file, at, left);
+    let next = step.next;
+    next
 }
 
 // ---- the start

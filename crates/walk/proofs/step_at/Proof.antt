@@ -1,5 +1,5 @@
--- The proof that `entry_at` meets its contract.
-use mathlib.Core.Path.{sym}
+-- The proof that `step_at` meets its contract.
+use mathlib.Core.Path.{refl, sym}
 use Prim.Native.Nat.{_-_}
 use native.Mathlib.Omega.{arith}
 use lib.ListN.{length}
@@ -8,20 +8,23 @@ use borrow.Author.Needs.{needs}
 use Rattle.walk.specs.declared.Sight.the-variants.{Found}
 use Rattle.walk.specs.Walks.{bodyIn, walkRead}
 use Rattle.walk.specs.Sights.{Sees}
-use Rattle.walk.proofs.Seeing.{found-stands, body-long, step-refused, step-shows}
-use Rattle.walk.proofs.entry_at.Statement.{statement}
-use Rattle.walk.proofs.entry_at.Tie as tie
+use Rattle.walk.proofs.Seeing.{found-stands, body-long, step-refused, step-shows, place-stays, place-moves}
+use Rattle.walk.proofs.step_at.Statement.{statement}
+use Rattle.walk.proofs.step_at.Tie as tie
 
 -- an entry is seen
 seen :
     (c : tie.After-sight) →
-    let a = c .before .before .before .before .args in
+    let a = c .before .before .before .before .before .args in
     let r = c .sight .given .0 in
     Sees (walkRead 20 (a .file .now) (a .at) (a .left)) (bodyIn 20 (a .file .now)) (a .at) (Found (r .0) (r .1 .0) (r .1 .1 .0))
-seen c = rw (c .sight .given .1) at (c .before .before .see .ensures)
+seen c = rw (c .sight .given .1) at (c .before .before .before .see .ensures)
 
 see-requires : tie.Need-see-requires
 see-requires c κs = search needs
+
+fewer-requires : tie.Need-fewer-requires
+fewer-requires c κs = search needs
 
 enum-told : tie.Need-enum-told
 enum-told c = search needs
@@ -35,8 +38,15 @@ enum-known-sight c = search needs
 sub-n : tie.Need-sub-n
 sub-n c = omega (arith, body-long _ _ _ _ _ _ (seen (c .before)))
 
-add-t9 : tie.Need-add-t9
-add-t9 c =
+add-name : tie.Need-add-name
+add-name c =
+    let k = c .before .before in
+    let t = found-stands _ _ _ _ _ _ (seen k) in
+    let l = body-long _ _ _ _ _ _ (seen k) in
+    search needs
+
+add-end : tie.Need-add-end
+add-end c =
     let k = c .before .before in
     let t = found-stands _ _ _ _ _ _ (seen k) in
     let l = body-long _ _ _ _ _ _ (seen k) in
@@ -44,7 +54,7 @@ add-t9 c =
 
 slice-aggregate-fields-at : tie.Need-slice-aggregate-fields-at
 slice-aggregate-fields-at c =
-    let f = c .before .before .before .before .before .before .before .args .file .now in
+    let f = c .before .before .before .before .before .before .before .before .args .file .now in
     sym (length-take-le (length f - 20) f (omega arith))
 
 fields-at-requires : tie.Need-fields-at-requires
@@ -53,21 +63,26 @@ fields-at-requires c κs = found-stands _ _ _ _ _ _ (seen (c .before .before .be
 returns : tie.Need-returns
 returns c =
     let e = c .before in
-    step-refused _ _ _ _ (rw (e .enum-told .given .1) at (e .before .before .see .ensures)) (c .refused-entry .ensures)
+    let s = rw (e .enum-told .given .1) at (e .before .before .before .see .ensures) in
+    (step-refused _ _ _ _ s (c .refused-entry .ensures), place-stays _ _ _ _ s (e .before .before .fewer .ensures))
 
 returns-2 : tie.Need-returns-2
-returns-2 c = step-shows _ _ _ _ _ _ (seen (c .before .before .before .before)) _ (c .fields-at .ensures)
+returns-2 c =
+    let k = c .before .before .before .before in
+    (step-shows _ _ _ _ _ _ (seen k) _ (c .fields-at .ensures), place-moves _ _ _ _ _ _ (seen k) _ _ refl (k .before .before .fewer .ensures))
 
-pub entry-at-spec : {M : Type 1} → statement M
-entry-at-spec =
+pub step-at-spec : {M : Type 1} → statement M
+step-at-spec =
     tie.close
     (tie.spec
     see-requires
+    fewer-requires
     enum-told
     refused-entry-requires
     enum-known-sight
     sub-n
-    add-t9
+    add-name
+    add-end
     slice-aggregate-fields-at
     fields-at-requires
     returns
