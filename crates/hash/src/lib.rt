@@ -213,12 +213,3 @@ pub fn sha1(bytes: &[u8]) -> [u8; 20]
 {
     finish(start(), bytes, bytes.len() as u64)
 }
-
-// The SHA-1 of a message, for C and Rust.
-#[no_mangle]
-pub extern "C" fn nerupazhil_sha1(bytes: &[u8], out: &mut [u8; 20])
-    ensures { λ _. ⌜ now (out .exit) ≡ F.sha1 (now (bytes .entry)) ⌝ }
-{
-    let d = sha1(bytes);
-    *out = d;
-}

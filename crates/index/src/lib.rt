@@ -15,7 +15,7 @@ ghost use Rattle.extensions.specs.Found.{TreeFound, UndoFound};
 ghost use Rattle.file.specs.declared.Count.the-variants.{Absent, Present};
 ghost use Rattle.file.specs.Answers.{cleared, pick, listed, itemsOf, checkAnswer, entryAnswer, nodeAnswer, undoAnswer};
 ghost use Rattle.file_contents.specs.Contents.{bodyOf};
-ghost use Rattle.index.specs.Calls.{isPresent, numberOf, plainOf, EntryShows, NodeShows, UndoShows};
+ghost use Rattle.index.specs.Calls.{EntryShows, NodeShows, UndoShows};
 use entries_run::Sought;
 use extensions::TreePlace;
 use extensions::UndoPlace;
@@ -191,74 +191,5 @@ pub fn undo_record(file: &[u8], work: &mut [u8], k: u32) -> UndoAnswer
     match whole {
         Whole::Bad(n, p) => refused_undo(n, p),
         Whole::Good(parts) => show_record(file, parts.found.undo, k),
-    }
-}
-
-// ---- for programs in other languages
-
-// The answer of check in plain fields: refusal is 0 where the file is accepted, and all that does not apply is 0 or false.
-#[repr(C)]
-pub struct CheckAnswer {
-    pub refusal: u32,
-    pub version: u32,
-    pub place: usize,
-    pub end: usize,
-    pub entries: u32,
-    pub nodes: u32,
-    pub records: u32,
-    pub has_tree: bool,
-    pub has_undo: bool,
-}
-
-fn is_present(c: Count) -> bool
-    ensures { λ r. ⌜ r ≡ isPresent c ⌝ }
-{
-    match c {
-        Count::Absent => false,
-        Count::Present(_) => true,
-    }
-}
-
-fn number_of(c: Count) -> u32
-    ensures { λ r. ⌜ r ≡ numberOf c ⌝ }
-{
-    match c {
-        Count::Absent => 0,
-        Count::Present(n) => n,
-    }
-}
-
-#[no_mangle]
-pub extern "C" fn nerupazhil_check(file: &[u8], work: &mut [u8]) -> CheckAnswer
-    ensures { λ r. ⌜ (r ≡ plainOf (checkAnswer (now (work .entry)) (readFile 20 sha1 (now (file .entry))))) × (now (work .exit) ≡ cleared (now (work .entry))) ⌝ }
-{
-    let checked = check(file, work);
-    match checked {
-        Checked::Refused(n, p) => CheckAnswer {
-            refusal: n,
-            version: 0,
-            place: p,
-            end: 0,
-            entries: 0,
-            nodes: 0,
-            records: 0,
-            has_tree: false,
-            has_undo: false,
-        },
-        Checked::Accepted(s) => {
-            let nodes = s.nodes;
-            let records = s.records;
-            CheckAnswer {
-                refusal: 0,
-                version: s.version,
-                place: 0,
-                end: s.end,
-                entries: s.entries,
-                nodes: number_of(nodes),
-                records: number_of(records),
-                has_tree: is_present(nodes),
-                has_undo: is_present(records),
-            }
-        }
     }
 }

@@ -12,14 +12,12 @@ use Rattle.format.specs.Reader.{readFile}
 use Rattle.hash.specs.Sha1.{sha1}
 use Rattle.file.specs.declared.Fields.{Fields}
 use Rattle.file.specs.declared.Written.{Written}
-use Rattle.file.specs.declared.Written.the-variants as W
 use Rattle.file.specs.Answers.{cleared}
 use Rattle.file.specs.Writing.{writtenOf, outputAfter}
 use Rattle.file_contents.specs.declared.Parts.{Parts}
 use Rattle.file_contents.specs.Contents.{bodyOf, Contains}
 use Rattle.entries_edit.specs.declared.Edit.{Edit}
 use Rattle.entries_edit.specs.Edits.{passes, Replaces}
-use Rattle.index_write.specs.declared.WriteAnswer.{WriteAnswer}
 
 -- the answer x as the code gives it; the output and the workspace after it
 pub record Writes (x : Read (List ℕ)) (out work out′ work′ : List ℕ) (r : Written) : Type 0 where
@@ -45,15 +43,3 @@ pub record Planned (f work : List ℕ) (parts : Parts) (edit : Edit) (fields : F
 -- the refusal of a record that is to be put, 0 where it is sound
 unfoldable pub recordNumber : Fields → List ℕ → ℕ
 recordNumber fields name = cond (okMode (fields .mode)) (cond (ltb (fields .stage) 4) (cond (okName name) 0 9) 8) 7
-
--- ---- the answers in plain fields: refusal is 0 of a success, and all that does not apply is 0
-
-abbrev pub plainOf : Written → WriteAnswer
-plainOf (W.Refused n p) = record { refusal = n; place = p; length = 0 }
-plainOf (W.Done n) = record { refusal = 0; place = 0; length = n }
-
--- the same with plain fields
-pub record PlainWrites (x : Read (List ℕ)) (out work out′ work′ : List ℕ) (r : WriteAnswer) : Type 0 where
-  pub said : r ≡ plainOf (writtenOf x)
-  pub filled : out′ ≡ outputAfter x out
-  pub after : work′ ≡ cleared work

@@ -9,7 +9,7 @@ ghost use Rattle.hash.specs.Sha1.{sha1};
 ghost use Rattle.file.specs.Answers.{cleared, entryWith};
 ghost use Rattle.file.specs.Writing.{requested, rewriteAnswer, putAnswer, removeAnswer};
 ghost use Rattle.file_write.specs.Results.{changed};
-ghost use Rattle.index_write.specs.Calls.{Writes, PlainWrites, Opened, Planned, recordNumber, plainOf};
+ghost use Rattle.index_write.specs.Calls.{Writes, Opened, Planned, recordNumber};
 use entries_edit::Edit;
 use entries_place::find_place;
 use file::Fields;
@@ -210,71 +210,4 @@ pub fn remove(
         Whole::Bad(n, p) => Written::Refused(n, p),
         Whole::Good(parts) => remove_read(file, parts, work, out, asked, name, stage),
     }
-}
-
-// ---- for programs in other languages
-
-// The answer of the three calls in plain fields: refusal is 0 of a success, and all that does not apply is 0.
-#[repr(C)]
-pub struct WriteAnswer {
-    pub refusal: u32,
-    pub place: usize,
-    pub length: usize,
-}
-
-fn plain(written: Written) -> WriteAnswer
-    ensures { λ r. ⌜ r ≡ plainOf written ⌝ }
-{
-    match written {
-        Written::Refused(n, p) => WriteAnswer {
-            refusal: n,
-            place: p,
-            length: 0,
-        },
-        Written::Done(n) => WriteAnswer {
-            refusal: 0,
-            place: 0,
-            length: n,
-        },
-    }
-}
-
-#[no_mangle]
-pub extern "C" fn nerupazhil_rewrite(
-    file: &[u8],
-    work: &mut [u8],
-    out: &mut [u8],
-    asked: u32,
-) -> WriteAnswer
-    ensures { λ r. ⌜ PlainWrites (rewriteAnswer 20 sha1 (now (work .entry)) asked (length (now (out .entry))) (readFile 20 sha1 (now (file .entry)))) (now (out .entry)) (now (work .entry)) (now (out .exit)) (now (work .exit)) r ⌝ }
-{
-    plain(rewrite(file, work, out, asked))
-}
-
-#[no_mangle]
-pub extern "C" fn nerupazhil_put(
-    file: &[u8],
-    work: &mut [u8],
-    out: &mut [u8],
-    asked: u32,
-    name: &[u8],
-    fields: Fields,
-) -> WriteAnswer
-    ensures { λ r. ⌜ PlainWrites (putAnswer 20 sha1 (now (work .entry)) asked (entryWith fields (now (name .entry))) (length (now (out .entry))) (readFile 20 sha1 (now (file .entry)))) (now (out .entry)) (now (work .entry)) (now (out .exit)) (now (work .exit)) r ⌝ }
-{
-    plain(put(file, work, out, asked, name, fields))
-}
-
-#[no_mangle]
-pub extern "C" fn nerupazhil_remove(
-    file: &[u8],
-    work: &mut [u8],
-    out: &mut [u8],
-    asked: u32,
-    name: &[u8],
-    stage: u32,
-) -> WriteAnswer
-    ensures { λ r. ⌜ PlainWrites (removeAnswer 20 sha1 (now (work .entry)) asked (record { name = now (name .entry); stage = stage }) (length (now (out .entry))) (readFile 20 sha1 (now (file .entry)))) (now (out .entry)) (now (work .entry)) (now (out .exit)) (now (work .exit)) r ⌝ }
-{
-    plain(remove(file, work, out, asked, name, stage))
 }

@@ -1,8 +1,9 @@
 -- The answers of the calls in plain fields, as C sees them: refusal is 0 of a success, and all that does not apply is 0 or false.
 use mathlib.Core.Path.{_≡_}
-use mathlib.Core.List.{List}
-use mathlib.Core.Bool.{Bool, true, false}
+use mathlib.Core.List.{List, []}
+use mathlib.Core.Bool.{Bool, true, false, cond}
 use Prim.Native.Nat.{ℕ}
+use lib.Dec.{eqb}
 use Rattle.format.specs.Records as F
 use Rattle.format.specs.Reading.{Read}
 use Rattle.file.specs.declared.Count.{Count}
@@ -16,7 +17,7 @@ use Rattle.file.specs.declared.NodeAnswer.{NodeAnswer}
 use Rattle.file.specs.declared.UndoAnswer.{UndoAnswer}
 use Rattle.file.specs.declared.Written.{Written}
 use Rattle.file.specs.declared.Written.the-variants as W
-use Rattle.file.specs.Answers.{View, cleared}
+use Rattle.file.specs.Answers.{View, cleared, partIn}
 use Rattle.file.specs.Writing.{writtenOf, outputAfter}
 use Rattle.index.specs.Calls.{EntryShows, NodeShows, UndoShows}
 use Rattle.walk.specs.declared.Started.{Started}
@@ -76,6 +77,11 @@ abbrev pub nameOf : Shown → Name
 nameOf (S.Refused n p) = record { buffer = 0; offset = 0; length = 0 }
 nameOf (S.InFile at n) = record { buffer = 1; offset = at; length = n }
 nameOf (S.InWorkspace n) = record { buffer = 2; offset = 0; length = n }
+
+-- the bytes that a name stands for
+unfoldable pub bytesOf : Name → (file work : List ℕ) → List ℕ
+bytesOf x file work =
+    cond (eqb (x .buffer) 1) (partIn (x .offset) (x .length) file) (cond (eqb (x .buffer) 2) (partIn (x .offset) (x .length) work) [])
 
 abbrev pub entryReply : EntryAnswer → EntryReply
 entryReply a = record { refusal = refusalOf (a .shown); place = placeOf (a .shown); name = nameOf (a .shown); fields = a .fields }
