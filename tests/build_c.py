@@ -8,8 +8,10 @@ import subprocess
 
 ROOT = os.path.abspath(os.path.join(os.path.dirname(os.path.abspath(__file__)), ".."))
 FOLDER = os.path.join(ROOT, "target", "c")
-FLAGS = ["-O1", "-Wall", "-Wextra", "-pedantic", "-Werror", "-I", os.path.join(ROOT, "c", "include")]
-EXAMPLES = {"list": ("list", "index_file"), "put": ("put", "save", "index_file")}
+WARNINGS = ["-Wall", "-Wextra", "-pedantic", "-Werror"]
+EXAMPLES = os.path.join(ROOT, "c", "examples")
+INCLUDE = ["-I", os.path.join(ROOT, "c", "include"), "-I", EXAMPLES]
+PARTS = {"list": ("list", "index_file"), "put": ("put", "save", "index_file")}  # of the programs in c/examples
 
 
 class BuildFailed(Exception):
@@ -43,16 +45,15 @@ def run(*command: str) -> bytes:
     return done.stdout
 
 
-def compiler(standard: str) -> list:
-    if standard.startswith("c++"):
-        return ["g++", "-x", "c++", f"-std={standard}", *FLAGS]
-    return ["gcc", f"-std={standard}", *FLAGS]
+def compiler(standard: str, warnings: bool = True) -> list:
+    command = ["g++", "-x", "c++"] if standard.startswith("c++") else ["gcc"]
+    return command + [f"-std={standard}", "-O1", *(WARNINGS if warnings else ["-w"]), *INCLUDE]
 
 
-def build(name: str, sources, standard: str = "c99") -> str:
+def build(name: str, sources, standard: str = "c99", warnings: bool = True) -> str:
     """Builds a program with the archive. Answers its path."""
     path = path_of(name)
-    run(*compiler(standard), *sources, "-x", "none", archive(), "-o", path)
+    run(*compiler(standard, warnings), *sources, "-x", "none", archive(), "-o", path)
     return path
 
 
@@ -61,7 +62,7 @@ def build_object(name: str, source: str, standard: str) -> None:
 
 
 def example_sources(name: str) -> list:
-    return [os.path.join(ROOT, "c", "examples", f"{part}.c") for part in EXAMPLES[name]]
+    return [os.path.join(EXAMPLES, f"{part}.c") for part in PARTS[name]]
 
 
 def build_example(name: str, standard: str = "c99") -> str:

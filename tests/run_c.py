@@ -5,7 +5,8 @@
     header     compiles alone and included twice, in C and C++; its declarations and its layout are those of the others
     calls      each call from C and C++, with empty slices too (calls.c)
     list       c/examples/list.c on the stored vectors and on large files, against index_reader
-    put        c/examples/put.c against index_writer; refusals, locks and wrong use leave the index as it was
+    put        c/examples/put.c against index_writer; refusals, locks and wrong use leave the index as it was; what is
+               no sound index is not saved (save_bytes.c)
 
 It needs gcc, g++ and rustc, and the archive (see build_c). The last line is 'N passed, M failed', and the exit status
 is 0 only where M is 0.
@@ -259,6 +260,7 @@ def put_files(report: Report, folder: str) -> None:
     data = Plan(2, [Record(b"a"), Record(b"b/c")], whole_tree([b"a", b"b/c"])).made("").data
     for tests in (refusals, wrong_use, no_index, locks, links, permissions, together):
         tests(report, lambda: Index(program, folder, data))
+    unsound(report, folder, data)
     index = Index(program, folder, filled(4, FILE_LIMIT))
     done = index.put("a")
     good = done.status == 1 and b"refused 2 at 0" in done.err and index.untouched()
@@ -338,6 +340,28 @@ def no_index(report: Report, make) -> None:
     report.test("put, no lock of a folder", not os.path.exists(index.folder + ".lock"))
     done = index.put("a", object_name=OBJECT.upper(), path="index", folder=index.folder)
     report.test("put, from the folder itself and with upper-case digits", done == Done(0, b"", b""), done)
+
+
+def unsound(report: Report, folder: str, data: bytes) -> None:
+    """The save itself refuses bytes that are no sound index: cut ones, and ones with a bit turned."""
+    sources = [os.path.join(build_c.EXAMPLES, part) for part in ("save.c", "index_file.c")]
+    sources.append(os.path.join(HERE, "save_bytes.c"))
+    program = built(report, "save_bytes.c", lambda: build_c.build("save_bytes", sources))
+    if program is None:
+        return
+    wrong = [data[:length] for length in range(0, len(data), 13)]
+    wrong += [data[:at] + bytes([data[at] ^ 1]) + data[at + 1 :] for at in range(0, len(data), 13)]
+    for number, new in enumerate(wrong):
+        index = Index(program, folder, data)
+        done = run(program, index.path, store(os.path.join(folder, "new"), new))
+        told = b"refused %d at %d: " % index_reader.check(new)[1:]
+        good = done.status == 1 and told in done.out and index.untouched()
+        report.test(f"unsound bytes {number} are not saved", good, done)
+    other = Plan(4, [Record(b"other")]).made("").data
+    index = Index(program, folder, data)
+    done = run(program, index.path, store(os.path.join(folder, "new"), other))
+    saved = (done.status, load(index.path), os.listdir(index.folder))
+    report.same("sound bytes are saved", (0, other, ["index"]), saved)
 
 
 def locks(report: Report, make) -> None:
