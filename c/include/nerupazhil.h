@@ -8,9 +8,10 @@
  *   out     where a call that writes puts the new index; NERUPAZHIL_FILE bytes are always enough
  *   name    the name of an entry, 1 to NERUPAZHIL_NAME bytes, no NUL at its end
  *
- * Replies. Each call answers a struct by value. `refusal` is 0 of a success; else it is a number of enum
- * nerupazhil_refusal and `place` says where: the first byte of the entry or extension in the file, or 0. All members
- * that do not apply are 0 or false. Bytes between the members are left open: don't compare replies with memcmp.
+ * Replies. Each call but nerupazhil_sha1 answers a struct by value. `refusal` is 0 of a success; else it is a number of
+ * enum nerupazhil_refusal and `place` says where: the first byte of the entry, extension or checksum in the file, or 0.
+ * All members that do not apply are 0 or false. Bytes between the members are left open: don't compare replies with
+ * memcmp.
  *
  * Workspace. On refusal 19 nothing is written. On every other answer the first NERUPAZHIL_WORKSPACE bytes are zero,
  * but for the name of an entry of version 4, which nerupazhil_entry leaves at the start, with zeros after it. Bytes
