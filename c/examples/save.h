@@ -52,8 +52,8 @@ struct save {
 /* Takes the lock. On SAVE_DONE it is held, and one of the two calls below is to follow; else nothing is held. */
 enum save_result save_begin(struct save *save, const char *path);
 
-/* Replaces the index with these bytes and gives the lock back, whatever the result. It checks the bytes first, and takes
-   the stack of that call and 8 KiB. */
+/* Replaces the index with these bytes and gives the lock back, whatever the result. It checks the bytes first, and
+   takes the stack of that call and 8 KiB. */
 enum save_result save_commit(struct save *save, const uint8_t *bytes, size_t length);
 
 /* Gives the lock back. The index is as it was. SAVE_FAILED where the lock cannot be removed. */
