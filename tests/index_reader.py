@@ -431,9 +431,9 @@ def escape(name: bytes) -> bytes:
     )
 
 
-def listing(data: bytes) -> bytes:
+def listing(data: bytes, limit: int = LISTING_LIMIT) -> bytes:
     try:
-        index = read(data, LISTING_LIMIT)
+        index = read(data, limit)
     except Refused as refusal:
         return b"refused %d at %d\n" % (refusal.number, refusal.place)
     lines = [b"version %d entries %d\n" % (index.version, len(index.entries))]
