@@ -12,8 +12,8 @@ What the page may say, and what is looked at:
     figures                         see RULES
 
 Besides: every definition that a statement named on the page rests on is in its list of definitions, and no other is;
-no function that it names asks anything of its caller; no reader is behind the rules on files; the table of refusals has
-each number once. With --log, FOLDER has what the prover said of each crate: which crates rest on axioms, how many
+every public function of the crates in CALLS is named, and no function that is named asks anything of its caller; no
+reader is behind the rules on files; the table of refusals has each number once, with definitions that give it. With --log, FOLDER has what the prover said of each crate: which crates rest on axioms, how many
 functions were proved. With --renew, line numbers and figures are written anew.
 
 The last line is 'N passed, M failed', and the exit status is 0 only where M is 0.
@@ -35,6 +35,7 @@ LIST = "The definitions"
 REFUSALS = range(1, 22)
 MADE = ("target/", ".ci/log/")  # by a run
 SHELLS = ("rt", "bash", "python3")
+CALLS = ("index", "index_write", "walk", "nerupazhil")
 RULE_OF_FILES = ("crates/format/specs/Layout.antt", "Spells")
 READERS = ("crates/format/specs/Reading.antt", "crates/format/specs/Reader.antt")
 
@@ -61,7 +62,7 @@ class Page:
 
     def statements(self) -> set:
         """The declarations that the page names outside its list of definitions."""
-        return {named(match) for match in REFERENCE.finditer(self.sections()[1])}
+        return set(filter(is_declared, map(named, REFERENCE.finditer(self.sections()[1]))))
 
     def needed(self) -> set:
         """The definitions that these rest on, in specs and types; proofs and functions are not believed but checked."""
@@ -79,9 +80,17 @@ class Page:
         return found
 
 
+def exists(path: str) -> bool:
+    return os.path.exists(os.path.join(ROOT, path))
+
+
 def named(match: re.Match) -> tuple:
     """The declaration that a reference names."""
     return match["path"], match["name"].rpartition("::")[2].partition(".")[0]
+
+
+def is_declared(one: tuple) -> bool:
+    return exists(one[0]) and one[1] in declarations(one[0])
 
 
 def verdicts(folder: str) -> dict:
@@ -157,25 +166,27 @@ def figures(page: Page):
         yield f"the page has {pattern.pattern[:40]}", bool(pattern.search(page.text)), "nothing like it"
         for match in pattern.finditer(page.text):
             try:
-                expected = right(page, match)
+                yield match[0], match[0] == right(page, match), f"should be {right(page, match)}"
             except LookupError as error:
-                expected = str(error)
-            yield match[0], match[0] == expected, f"should be {expected}"
+                yield match[0], False, str(error)
 
 
 def renewed(page: Page) -> str:
-    """The text with right line numbers and figures."""
+    """The text with right line numbers and figures; a name that is not there stays as it is."""
+
+    def text_for(match: re.Match) -> str:
+        try:
+            return right(page, match)
+        except LookupError:
+            return match[0]
+
     text = page.text
     for pattern, right in RULES:
-        text = pattern.sub(lambda match, right=right: right(page, match), text)
+        text = pattern.sub(text_for, text)
     return text
 
 
 # ---- files, sections and commands
-
-
-def exists(path: str) -> bool:
-    return os.path.exists(os.path.join(ROOT, path))
 
 
 def files(page: Page):
@@ -244,9 +255,17 @@ def complete(page: Page):
         yield f"{path} is linked", f"](../{path}" in page.text, "a statement rests on it"
 
 
+def public_calls():
+    for path in (f"crates/{crate}/src/lib.rt" for crate in CALLS):
+        first = ((name, text[0]) for name, text in declarations(path).items())
+        yield from ((path, name) for name, line in first if definitions.FUNCTION.match(line) and line.startswith("pub "))
+
+
 def calls(page: Page):
-    """No function that the page names asks anything of its caller."""
+    """Every public call is named, and none that is named asks anything of its caller."""
     functions = {(path, name) for path, name in page.statements() if path.endswith(".rt")}
+    for path, name in public_calls():
+        yield f"{name} of {path} is named", (path, name) in functions, "it is a public call"
     for path, name in sorted(functions):
         text = "\n".join(definitions.statement(path, name))
         yield f"{name} of {path} asks nothing", "requires" not in text, "it has a requires"
@@ -260,6 +279,10 @@ def no_reader(page: Page):
 def refusals(page: Page):
     numbers = [int(number) for number in re.findall(r"^\| (\d+) \|", page.text, re.M)]
     yield "refusals", numbers == list(REFUSALS), f"the table has {numbers}"
+    for number, row in re.findall(r"^\| (\d+) \|(.*)$", page.text, re.M):
+        for match in REFERENCE.finditer(row):
+            given = is_declared(named(match)) and number in definitions.words(declarations(match["path"])[match["name"]])
+            yield f"{number} in {match['name']}", given, "the definition has no such number"
 
 
 def axioms(page: Page):
@@ -295,10 +318,7 @@ def main() -> int:
     with open(path, encoding="utf-8") as stream:
         page = Page(stream.read(), options.log)
     if options.renew:
-        try:
-            page.text = renewed(page)
-        except LookupError as error:
-            parser.error(f"nothing is written: {error}")
+        page.text = renewed(page)
         with open(path, "w", encoding="utf-8") as stream:
             stream.write(page.text)
     report = Report()
