@@ -20,6 +20,7 @@ The last line is 'N passed, M failed', and the exit status is 0 only where M is 
 """
 
 import argparse
+import functools
 import glob
 import os
 import re
@@ -42,7 +43,7 @@ READERS = ("crates/format/specs/Reading.antt", "crates/format/specs/Reader.antt"
 REFERENCE = re.compile(r"\[(?P<name>[^\]]+)\]\(\.\./(?P<path>[^)#]+)#L(?P<line>\d+)\)")
 LINK = re.compile(r"\[[^\]]+\]\((?P<path>[^)#]+)\)")
 SECTION = re.compile(r"\]\((?P<path>[^)#]+\.md)#(?P<anchor>[^)]+)\)(?P<quotes>(?:;? \"[^\"]+\")*)")
-CODE = re.compile(r"`([^`]+)`")
+BLOCK = re.compile(r"^```sh\n(.*?)^```$", re.M | re.S)
 FILE = re.compile(r"^#### \[(?P<title>[^\]]+)\]\(\.\./(?P<path>[^)]+)\): \d+ definitions?, \d+ lines?$", re.M)
 
 
@@ -53,31 +54,45 @@ class Page:
         self.text = text
         self.log = verdicts(log) if log else None
 
-    def sections(self) -> tuple:
+    @functools.cached_property
+    def parts(self) -> tuple:
         """The list of definitions, and all the rest."""
         found = re.search(rf"^## {LIST}\n.*?(?=^## )", self.text, re.M | re.S)
         if not found:
             raise LookupError(f"the page has no section '{LIST}'")
         return found[0], self.text[: found.start()] + self.text[found.end() :]
 
+    @functools.cached_property
     def statements(self) -> set:
         """The declarations that the page names outside its list of definitions."""
-        return set(filter(is_declared, map(named, REFERENCE.finditer(self.sections()[1]))))
+        return set(filter(is_declared, map(named, REFERENCE.finditer(self.parts[1]))))
 
+    @functools.cached_property
+    def behind(self) -> set:
+        """All that these rest on."""
+        return closure(self.statements)
+
+    @functools.cached_property
     def needed(self) -> set:
-        """The definitions that these rest on, in specs and types; proofs and functions are not believed but checked."""
-        rest = {one for one in closure(self.statements()) if one[0] and "/proofs/" not in one[0]}
+        """Of that, the definitions in specs and the types; proofs and functions are not believed but checked."""
+        rest = {one for one in self.behind if one[0] and "/proofs/" not in one[0]}
         return {one for one in rest if not definitions.FUNCTION.match(declarations(one[0])[one[1]][0])}
 
+    @functools.cached_property
     def listed(self) -> set:
         """The definitions of the list: those linked, and in a file's table those in backticks."""
-        text, found = self.sections()[0], set()
+        text, found = self.parts[0], set()
         files = list(FILE.finditer(text))
         for match, end in zip(files, [one.start() for one in files[1:]] + [len(text)]):
             part = text[match.end() : end]
             found |= {named(one) for one in REFERENCE.finditer(part)}
-            found |= {(match["path"], name) for name in CODE.findall(part)}
+            found |= {(match["path"], name) for name in codes(part)}
         return found
+
+
+def codes(text: str) -> list:
+    """What stands in backticks; blocks of commands are left out."""
+    return re.findall(r"`([^`\n]+)`", BLOCK.sub("", text))
 
 
 def exists(path: str) -> bool:
@@ -91,6 +106,10 @@ def named(match: re.Match) -> tuple:
 
 def is_declared(one: tuple) -> bool:
     return exists(one[0]) and one[1] in declarations(one[0])
+
+
+def crates() -> set:
+    return {line.partition(":")[0] for line in lines_of("crates.txt") if re.match(r"^\w+:", line)}
 
 
 def verdicts(folder: str) -> dict:
@@ -120,12 +139,12 @@ def right_reference(page: Page, match: re.Match) -> str:
 
 
 def right_file(page: Page, match: re.Match) -> str:
-    found = {one for one in page.needed() if one[0] == match["path"]}
+    found = {one for one in page.needed if one[0] == match["path"]}
     return f"#### [{match['title']}](../{match['path']}): {extent(found)}"
 
 
 def right_whole(page: Page, match: re.Match) -> str:
-    return f"In all: {extent(page.needed())}."
+    return f"In all: {extent(page.needed)}."
 
 
 def right_closure(page: Page, match: re.Match) -> str:
@@ -193,7 +212,7 @@ def files(page: Page):
     for match in LINK.finditer(page.text):
         path = os.path.normpath(os.path.join("docs", match["path"]))
         yield f"link to {path}", exists(path), "not there"
-    for word in CODE.findall(page.text):
+    for word in codes(page.text):
         if "/" in word and " " not in word and not word.startswith(MADE):
             yield f"file {word}", exists(word), "not there"
 
@@ -223,16 +242,14 @@ def quotes(page: Page):
 
 
 def commands(page: Page):
-    blocks = re.findall(r"^```sh\n(.*?)^```", page.text, re.M | re.S)
-    lines = [line for block in blocks for line in block.splitlines()]
-    lines += [word for word in CODE.findall(page.text) if word.split(" ")[0] in SHELLS and " " in word]
+    lines = [line for block in BLOCK.findall(page.text) for line in block.splitlines()]
+    lines += [word for word in codes(page.text) if word.split(" ")[0] in SHELLS and " " in word]
     yield "the page has commands", len(lines) > 3, f"{len(lines)} of them"
-    crates = {line.partition(":")[0] for line in lines_of("crates.txt") if re.match(r"^\w+:", line)}
     for line in lines:
         program, *rest = shlex.split(line)
         known = program in SHELLS or exists(program)
         if program == "rt":
-            good = known and rest[0] == "check" and set(rest[1:]) <= crates
+            good = known and rest[0] == "check" and set(rest[1:]) <= crates()
         else:
             good = known and all(exists(word) for word in rest if not word.startswith("-"))
         yield f"command {line}", good, "its program, a file or a crate is not there"
@@ -242,15 +259,15 @@ def commands(page: Page):
 
 
 def complete(page: Page):
-    needed, listed = page.needed(), page.listed()
+    needed, listed = page.needed, page.listed
     for path, name in sorted(needed | listed):
         yield f"{name} of {path} is listed", (path, name) in listed, f"a statement rests on it, and '{LIST}' has it not"
         yield f"{name} of {path} is needed", (path, name) in needed, f"'{LIST}' has it, and no statement rests on it"
-    modules = {module for path, module in closure(page.statements()) if path is None}
-    front = page.sections()[0].partition("\n#### ")[0]
-    named_modules = {word for word in CODE.findall(front) if "." in word and "/" not in word}
+    modules = {module for path, module in page.behind if path is None}
+    front = page.parts[0].partition("\n#### ")[0]
+    named_modules = {word for word in codes(front) if "." in word and "/" not in word}
     yield "modules of the kit", modules == named_modules, f"should be {sorted(modules)}"
-    proofs = {path for path, _ in closure(page.statements()) if path and "/proofs/" in path}
+    proofs = {path for path, _ in page.behind if path and "/proofs/" in path}
     for path in sorted(proofs):
         yield f"{path} is linked", f"](../{path}" in page.text, "a statement rests on it"
 
@@ -263,7 +280,7 @@ def public_calls():
 
 def calls(page: Page):
     """Every public call is named, and none that is named asks anything of its caller."""
-    functions = {(path, name) for path, name in page.statements() if path.endswith(".rt")}
+    functions = {(path, name) for path, name in page.statements if path.endswith(".rt")}
     for path, name in public_calls():
         yield f"{name} of {path} is named", (path, name) in functions, "it is a public call"
     for path, name in sorted(functions):
@@ -289,11 +306,10 @@ def axioms(page: Page):
     """Which crates rest on axioms, where the prover's words are known."""
     if page.log is None:
         return
-    crates = {line.partition(":")[0] for line in lines_of("crates.txt") if re.match(r"^\w+:", line)}
-    for crate in sorted(crates):
+    for crate in sorted(crates()):
         proved = page.log.get(crate, "").startswith("logic=proved ")
         yield f"{crate} is proved", proved, "the log does not say so"
-    resting = {crate for crate in crates if re.search(r" (axioms|foreign)=", page.log.get(crate, ""))}
+    resting = {crate for crate in crates() if re.search(r" (axioms|foreign)=", page.log.get(crate, ""))}
     told = {match["crate"] for match in RULES[-1][0].finditer(page.text)}
     yield "crates with axioms", resting == told, f"should be {sorted(resting)}"
 
@@ -318,7 +334,7 @@ def main() -> int:
     with open(path, encoding="utf-8") as stream:
         page = Page(stream.read(), options.log)
     if options.renew:
-        page.text = renewed(page)
+        page = Page(renewed(page), options.log)
         with open(path, "w", encoding="utf-8") as stream:
             stream.write(page.text)
     report = Report()

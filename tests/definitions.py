@@ -168,6 +168,7 @@ def headers(path: str) -> list:
     return [line for line in lines_of(path) if MODULE.match(line)]
 
 
+@functools.lru_cache(maxsize=None)
 def cited(path: str, name: str) -> set:
     """The definitions that the statement of a declaration names."""
     names, aliases = imports(path)
