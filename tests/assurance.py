@@ -13,8 +13,10 @@ What the page may say, and what is looked at:
 
 Besides: every definition that a statement named on the page rests on is in its list of definitions, and no other is;
 every public function of the crates in CALLS is named, and no function that is named asks anything of its caller; no
-reader is behind the rules on files; the table of refusals has each number once, with definitions that give it. With --log, FOLDER has what the prover said of each crate: which crates rest on axioms, how many
-functions were proved. With --renew, line numbers and figures are written anew.
+reader is behind the rules on files; the table of refusals has each number once, with definitions that give it.
+
+With --log, FOLDER has what the prover said of each crate: which crates rest on axioms, how many functions were proved.
+With --renew, line numbers and figures are written anew.
 
 The last line is 'N passed, M failed', and the exit status is 0 only where M is 0.
 """
@@ -41,7 +43,7 @@ RULE_OF_FILES = ("crates/format/specs/Layout.antt", "Spells")
 READERS = ("crates/format/specs/Reading.antt", "crates/format/specs/Reader.antt")
 
 REFERENCE = re.compile(r"\[(?P<name>[^\]]+)\]\(\.\./(?P<path>[^)#]+)#L(?P<line>\d+)\)")
-LINK = re.compile(r"\[[^\]]+\]\((?P<path>[^)#]+)\)")
+LINK = re.compile(r"\]\((?P<path>[^)#]+)(?P<anchor>#[^)]*)?\)")
 SECTION = re.compile(r"\]\((?P<path>[^)#]+\.md)#(?P<anchor>[^)]+)\)(?P<quotes>(?:;? \"[^\"]+\")*)")
 BLOCK = re.compile(r"^```sh\n(.*?)^```$", re.M | re.S)
 FILE = re.compile(r"^#### \[(?P<title>[^\]]+)\]\(\.\./(?P<path>[^)]+)\): \d+ definitions?, \d+ lines?$", re.M)
@@ -115,10 +117,10 @@ def crates() -> set:
 def verdicts(folder: str) -> dict:
     """The prover's last words on each crate."""
     found = {}
-    for path in glob.glob(os.path.join(folder, "*.out")):
+    for path in glob.glob(os.path.join(folder, "*.say")):
         with open(path, encoding="utf-8") as stream:
             said = [line for line in stream if line.startswith("logic=")]
-        found[os.path.basename(path)[: -len(".out")]] = said[-1] if said else ""
+        found[os.path.basename(path)[: -len(".say")]] = said[-1] if said else ""
     return found
 
 
@@ -210,8 +212,10 @@ def renewed(page: Page) -> str:
 
 def files(page: Page):
     for match in LINK.finditer(page.text):
-        path = os.path.normpath(os.path.join("docs", match["path"]))
+        path, anchor = os.path.normpath(os.path.join("docs", match["path"])), match["anchor"] or ""
         yield f"link to {path}", exists(path), "not there"
+        known = not anchor or path.endswith(".md") or bool(re.fullmatch(r"#L\d+", anchor))
+        yield f"link to {path}{anchor}", known, "neither a line nor a section"
     for word in codes(page.text):
         if "/" in word and " " not in word and not word.startswith(MADE):
             yield f"file {word}", exists(word), "not there"
@@ -275,7 +279,8 @@ def complete(page: Page):
 def public_calls():
     for path in (f"crates/{crate}/src/lib.rt" for crate in CALLS):
         first = ((name, text[0]) for name, text in declarations(path).items())
-        yield from ((path, name) for name, line in first if definitions.FUNCTION.match(line) and line.startswith("pub "))
+        public = [name for name, line in first if definitions.FUNCTION.match(line) and line.startswith("pub ")]
+        yield from ((path, name) for name in public)
 
 
 def calls(page: Page):
@@ -298,7 +303,8 @@ def refusals(page: Page):
     yield "refusals", numbers == list(REFUSALS), f"the table has {numbers}"
     for number, row in re.findall(r"^\| (\d+) \|(.*)$", page.text, re.M):
         for match in REFERENCE.finditer(row):
-            given = is_declared(named(match)) and number in definitions.words(declarations(match["path"])[match["name"]])
+            text = declarations(match["path"])[match["name"]] if is_declared(named(match)) else []
+            given = number in definitions.words(text)
             yield f"{number} in {match['name']}", given, "the definition has no such number"
 
 
@@ -328,7 +334,7 @@ def main() -> int:
     parser.add_argument("--log", metavar="FOLDER", help="what the prover said of each crate, as target/log")
     parser.add_argument("--renew", action="store_true", help="write line numbers and figures anew")
     options = parser.parse_args()
-    if options.log and not glob.glob(os.path.join(options.log, "*.out")):
+    if options.log and not glob.glob(os.path.join(options.log, "*.say")):
         parser.error(f"{options.log} has no log of a crate")
     path = os.path.join(ROOT, PAGE)
     with open(path, encoding="utf-8") as stream:

@@ -14,19 +14,22 @@ from report import Report
 WRONG_PAGES = (
     ("a wrong line", r"(Statements\.antt#L)(\d+)", r"\g<1>1\g<2>"),
     ("a line past the end", r"(Statements\.antt#L)(\d+)", r"\g<1>99999"),
-    ("a missing statement", r"\[Demand3\.cuts\]", "[Demand3.cut]"),
-    ("a missing theorem", r"\[sha1-demand3\]", "[sha1-demand4]"),
-    ("a missing function", r"\[index::check\]", "[index::checks]"),
-    ("a statement of another file", r"\[Spells\]\(\.\./crates/format/specs/Layout", "[Spells](../crates/format/specs/Reader"),
-    ("a missing source", r"specs/Layout\.antt#", "specs/Layouts.antt#"),
-    ("a missing file", r"\[Witness\.antt\]\(\.\./crates/demands/proofs/Witness\.antt\)", "[w](../crates/demands/Witness.antt)"),
-    ("a missing file in backticks", r"`crates/format/must-fail/checksum_as_entry\.edit`", "`crates/format/must-fail/none.edit`"),
     ("a wrong number of definitions of a file", r"(?m)^(#### .*: )(\d+)( definitions)", r"\g<1>1\2\3"),
     ("a wrong number of lines of a file", r"(?m)^(#### .*, )(\d+)( lines)", r"\g<1>1\2\3"),
     ("a wrong number of definitions in all", r"In all: (\d+)", r"In all: 1\1"),
-    ("no number of definitions in all", r"In all: ", "All: "),
     ("a wrong extent of a statement", r"rests on (\d+)", r"rests on 1\1"),
     ("a wrong number of edits", r"(\d+) must-fail edits", r"1\1 must-fail edits"),
+    ("a missing statement", r"\[Demand3\.cuts\]", "[Demand3.cut]"),
+    ("a missing theorem", r"\[sha1-demand3\]", "[sha1-demand4]"),
+    ("a missing function", r"\[index::check\]", "[index::checks]"),
+    ("a statement of another file", r"\[Spells\]\(\.\./crates/format/specs/Layout",
+     "[Spells](../crates/format/specs/Reader"),
+    ("a missing source", r"specs/Layout\.antt#", "specs/Layouts.antt#"),
+    ("a missing file", r"\(\.\./crates/demands/proofs/Witness\.antt\)", "(../crates/demands/Witness.antt)"),
+    ("a link to neither a line nor a section", r"#L\d+\)", "#here)"),
+    ("a missing file in backticks", r"`crates/format/must-fail/checksum_as_entry\.edit`",
+     "`crates/format/must-fail/none.edit`"),
+    ("no number of definitions in all", r"In all: ", "All: "),
     ("a definition that is missing in the list", r"`be16`, ", ""),
     ("a linked definition that is missing in the list", r"\[lengthField\]\([^)]+\)", "lengthField"),
     ("a definition that no statement rests on", r"`be64`, ", "`be64`, `ending`, "),
@@ -43,11 +46,14 @@ WRONG_PAGES = (
     ("a function that asks something", r"\[index::check\]\([^)]+\)", "[file::object_at](../crates/file/src/lib.rt#L1)"),
     ("a refusal that is missing", r"(?m)^\| 14 \|.*\n", ""),
     ("a refusal twice", r"(?m)^\| 14 \|", "| 13 |"),
-    ("a refusal with another's definition", r"(?m)^(\| 14 \|.*)\[readData\]\([^)]+\)", r"\1[readUndo](../crates/format/specs/Reader.antt#L1)"),
+    ("a refusal with another's definition", r"(?m)^(\| 14 \|.*)\[readData\]\([^)]+\)",
+     r"\1[readUndo](../crates/format/specs/Reader.antt#L1)"),
     ("no list of definitions", r"## The definitions", "## Definitions"),
 )
 
-# What the logs of two crates say in place of what is right.
+RENEWED = 7  # so many of them, from the first, are mended by --renew
+
+# What the log of a crate says in place of what is right.
 WRONG_LOGS = (
     ("a crate that is not proved", "format", "logic=not-proved"),
     ("a crate without a verdict", "format", ""),
@@ -72,7 +78,7 @@ def pages(report: Report) -> None:
         noticed = edits > 0 and failures(assurance.Page(wrong)) - known
         report.test(f"wrong page is noticed: {what}", bool(noticed), f"{edits} edits")
     right = assurance.renewed(assurance.Page(text))
-    for what, old, new in WRONG_PAGES[:2] + WRONG_PAGES[9:12]:
+    for what, old, new in WRONG_PAGES[:RENEWED]:
         again = assurance.renewed(assurance.Page(re.sub(old, new, text)))
         report.test(f"written anew: {what}", again == right)
 
@@ -81,7 +87,7 @@ def write_logs(folder: str, said: dict) -> None:
     """A log for each crate: what is said of it, else that it is proved and rests on what the page tells."""
     for crate in assurance.crates():
         line = {"list": "logic=proved functions=1 axioms=2", "hash_examples": "logic=proved functions=1 axioms=1"}
-        with open(os.path.join(folder, f"{crate}.out"), "w", encoding="utf-8") as stream:
+        with open(os.path.join(folder, f"{crate}.say"), "w", encoding="utf-8") as stream:
             stream.write(said.get(crate, line.get(crate, "logic=proved functions=1")) + "\n")
 
 
@@ -104,8 +110,10 @@ def citing(report: Report) -> None:
     behind = definitions.closure([(statements, "Demand3")])
     for one in ((layout, "Spells"), (reader, "readFile"), (layout, "IsEntry"), ("crates/file/src/lib.rt", "Summary")):
         report.test(f"Demand3 rests on {one[1]}", one in behind)
-    report.test("Spells does not rest on readFile", (reader, "readFile") not in definitions.closure([(layout, "Spells")]))
-    report.test("a constructor is its type's", definitions.owner("crates/format/specs/Records.antt", "invalid") == "Count")
+    spelling = definitions.closure([(layout, "Spells")])
+    report.test("Spells does not rest on readFile", (reader, "readFile") not in spelling)
+    records = "crates/format/specs/Records.antt"
+    report.same("a constructor is its type's", "Count", definitions.owner(records, "invalid"))
     cited = definitions.cited("crates/demands/proofs/Demands.antt", "sha1-demand3")
     report.test("a theorem cites its type", (statements, "Demand3") in cited)
     report.test("a theorem does not cite its proof", not any(name == "length-sha1" for _, name in cited))
