@@ -3,8 +3,8 @@
 It holds index_reader against the stored vectors, against the answers known from the making of files, against
 bytes written out by hand and against Git; and index_writer against the answers known from the making of requests,
 against index_reader and against Git. Then it sees that the tests notice what they should: a row of wrong readings and
-writings, each made from index_reader or index_writer by one edit, and stand-in programs that are right, wrong or
-fail. The last line is 'N passed, M failed', and the exit status is 0 only where M is 0.
+writings, each made from index_reader or index_writer by one edit, stand-in programs that are right, wrong or fail, and
+wrong assurance pages. The last line is 'N passed, M failed', and the exit status is 0 only where M is 0.
 """
 
 import hashlib
@@ -31,6 +31,7 @@ import make_files
 import run_edits
 import run_listing
 import serve_edits
+import wrong_pages
 from report import Report
 from wrong_edits import READER_EDITS, WRITER_EDITS
 
@@ -357,6 +358,7 @@ def main() -> int:
         ("Git and edits", lambda counted: git_edits.run(serve_edits.answer, counted, (4,), SCENES)),
         ("wrong writings", wrong_writings),
         ("stand-in programs of edits", edit_stand_ins),
+        ("wrong assurance pages", wrong_pages.noticed),
     )
     for name, group in groups:
         before, start = report.passed + report.failed, time.monotonic()

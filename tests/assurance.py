@@ -1,0 +1,353 @@
+"""Holds docs/ASSURANCE.md against the repository.
+
+    assurance.py [--log FOLDER] [--renew]
+
+What the page may say, and what is looked at:
+
+    [name](../FILE#L12)             line 12 of FILE declares name; 'A.b' is a field of a record, 'c::f' a function
+    [text](../FILE)                 FILE exists
+    [text](FILE.md#section) "words" FILE has this section, and the words stand in it
+    `folder/file`                   exists, unless a run makes it
+    `rt check demands`              a command, also in a block of 'sh': its program, files and crates exist
+    figures                         see RULES
+
+Besides: every definition that a statement named on the page rests on is in its list of definitions, and no other is;
+every public function of the crates in CALLS is named, and no function that is named asks anything of its caller; no
+reader is behind the rules on files; the table of refusals has each number once, with definitions that give it.
+
+With --log, FOLDER has what the prover said of each crate: which crates rest on axioms, how many functions were proved.
+With --renew, line numbers and figures are written anew.
+
+The last line is 'N passed, M failed', and the exit status is 0 only where M is 0.
+"""
+
+import argparse
+import functools
+import glob
+import os
+import re
+import shlex
+import sys
+
+import definitions
+from definitions import ROOT, closure, declarations, line_of, lines_of
+from report import Report
+
+PAGE = "docs/ASSURANCE.md"
+LIST = "The definitions"
+REFUSALS = range(1, 22)
+MADE = ("target/", ".ci/log/")  # by a run
+SHELLS = ("rt", "bash", "python3")
+CALLS = ("index", "index_write", "walk", "nerupazhil")
+RULE_OF_FILES = ("crates/format/specs/Layout.antt", "Spells")
+READERS = ("crates/format/specs/Reading.antt", "crates/format/specs/Reader.antt")
+
+REFERENCE = re.compile(r"\[(?P<name>[^\]]+)\]\(\.\./(?P<path>[^)#]+)#L(?P<line>\d+)\)")
+LINK = re.compile(r"\]\((?P<path>[^)#]+)(?P<anchor>#[^)]*)?\)")
+SECTION = re.compile(r"\]\((?P<path>[^)#]+\.md)#(?P<anchor>[^)]+)\)(?P<quotes>(?:;? \"[^\"]+\")*)")
+BLOCK = re.compile(r"^```sh\n(.*?)^```$", re.M | re.S)
+FILE = re.compile(r"^#### \[(?P<title>[^\]]+)\]\(\.\./(?P<path>[^)]+)\): \d+ definitions?, \d+ lines?$", re.M)
+
+
+class Page:
+    """The text of the page, and what the prover said where that is known."""
+
+    def __init__(self, text: str, log: str = None):
+        self.text = text
+        self.log = verdicts(log) if log else None
+
+    @functools.cached_property
+    def parts(self) -> tuple:
+        """The list of definitions, and all the rest."""
+        found = re.search(rf"^## {LIST}\n.*?(?=^## )", self.text, re.M | re.S)
+        if not found:
+            raise LookupError(f"the page has no section '{LIST}'")
+        return found[0], self.text[: found.start()] + self.text[found.end() :]
+
+    @functools.cached_property
+    def statements(self) -> set:
+        """The declarations that the page names outside its list of definitions."""
+        return set(filter(is_declared, map(named, REFERENCE.finditer(self.parts[1]))))
+
+    @functools.cached_property
+    def behind(self) -> set:
+        """All that these rest on."""
+        return closure(self.statements)
+
+    @functools.cached_property
+    def needed(self) -> set:
+        """Of that, the definitions in specs and the types; proofs and functions are not believed but checked."""
+        rest = {one for one in self.behind if one[0] and "/proofs/" not in one[0]}
+        return {one for one in rest if not definitions.FUNCTION.match(declarations(one[0])[one[1]][0])}
+
+    @functools.cached_property
+    def listed(self) -> set:
+        """The definitions of the list: those linked, and in a file's table those in backticks."""
+        text, found = self.parts[0], set()
+        files = list(FILE.finditer(text))
+        for match, end in zip(files, [one.start() for one in files[1:]] + [len(text)]):
+            part = text[match.end() : end]
+            found |= {named(one) for one in REFERENCE.finditer(part)}
+            found |= {(match["path"], name) for name in codes(part)}
+        return found
+
+
+def codes(text: str) -> list:
+    """What stands in backticks; blocks of commands are left out."""
+    return re.findall(r"`([^`\n]+)`", BLOCK.sub("", text))
+
+
+def exists(path: str) -> bool:
+    return os.path.exists(os.path.join(ROOT, path))
+
+
+def named(match: re.Match) -> tuple:
+    """The declaration that a reference names."""
+    return match["path"], match["name"].rpartition("::")[2].partition(".")[0]
+
+
+def is_declared(one: tuple) -> bool:
+    return exists(one[0]) and one[1] in declarations(one[0])
+
+
+def crates() -> set:
+    return {line.partition(":")[0] for line in lines_of("crates.txt") if re.match(r"^\w+:", line)}
+
+
+def verdicts(folder: str) -> dict:
+    """The prover's last words on each crate."""
+    found = {}
+    for path in glob.glob(os.path.join(folder, "*.say")):
+        with open(path, encoding="utf-8") as stream:
+            said = [line for line in stream if line.startswith("logic=")]
+        found[os.path.basename(path)[: -len(".say")]] = said[-1] if said else ""
+    return found
+
+
+# ---- figures: what stands in the text, and what should stand there
+
+
+def counted(number: int, word: str) -> str:
+    return f"{number} {word}" if number == 1 else f"{number} {word}s"
+
+
+def extent(found) -> str:
+    """How many definitions these are, and how many lines they have."""
+    return f"{counted(len(found), 'definition')}, {counted(definitions.size(found), 'line')}"
+
+
+def right_reference(page: Page, match: re.Match) -> str:
+    return f"[{match['name']}](../{match['path']}#L{line_of(match['path'], match['name'])})"
+
+
+def right_file(page: Page, match: re.Match) -> str:
+    found = {one for one in page.needed if one[0] == match["path"]}
+    return f"#### [{match['title']}](../{match['path']}): {extent(found)}"
+
+
+def right_whole(page: Page, match: re.Match) -> str:
+    return f"In all: {extent(page.needed)}."
+
+
+def right_closure(page: Page, match: re.Match) -> str:
+    found = {one for one in closure([named(match)]) if one[0]}
+    return f"{match['link']} rests on {extent(found)}"
+
+
+def right_edits(page: Page, match: re.Match) -> str:
+    return f"{len(glob.glob('crates/*/must-fail/*.edit', root_dir=ROOT))} must-fail edits"
+
+
+def right_functions(page: Page, match: re.Match) -> str:
+    numbers = re.findall(r" functions=(\d+)", " ".join((page.log or {}).values()))
+    return f"{sum(map(int, numbers))} functions proved in all" if page.log is not None else match[0]
+
+
+def right_axioms(page: Page, match: re.Match) -> str:
+    if page.log is None:
+        return match[0]
+    said = re.search(r" axioms=(\d+)", page.log.get(match["crate"], ""))
+    return f"`axioms={said[1] if said else 0}` on the line of `{match['crate']}`"
+
+
+RULES = (
+    (REFERENCE, right_reference),
+    (FILE, right_file),
+    (re.compile(r"In all: \d+ definitions?, \d+ lines?\."), right_whole),
+    (re.compile(rf"(?P<link>{REFERENCE.pattern}) rests on \d+ definitions?, \d+ lines?"), right_closure),
+    (re.compile(r"\d+ must-fail edits"), right_edits),
+    (re.compile(r"\d+ functions proved in all"), right_functions),
+    (re.compile(r"`axioms=\d+` on the line of `(?P<crate>\w+)`"), right_axioms),
+)
+
+
+def figures(page: Page):
+    """A test for each line number and figure; a rule that the page has no use for is a fault of the page."""
+    for pattern, right in RULES:
+        yield f"the page has {pattern.pattern[:40]}", bool(pattern.search(page.text)), "nothing like it"
+        for match in pattern.finditer(page.text):
+            try:
+                yield match[0], match[0] == right(page, match), f"should be {right(page, match)}"
+            except LookupError as error:
+                yield match[0], False, str(error)
+
+
+def renewed(page: Page) -> str:
+    """The text with right line numbers and figures; a name that is not there stays as it is."""
+
+    def text_for(match: re.Match) -> str:
+        try:
+            return right(page, match)
+        except LookupError:
+            return match[0]
+
+    text = page.text
+    for pattern, right in RULES:
+        text = pattern.sub(text_for, text)
+    return text
+
+
+# ---- files, sections and commands
+
+
+def files(page: Page):
+    for match in LINK.finditer(page.text):
+        path, anchor = os.path.normpath(os.path.join("docs", match["path"])), match["anchor"] or ""
+        yield f"link to {path}", exists(path), "not there"
+        known = not anchor or path.endswith(".md") or bool(re.fullmatch(r"#L\d+", anchor))
+        yield f"link to {path}{anchor}", known, "neither a line nor a section"
+    for word in codes(page.text):
+        if "/" in word and " " not in word and not word.startswith(MADE):
+            yield f"file {word}", exists(word), "not there"
+
+
+def section(path: str, anchor: str) -> str:
+    """The text of a section of a Markdown file; LookupError where there is none."""
+    text = "\n".join(lines_of(path))
+    parts = re.split(r"^#+ (.*)$", text, flags=re.M)
+    for title, body in zip(parts[1::2], parts[2::2]):
+        if re.sub(r"[^a-z0-9 -]", "", title.lower()).replace(" ", "-") == anchor:
+            return body
+    raise LookupError(f"{path} has no section {anchor}")
+
+
+def quotes(page: Page):
+    for match in SECTION.finditer(page.text):
+        path = os.path.normpath(os.path.join("docs", match["path"]))
+        try:
+            body = section(path, match["anchor"])
+        except LookupError as error:
+            yield f"section {match['anchor']}", False, str(error)
+            continue
+        yield f"section {match['anchor']}", True, ""
+        for words in re.findall(r"\"([^\"]+)\"", match["quotes"]):
+            there = re.search(rf"{re.escape(words)}(?!\w)", body)
+            yield f"{path}, {match['anchor']}: {words}", bool(there), "these words are not there"
+
+
+def commands(page: Page):
+    lines = [line for block in BLOCK.findall(page.text) for line in block.splitlines()]
+    lines += [word for word in codes(page.text) if word.split(" ")[0] in SHELLS and " " in word]
+    yield "the page has commands", len(lines) > 3, f"{len(lines)} of them"
+    for line in lines:
+        program, *rest = shlex.split(line)
+        known = program in SHELLS or exists(program)
+        if program == "rt":
+            good = known and rest[0] == "check" and set(rest[1:]) <= crates()
+        else:
+            good = known and all(exists(word) for word in rest if not word.startswith("-"))
+        yield f"command {line}", good, "its program, a file or a crate is not there"
+
+
+# ---- what is complete
+
+
+def complete(page: Page):
+    needed, listed = page.needed, page.listed
+    for path, name in sorted(needed | listed):
+        yield f"{name} of {path} is listed", (path, name) in listed, f"a statement rests on it, and '{LIST}' has it not"
+        yield f"{name} of {path} is needed", (path, name) in needed, f"'{LIST}' has it, and no statement rests on it"
+    modules = {module for path, module in page.behind if path is None}
+    front = page.parts[0].partition("\n#### ")[0]
+    named_modules = {word for word in codes(front) if "." in word and "/" not in word}
+    yield "modules of the kit", modules == named_modules, f"should be {sorted(modules)}"
+    proofs = {path for path, _ in page.behind if path and "/proofs/" in path}
+    for path in sorted(proofs):
+        yield f"{path} is linked", f"](../{path}" in page.text, "a statement rests on it"
+
+
+def public_calls():
+    for path in (f"crates/{crate}/src/lib.rt" for crate in CALLS):
+        first = ((name, text[0]) for name, text in declarations(path).items())
+        public = [name for name, line in first if definitions.FUNCTION.match(line) and line.startswith("pub ")]
+        yield from ((path, name) for name in public)
+
+
+def calls(page: Page):
+    """Every public call is named, and none that is named asks anything of its caller."""
+    functions = {(path, name) for path, name in page.statements if path.endswith(".rt")}
+    for path, name in public_calls():
+        yield f"{name} of {path} is named", (path, name) in functions, "it is a public call"
+    for path, name in sorted(functions):
+        text = "\n".join(definitions.statement(path, name))
+        yield f"{name} of {path} asks nothing", "requires" not in text, "it has a requires"
+
+
+def no_reader(page: Page):
+    behind = {path for path, _ in closure([RULE_OF_FILES])} & set(READERS)
+    yield f"{RULE_OF_FILES[1]} rests on no reader", not behind, f"it rests on {sorted(behind)}"
+
+
+def refusals(page: Page):
+    numbers = [int(number) for number in re.findall(r"^\| (\d+) \|", page.text, re.M)]
+    yield "refusals", numbers == list(REFUSALS), f"the table has {numbers}"
+    for number, row in re.findall(r"^\| (\d+) \|(.*)$", page.text, re.M):
+        for match in REFERENCE.finditer(row):
+            text = declarations(match["path"])[match["name"]] if is_declared(named(match)) else []
+            given = number in definitions.words(text)
+            yield f"{number} in {match['name']}", given, "the definition has no such number"
+
+
+def axioms(page: Page):
+    """Which crates rest on axioms, where the prover's words are known."""
+    if page.log is None:
+        return
+    for crate in sorted(crates()):
+        proved = page.log.get(crate, "").startswith("logic=proved ")
+        yield f"{crate} is proved", proved, "the log does not say so"
+    resting = {crate for crate in crates() if re.search(r" (axioms|foreign)=", page.log.get(crate, ""))}
+    told = {match["crate"] for match in RULES[-1][0].finditer(page.text)}
+    yield "crates with axioms", resting == told, f"should be {sorted(resting)}"
+
+
+def tests(page: Page):
+    """Every test of the page: its name, whether it passed, and what is wrong."""
+    for group in (figures, files, quotes, commands, complete, calls, no_reader, refusals, axioms):
+        try:
+            yield from group(page)
+        except LookupError as error:
+            yield group.__name__, False, str(error)
+
+
+def main() -> int:
+    parser = argparse.ArgumentParser(description="Holds the assurance page against the repository.")
+    parser.add_argument("--log", metavar="FOLDER", help="what the prover said of each crate, as target/log")
+    parser.add_argument("--renew", action="store_true", help="write line numbers and figures anew")
+    options = parser.parse_args()
+    if options.log and not glob.glob(os.path.join(options.log, "*.say")):
+        parser.error(f"{options.log} has no log of a crate")
+    path = os.path.join(ROOT, PAGE)
+    with open(path, encoding="utf-8") as stream:
+        page = Page(stream.read(), options.log)
+    if options.renew:
+        page = Page(renewed(page), options.log)
+        with open(path, "w", encoding="utf-8") as stream:
+            stream.write(page.text)
+    report = Report()
+    for name, good, detail in tests(page):
+        report.test(name, good, detail)
+    return report.finish()
+
+
+if __name__ == "__main__":
+    sys.exit(main())
