@@ -11,7 +11,6 @@ use Rattle.file.specs.Answers.{View, refused, inFile, inWorkspace, nameIn, view
 use Rattle.walk.specs.declared.Place.{Place}
 use Rattle.nerupazhil.specs.declared.EntryReply.{EntryReply}
 use Rattle.nerupazhil.specs.declared.NodeReply.{NodeReply}
-use Rattle.nerupazhil.specs.declared.Stage.{Stage}
 use Rattle.nerupazhil.specs.declared.UndoReply.{UndoReply}
 use Rattle.nerupazhil.specs.declared.StepReply.{StepReply}
 use Rattle.nerupazhil.specs.Replies.{refusalOf, placeOf, nameOf, bytesOf, entryReply, nodeReply, undoReply, stepReply, EntryReplies, NodeReplies, UndoReplies, StepReplies}

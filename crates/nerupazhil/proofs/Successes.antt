@@ -1,0 +1,147 @@
+-- A reply whose refusal is 0 is a success: no refusal has the number 0.
+use mathlib.Core.Path.{_≡_, refl, sym, ap}
+use mathlib.Core.Logic.{_⊎_, inl, inr}
+use mathlib.Core.List.{List}
+use mathlib.Core.Bool.{Bool, true, false, cond}
+use mathlib.Core.Option.{Option, none, some}
+use Prim.Native.Nat.{ℕ, _<_}
+use native.Mathlib.Omega.{arith}
+use lib.ListN.{length, drop, getElem?}
+use lib.Dec.{eqb}
+use Rattle.format.specs.Bytes.{be32}
+use Rattle.format.specs.Records.{Entry, Key, Records, start}
+use Rattle.format.specs.Reading.{Read, bad, good}
+use Rattle.format.specs.Reader.{Contents, readEntry, readFile}
+use Rattle.hash.specs.Sha1.{sha1}
+use Rattle.file.specs.declared.Summary.{Summary}
+use Rattle.file.specs.declared.Checked.the-variants as K
+use Rattle.file.specs.Answers.{View, refused, inFile, inWorkspace, tooSmall, given, pick, listed, itemsOf, entryOf, nodeOf, undoOf, checkedOf, checkAnswer, entryAnswer, nodeAnswer, undoAnswer}
+use Rattle.file.specs.Writing.{requested, answered, rewriteAnswer, putAnswer, removeAnswer}
+use Rattle.walk.specs.declared.Started.the-variants as T
+use Rattle.walk.specs.Walks.{bodyIn, or18, viewIn, walkRead, walkAnswer, startedOf, startAnswer}
+use Rattle.nerupazhil.specs.declared.WriteReply.{WriteReply}
+use Rattle.nerupazhil.specs.Replies.{checkReply, startReply, WriteReplies}
+use Rattle.nerupazhil.proofs.Numbers.{Numbered, numbered-bad, numbered-good, numbered-need, file-numbered, rewrite-numbered, put-numbered, remove-numbered}
+use Rattle.nerupazhil.proofs.Reading.{Tells}
+
+-- ---- what is shown
+
+pub record Positive {A : Type 0} (v : View A) : Type 0 where
+  pub number : (n p : ℕ) → v ≡ refused n p → 0 < n
+
+module _ {A : Type 0} where
+  positive-refused : (n p : ℕ) → 0 < n → Positive {A = A} (refused n p)
+  positive-refused n p h = record { number = λ i j e. let q : n ≡ i = cc in omega arith }
+
+  positive-pick : (packed : Bool) (o : Option A) → Positive (pick packed o)
+  positive-pick packed none = positive-refused 18 0 (omega arith)
+  positive-pick true (some a) = record { number = λ i j e. let z : _≡_ {A = ℕ} 0 1 = cc in absurd (omega arith) }
+  positive-pick false (some a) = record { number = λ i j e. let z : _≡_ {A = ℕ} 0 1 = cc in absurd (omega arith) }
+
+  positive-listed : (o : Option (List A)) (k : ℕ) → Positive (listed o k)
+  positive-listed none k = positive-refused 18 0 (omega arith)
+  positive-listed (some xs) k = positive-pick false (getElem? xs k)
+
+  -- with a workspace that may be too small
+  positive-given : (work : List ℕ) (v : View A) → Positive v → Positive (given work v)
+  unfolding given
+  positive-given work v h = by (tooSmall work)
+    where
+      by : (t : Bool) → Positive (cond t (refused 19 0) v)
+      by true = positive-refused 19 0 (omega arith)
+      by false = h
+
+  positive-answer : (work : List ℕ) (x : Read Contents) (view : Read Contents → View A) → Numbered x → ((n p : ℕ) → view (bad n p) ≡ refused n p)
+      → ((c : Contents) (m : ℕ) → Positive (view (good c m))) → Positive (given work (view x))
+  positive-answer work (bad n p) view h e q = positive-given work _ (rw (e n p) (positive-refused n p (h .positive n p refl)))
+  positive-answer work (good c m) view h e q = positive-given work _ (q c m)
+
+  -- a reply that tells such a view, with the refusal 0, tells an item
+  pub shown-success : (v : View A) (refusal place : ℕ) (x : A) → Positive v → Tells v refusal place x → refusal ≡ 0 → (v ≡ inFile x) ⊎ (v ≡ inWorkspace x)
+  shown-success (refused n p) refusal place x h t e =
+      let z : 0 < n = h .number n p refl in
+      let q : refusal ≡ n = t .refuses n p refl .0 in absurd (omega arith)
+  shown-success (inFile y) refusal place x h t e = inl (ap inFile (sym (t .file y refl .1)))
+  shown-success (inWorkspace y) refusal place x h t e = inr (ap inWorkspace (sym (t .workspace y refl .1)))
+
+module _ (work f : List ℕ) (k : ℕ) where
+  pub positive-entry : Positive (entryAnswer work k (readFile 20 sha1 f))
+  unfolding entryAnswer
+  positive-entry = positive-answer work _ (entryOf k) (file-numbered 20 sha1 f) (λ n p. refl) (λ c m. positive-pick (eqb (c .version) 4) (getElem? (c .records .entries) k))
+
+  pub positive-node : Positive (nodeAnswer work k (readFile 20 sha1 f))
+  unfolding nodeAnswer
+  positive-node = positive-answer work _ (nodeOf k) (file-numbered 20 sha1 f) (λ n p. refl) (λ c m. positive-listed (itemsOf (c .records .cacheTree)) k)
+
+  pub positive-undo : Positive (undoAnswer work k (readFile 20 sha1 f))
+  unfolding undoAnswer
+  positive-undo = positive-answer work _ (undoOf k) (file-numbered 20 sha1 f) (λ n p. refl) (λ c m. positive-listed (c .records .resolveUndo) k)
+
+pub positive-step : (f : List ℕ) (at left : ℕ) → Positive (walkAnswer 20 f at left)
+unfolding walkAnswer walkRead
+positive-step f at left = view _ (numbered-need _ _ _ _ (omega arith) (eighteen (readEntry 20 (be32 f 4) start at (drop at (bodyIn 20 f)))))
+  where
+    eighteen : (x : Read Entry) → Numbered (or18 x)
+    eighteen (bad n p) = numbered-bad 18 0 (omega arith)
+    eighteen (good e m) = numbered-good e m
+
+    view : (x : Read Entry) → Numbered x → Positive (viewIn x)
+    view (bad n p) h = positive-refused n p (h .positive n p refl)
+    view (good e m) h = record { number = λ i j q. let z : _≡_ {A = ℕ} 0 1 = cc in absurd (omega arith) }
+
+-- ---- check, the start of a walk
+
+module _ (work f : List ℕ) where
+  pub check-success : checkReply (checkAnswer work (readFile 20 sha1 f)) .refusal ≡ 0 → (s : Summary) × (checkAnswer work (readFile 20 sha1 f) ≡ K.Accepted s)
+  unfolding checkAnswer
+  check-success = by (tooSmall work) (readFile 20 sha1 f) (file-numbered 20 sha1 f)
+    where
+      by : (t : Bool) (x : Read Contents) → Numbered x → checkReply (cond t (K.Refused 19 0) (checkedOf x)) .refusal ≡ 0 → (s : Summary) × (cond t (K.Refused 19 0) (checkedOf x) ≡ K.Accepted s)
+      by true x h e = absurd (omega arith)
+      by false (bad n p) h e = let z : 0 < n = h .positive n p refl in absurd (omega arith)
+      by false (good c m) h e = (_, refl)
+
+  pub start-success : startReply (startAnswer work (readFile 20 sha1 f)) .refusal ≡ 0 → (n : ℕ) × (startAnswer work (readFile 20 sha1 f) ≡ T.Ready n)
+  unfolding startAnswer
+  start-success = by (tooSmall work) (readFile 20 sha1 f) (file-numbered 20 sha1 f)
+    where
+      ready : (t : Bool) (n : ℕ) → startReply (cond t (T.Refused 4 0) (T.Ready n)) .refusal ≡ 0 → (i : ℕ) × (cond t (T.Refused 4 0) (T.Ready n) ≡ T.Ready i)
+      ready true n e = absurd (omega arith)
+      ready false n e = (n, refl)
+
+      by : (t : Bool) (x : Read Contents) → Numbered x → startReply (cond t (T.Refused 19 0) (startedOf x)) .refusal ≡ 0 → (n : ℕ) × (cond t (T.Refused 19 0) (startedOf x) ≡ T.Ready n)
+      by true x h e = absurd (omega arith)
+      by false (bad n p) h e = let z : 0 < n = h .positive n p refl in absurd (omega arith)
+      by false (good c m) h e = ready (eqb (c .version) 4) (length (c .records .entries)) e
+
+-- ---- the calls that write
+
+module _ (work f : List ℕ) (asked room : ℕ) where
+  numbered-answer : (ask : Records → Read (List ℕ)) → ((r : Records) → Numbered (ask r)) → Numbered (answered work (readFile 20 sha1 f) ask)
+  unfolding answered
+  numbered-answer ask h = by (tooSmall work) (readFile 20 sha1 f) (file-numbered 20 sha1 f)
+    where
+      by : (t : Bool) (x : Read Contents) → Numbered x → Numbered (cond t (bad 19 0) (requested x ask))
+      by true x q = numbered-bad 19 0 (omega arith)
+      by false (bad n p) q = numbered-bad n p (q .positive n p refl)
+      by false (good c m) q = h (c .records)
+
+  pub numbered-rewrite : Numbered (rewriteAnswer 20 sha1 work asked room (readFile 20 sha1 f))
+  unfolding rewriteAnswer
+  numbered-rewrite = numbered-answer _ (rewrite-numbered 20 sha1 asked room)
+
+  pub numbered-put : (e : Entry) → Numbered (putAnswer 20 sha1 work asked e room (readFile 20 sha1 f))
+  unfolding putAnswer
+  numbered-put e = numbered-answer _ (put-numbered 20 sha1 asked e room)
+
+  pub numbered-remove : (k : Key) → Numbered (removeAnswer 20 sha1 work asked k room (readFile 20 sha1 f))
+  unfolding removeAnswer
+  numbered-remove k = numbered-answer _ (remove-numbered 20 sha1 asked k room)
+
+pub write-success : (x : Read (List ℕ)) (out work out′ work′ : List ℕ) (r : WriteReply) → WriteReplies x out work out′ work′ r → Numbered x → r .refusal ≡ 0
+    → (bytes : List ℕ) × (x ≡ good bytes (r .length))
+write-success (bad n p) out work out′ work′ r w h e =
+    let z : 0 < n = h .positive n p refl in
+    let q : r .refusal ≡ n = ap (λ (y : WriteReply). y .refusal) (w .said) in absurd (omega arith)
+write-success (good bytes n) out work out′ work′ r w h e =
+    (bytes, ap (good bytes) (sym (ap (λ (y : WriteReply). y .length) (w .said))))
