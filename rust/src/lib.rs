@@ -51,7 +51,13 @@
 //! buffers and shows the right parts is tested. Only [`calls`] has unsafe code. A reply that pointed outside of a
 //! buffer would be a panic.
 //!
-//! No proof speaks of stack. 88 KiB were measured to be enough, and [`Index`] takes another 8 KiB.
+//! No proof speaks of stack. 88 KiB were measured to be enough for a call, and [`Index`] has its workspace of 8 KiB
+//! there too: a thread with 128 KiB is on the safe side.
+//!
+//! # Building
+//!
+//! For Linux on x86-64. The build links `libnerupazhil.a` from the folder that the variable `NERUPAZHIL_STATICLIB`
+//! names, or else from `target/staticlib` of the repository, where `rt staticlib nerupazhil` writes it.
 
 #![deny(missing_docs)]
 #![deny(unsafe_code)]

@@ -159,6 +159,21 @@ fn one_index_serves_several_threads() {
     });
 }
 
+/// A cache tree of 127 levels below the root, read and written with 128 KiB of stack.
+#[test]
+fn little_stack_is_enough() {
+    let edit = || {
+        let file = stored("real/deep-127");
+        let index = Index::read(&file)?;
+        let deepest = index.tree_node(127)?;
+        let new = index.with(b"new", &regular(), Version::V4)?;
+        Ok((deepest.level, Index::read(&new)?.summary().entries))
+    };
+    let thread = thread::Builder::new().stack_size(128 << 10).spawn(edit);
+    let answer: Result<_, Refusal> = thread.unwrap().join().unwrap();
+    assert_eq!(answer, Ok((128, 4)));
+}
+
 /// What is shown of an index is short, however long the file.
 #[test]
 fn debug_does_not_show_the_file() {
