@@ -2,9 +2,9 @@
 
 mod common;
 
-use common::{accepted, number, stored, vectors, Records};
+use common::{accepted, number, sealed, stored, vectors, Records};
 use nerupazhil::{
-    calls, check, entry, mode, sha1, tree_node, undo_record, walk, Index, Stage, WORKSPACE,
+    calls, check, entry, mode, sha1, tree_node, undo_record, walk, Index, Stage, EMPTY, WORKSPACE,
 };
 
 #[test]
@@ -102,17 +102,30 @@ fn a_valid_node_has_its_object() {
     assert_eq!((tree.entries, tree.object), (0, sha1(b"tree 0\0")));
 }
 
+/// The root's count is that of all entries, those of its subtrees are less.
+#[test]
+fn a_valid_node_has_its_count() {
+    let nodes = Records::of(&stored("real/v2-committed")).nodes.unwrap();
+    let counts: Vec<_> = nodes.iter().map(|node| node.3.unwrap().entries).collect();
+    assert_eq!(counts[0], 20);
+    assert!(counts[1..].iter().all(|&count| 0 < count && count < 20));
+}
+
+/// A record without its second stage, of 61 bytes.
 #[test]
 fn resolve_undo_records_are_shown() {
-    for name in ["real/v2-resolve-undo", "real/v4-resolve-undo"] {
-        let file = stored(name);
-        let record = undo_record(&file, &mut [0; WORKSPACE], 0).unwrap();
-        assert_eq!(record.path, b"plan");
-        let stages: Vec<Stage> = record.stages.into_iter().flatten().collect();
-        assert!(stages.iter().all(|stage| stage.mode == mode::REGULAR));
-        assert!(stages.iter().all(|stage| stage.object != [0; 20]));
-        assert!(!stages.is_empty());
-    }
+    let mut file = EMPTY[..12].to_vec();
+    file.extend(b"REUC\0\0\0\x3dplan\x00100644\x000\x00100644\0");
+    file.extend([0x11; 20]);
+    file.extend([0x33; 20]);
+    let file = sealed(file);
+    let record = undo_record(&file, &mut [0; WORKSPACE], 0).unwrap();
+    let stage = |byte| Stage {
+        mode: mode::REGULAR,
+        object: [byte; 20],
+    };
+    assert_eq!(record.path, b"plan");
+    assert_eq!(record.stages, [Some(stage(0x11)), None, Some(stage(0x33))]);
 }
 
 /// Entries by their numbers, by a walk and by the owner are the same.
