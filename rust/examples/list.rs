@@ -5,6 +5,7 @@
 //! Exit status: 0 listed, 1 refused or failed, 2 wrong use. After a refusal the listing is the line 'refused NUMBER at
 //! PLACE' alone; what it means is told on standard error.
 
+#[path = "save/load.rs"]
 mod load;
 
 use std::env;

@@ -9,17 +9,16 @@
 //! Exit status: 0 saved, 1 refused or failed, 2 wrong use. After 1 the index is as it was, unless the message says that
 //! it is changed.
 
-mod load;
 mod save;
 
 use std::env;
-use std::error::Error;
 use std::ffi::{OsStr, OsString};
 use std::os::unix::ffi::OsStrExt;
 use std::path::Path;
 use std::process::ExitCode;
 
 use nerupazhil::{Fields, Index, ObjectName};
+use save::SaveError;
 
 fn main() -> ExitCode {
     let arguments: Vec<_> = env::args_os().skip(1).collect();
@@ -100,13 +99,10 @@ fn hex_digit(digit: u8) -> Option<u8> {
 // ---- the change
 
 impl Request<'_> {
-    /// The lock is held from before the index is read until it is replaced.
-    fn run(&self) -> Result<(), Box<dyn Error>> {
-        let lock = save::Lock::take(self.index)?;
-        let file = load::load(lock.index())?;
-        let index = Index::read(&file)?;
-        let new = index.with(self.name, &self.fields, index.summary().version_kept())?;
-        lock.save(&new)?;
-        Ok(())
+    fn run(&self) -> Result<(), SaveError> {
+        save::edit(self.index, |file| {
+            let index = Index::read(file)?;
+            index.with(self.name, &self.fields, index.summary().version_kept())
+        })
     }
 }

@@ -25,7 +25,7 @@
 //! let fields = Fields { mode: mode::REGULAR, object: [0x11; 20], ..Fields::default() };
 //! let new = index.with(b"saw/cut.txt", &fields, index.summary().version_kept())?;
 //!
-//! // Never write over the index itself: a device that dies then has lost both.
+//! // Never write over the index itself: a device that dies then has neither.
 //! let lock = folder.join("index.lock");
 //! std::fs::write(&lock, &new)?;
 //! std::fs::rename(&lock, &path)?;
@@ -35,7 +35,7 @@
 //! # }
 //! ```
 //!
-//! `examples/save/mod.rs` saves with all that a power cut asks for and keeps other Git programs out meanwhile;
+//! `examples/save` saves with all that a loss of power asks for and keeps other Git programs out meanwhile;
 //! `examples/put.rs` is a program that uses it, `examples/list.rs` one that lists an index.
 //!
 //! # Buffers
