@@ -9,7 +9,6 @@
 mod load;
 
 use std::env;
-use std::fmt;
 use std::io::{self, Write};
 use std::path::Path;
 use std::process::ExitCode;
@@ -28,7 +27,11 @@ fn main() -> ExitCode {
     match list(path) {
         Ok(()) => ExitCode::SUCCESS,
         Err(failure) => {
-            eprintln!("list: {}: {failure}", path.display());
+            match failure {
+                Failure::Refused(refusal) => eprintln!("list: {}: {refusal}", path.display()),
+                Failure::Read(error) => eprintln!("list: {}: {error}", path.display()),
+                Failure::Write(error) => eprintln!("list: standard output: {error}"),
+            }
             ExitCode::FAILURE
         }
     }
@@ -36,7 +39,7 @@ fn main() -> ExitCode {
 
 /// Lists the index at a path to standard output.
 fn list(path: &Path) -> Result<(), Failure> {
-    let file = load::load(path)?;
+    let file = load::load(path).map_err(Failure::Read)?;
     let mut out = io::BufWriter::new(io::stdout().lock());
     let listed = match Index::read(&file) {
         Ok(index) => print_index(&index, &mut out),
@@ -106,16 +109,8 @@ fn print_extensions(summary: &Summary, out: &mut impl Write) -> io::Result<()> {
 /// Why an index was not listed.
 enum Failure {
     Refused(Refusal),
-    Io(io::Error),
-}
-
-impl fmt::Display for Failure {
-    fn fmt(&self, f: &mut fmt::Formatter<'_>) -> fmt::Result {
-        match self {
-            Self::Refused(refusal) => refusal.fmt(f),
-            Self::Io(error) => error.fmt(f),
-        }
-    }
+    Read(io::Error),
+    Write(io::Error),
 }
 
 impl From<Refusal> for Failure {
@@ -126,6 +121,6 @@ impl From<Refusal> for Failure {
 
 impl From<io::Error> for Failure {
     fn from(error: io::Error) -> Self {
-        Self::Io(error)
+        Self::Write(error)
     }
 }

@@ -89,6 +89,17 @@ fn list_tells_what_is_wrong() {
     assert!(text(&output.stderr).starts_with("list: no such file: "));
 }
 
+/// A listing that did not get out whole is a failure.
+#[test]
+fn list_to_a_full_disk() {
+    let full = fs::OpenOptions::new().write(true).open("/dev/full");
+    let index = folder().join("real/v2-committed.index");
+    let mut list = program("list");
+    let output = list.arg(index).stdout(full.unwrap()).output().unwrap();
+    assert_eq!(output.status.code(), Some(1));
+    assert!(text(&output.stderr).starts_with("list: standard output: "));
+}
+
 // ---- put
 
 /// The index is then what the library makes of it; its permission bits are kept and the lock is gone.
