@@ -12,11 +12,16 @@
 //! # fn main() -> Result<(), Box<dyn std::error::Error>> {
 //! # let folder = std::env::temp_dir().join(format!("nerupazhil-tour-{}", std::process::id()));
 //! # std::fs::create_dir_all(&folder)?;
-//! # let path = folder.join("index");
+//! # let (path, lock_path) = (folder.join("index"), folder.join("index.lock"));
 //! # std::fs::write(&path, nerupazhil::EMPTY)?;
 //! use nerupazhil::{mode, Fields, Index};
+//! use std::fs::{self, File};
+//! use std::io::Write;
 //!
-//! let file = std::fs::read(&path)?;
+//! // Git's own lock, taken before the index is read: meanwhile no other program changes it.
+//! let mut lock = File::options().write(true).create_new(true).open(&lock_path)?;
+//!
+//! let file = fs::read(&path)?;
 //! let index = Index::read(&file)?;
 //! for entry in index.entries()? {
 //!     println!("{:o} {}", entry.fields.mode, String::from_utf8_lossy(entry.name));
@@ -25,18 +30,19 @@
 //! let fields = Fields { mode: mode::REGULAR, object: [0x11; 20], ..Fields::default() };
 //! let new = index.with(b"saw/cut.txt", &fields, index.summary().version_kept())?;
 //!
-//! // Never write over the index itself: a device that dies then has neither.
-//! let lock = folder.join("index.lock");
-//! std::fs::write(&lock, &new)?;
-//! std::fs::rename(&lock, &path)?;
-//! # assert_eq!(Index::read(&std::fs::read(&path)?)?.summary().entries, 1);
-//! # std::fs::remove_dir_all(&folder)?;
+//! // Never over the index itself: a device that dies then would have neither.
+//! lock.write_all(&new)?;
+//! lock.sync_all()?;
+//! fs::rename(&lock_path, &path)?;
+//! # assert_eq!(Index::read(&fs::read(&path)?)?.summary().entries, 1);
+//! # fs::remove_dir_all(&folder)?;
 //! # Ok(())
 //! # }
 //! ```
 //!
-//! `examples/save` saves with all that a loss of power asks for and keeps other Git programs out meanwhile;
-//! `examples/put.rs` is a program that uses it, `examples/list.rs` one that lists an index.
+//! A save has to see to more: to failures on the way, permission bits, links, and the folder on the disk.
+//! `examples/save` does, for programs to copy; `examples/put.rs` is one that uses it, `examples/list.rs` one that lists
+//! an index.
 //!
 //! # Buffers
 //!
@@ -47,8 +53,8 @@
 //!
 //! # What is proved
 //!
-//! The functions of the library are, [`mod@raw`] declares them. This crate is not: that it hands over the right
-//! buffers and shows the right parts is tested. Only [`calls`] has unsafe code. A reply that pointed outside of a
+//! The functions of the library, which [`mod@raw`] declares, are proved. This crate is not: that it hands over the
+//! right buffers and shows the right parts is tested. Only [`calls`] has unsafe code. A reply that pointed outside of a
 //! buffer would be a panic.
 //!
 //! No proof speaks of stack. 88 KiB were measured to be enough for a call, and [`Index`] has its workspace of 8 KiB
