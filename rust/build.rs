@@ -15,7 +15,10 @@ fn main() {
     println!("cargo:rustc-link-search=native={}", folder.display());
     println!("cargo:rustc-link-lib=static=nerupazhil");
     if !archive.is_file() {
-        eprintln!("{} is missing: run rt staticlib nerupazhil", archive.display());
+        eprintln!(
+            "{} is missing: run rt staticlib nerupazhil",
+            archive.display()
+        );
         exit(1);
     }
 }

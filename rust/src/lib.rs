@@ -1,3 +1,113 @@
 //! Git's index file, read, checked and written by a proved library.
+//!
+//! An index names every file of the next commit, so a damaged one that still opens as a shorter list records the
+//! missing files as deleted. Here each call first checks the whole file, and answers what stands in it or refuses it
+//! with a number and a place. Versions 2, 3 and 4 with SHA-1 names are taken, up to 16 MiB.
+//!
+//! # A tour
+//!
+//! [`Index`] checks a file, lists its entries and makes new files:
+//!
+//! ```
+//! # fn main() -> Result<(), Box<dyn std::error::Error>> {
+//! # let folder = std::env::temp_dir().join(format!("nerupazhil-tour-{}", std::process::id()));
+//! # std::fs::create_dir_all(&folder)?;
+//! # let (path, lock_path) = (folder.join("index"), folder.join("index.lock"));
+//! # std::fs::write(&path, nerupazhil::EMPTY)?;
+//! use nerupazhil::{mode, Fields, Index};
+//! use std::fs::{self, File};
+//! use std::io::Write;
+//!
+//! // Git's own lock, taken before the index is read: meanwhile no other program changes it.
+//! let mut lock = File::options().write(true).create_new(true).open(&lock_path)?;
+//!
+//! let file = fs::read(&path)?;
+//! let index = Index::read(&file)?;
+//! for entry in index.entries()? {
+//!     println!("{:o} {}", entry.fields.mode, String::from_utf8_lossy(entry.name));
+//! }
+//!
+//! let fields = Fields { mode: mode::REGULAR, object: [0x11; 20], ..Fields::default() };
+//! let new = index.with(b"saw/cut.txt", &fields, index.summary().version_kept())?;
+//!
+//! // Never over the index itself: a device that dies then would have neither.
+//! lock.write_all(&new)?;
+//! lock.sync_all()?;
+//! fs::rename(&lock_path, &path)?;
+//! # assert_eq!(Index::read(&fs::read(&path)?)?.summary().entries, 1);
+//! # fs::remove_dir_all(&folder)?;
+//! # Ok(())
+//! # }
+//! ```
+//!
+//! A save has to see to more: to failures on the way, permission bits, links, and the folder on the disk.
+//! `examples/save` does, for programs to copy; `examples/put.rs` is one that uses it, `examples/list.rs` one that lists
+//! an index.
+//!
+//! # Buffers
+//!
+//! [`check`], [`entry`], [`tree_node`], [`undo_record`], [`walk()`], [`rewrite`], [`put`] and [`remove`] allocate
+//! nothing: the caller lends the file, a workspace of at least [`WORKSPACE`] bytes and, to write, an output. Names are
+//! bytes, and parts of these buffers. What stands in the workspace before a call is of no importance; after it, the
+//! first [`WORKSPACE`] bytes are zero but for the name of a version 4 entry, and bytes past these are never touched.
+//!
+//! # What is proved
+//!
+//! The functions of the library, which [`mod@raw`] declares, are proved. This crate is not: that it hands over the
+//! right buffers and shows the right parts is tested. Only [`calls`] has unsafe code. A reply that pointed outside of a
+//! buffer would be a panic.
+//!
+//! No proof speaks of stack. 88 KiB were measured to be enough for a call, and [`Index`] has its workspace of 8 KiB
+//! there too: a thread with 128 KiB is on the safe side.
+//!
+//! # Building
+//!
+//! For Linux on x86-64. The build links `libnerupazhil.a` from the folder that the variable `NERUPAZHIL_STATICLIB`
+//! names, or else from `target/staticlib` of the repository, where `rt staticlib nerupazhil` writes it.
 
+#![deny(missing_docs)]
+#![deny(unsafe_code)]
+#![warn(missing_debug_implementations, unreachable_pub, rust_2018_idioms)]
+
+pub mod calls;
 pub mod raw;
+
+mod index;
+mod read;
+mod records;
+mod refusal;
+mod walk;
+mod write;
+
+pub use index::Index;
+pub use raw::{Fields, Stage, DIGEST, WORKSPACE};
+pub use read::{check, entry, tree_node, undo_record};
+pub use records::{mode, Entry, ObjectName, Summary, Tree, TreeNode, UndoRecord, Version};
+pub use refusal::{Reason, Refusal};
+pub use walk::{walk, Walk};
+pub use write::{put, remove, rewrite};
+
+/// The most bytes that a file may have.
+pub const MAX_FILE: usize = 16_777_216;
+
+/// The index without entries, of version 2: a new one begins with it.
+///
+/// ```
+/// use nerupazhil::{sha1, EMPTY};
+///
+/// assert_eq!(EMPTY[12..], sha1(&EMPTY[..12]));
+/// ```
+pub const EMPTY: [u8; 32] = *b"DIRC\0\0\0\x02\0\0\0\0\
+    \x39\xd8\x90\x13\x9e\xe5\x35\x6c\x7e\xf5\x72\x21\x6c\xeb\xcd\x27\xaa\x41\xf9\xdf";
+
+/// The SHA-1 of bytes, by which Git names objects.
+///
+/// ```
+/// use nerupazhil::sha1;
+///
+/// // The name of the empty file's object.
+/// assert_eq!(sha1(b"blob 0\0")[..4], [0xe6, 0x9d, 0xe2, 0x9b]);
+/// ```
+pub fn sha1(bytes: &[u8]) -> ObjectName {
+    calls::sha1(bytes)
+}

@@ -12,14 +12,23 @@ pub const WORKSPACE: usize = 8192;
 #[repr(C)]
 #[derive(Clone, Copy, Debug, Default, PartialEq, Eq)]
 pub struct CheckReply {
+    /// 0, or the number of the refusal.
     pub refusal: u32,
+    /// 2, 3 or 4.
     pub version: u32,
+    /// The place of the refusal.
     pub place: usize,
+    /// The byte where the entries end.
     pub end: usize,
+    /// How many entries there are.
     pub entries: u32,
+    /// How many nodes the cache tree has.
     pub nodes: u32,
+    /// How many resolve-undo records there are.
     pub records: u32,
+    /// Whether the file has a cache tree.
     pub has_tree: bool,
+    /// Whether the file has the extension of resolve undo.
     pub has_undo: bool,
 }
 
@@ -27,29 +36,47 @@ pub struct CheckReply {
 #[repr(C)]
 #[derive(Clone, Copy, Debug, Default, PartialEq, Eq)]
 pub struct Name {
+    /// 1 for the file, 2 for the workspace, 0 for none.
     pub buffer: u32,
+    /// Where it begins there.
     pub offset: usize,
+    /// How many bytes it has.
     pub length: usize,
 }
 
-/// The fields of an entry but its name.
+/// The fields of an entry but its name. The mode and the stage are checked; the other numbers take any value.
 #[repr(C)]
 #[derive(Clone, Copy, Debug, Default, PartialEq, Eq)]
 pub struct Fields {
+    /// When the metadata of the file in the worktree last changed: seconds.
     pub ctime_seconds: u32,
+    /// The nanoseconds of that.
     pub ctime_nanoseconds: u32,
+    /// When the file in the worktree last changed: seconds.
     pub mtime_seconds: u32,
+    /// The nanoseconds of that.
     pub mtime_nanoseconds: u32,
+    /// The number of the device.
     pub dev: u32,
+    /// The number of the inode.
     pub ino: u32,
+    /// 0o100644, 0o100755, 0o120000 or 0o160000.
     pub mode: u32,
+    /// The number of the user.
     pub uid: u32,
+    /// The number of the group.
     pub gid: u32,
+    /// The number of bytes of the file in the worktree, modulo 2^32.
     pub size: u32,
+    /// The name of the object.
     pub object: [u8; DIGEST],
+    /// Whether Git is to take the file in the worktree for unchanged.
     pub assume_valid: bool,
+    /// 0, or 1 to 3 of a merge that is not resolved.
     pub stage: u32,
+    /// Whether the file is left out of the worktree.
     pub skip_worktree: bool,
+    /// Whether the file will be added later.
     pub intent_to_add: bool,
 }
 
@@ -57,9 +84,13 @@ pub struct Fields {
 #[repr(C)]
 #[derive(Clone, Copy, Debug, Default, PartialEq, Eq)]
 pub struct EntryReply {
+    /// 0, or the number of the refusal.
     pub refusal: u32,
+    /// The place of the refusal.
     pub place: usize,
+    /// Where the name stands.
     pub name: Name,
+    /// The other fields.
     pub fields: Fields,
 }
 
@@ -67,13 +98,21 @@ pub struct EntryReply {
 #[repr(C)]
 #[derive(Clone, Copy, Debug, Default, PartialEq, Eq)]
 pub struct NodeReply {
+    /// 0, or the number of the refusal.
     pub refusal: u32,
+    /// The place of the refusal.
     pub place: usize,
+    /// Where the name stands.
     pub name: Name,
+    /// The level, 1 of the root.
     pub level: u32,
+    /// How many entries the directory has.
     pub count: u32,
+    /// How many subtrees the node has.
     pub subtrees: u32,
+    /// Whether the count and the object name are known.
     pub valid: bool,
+    /// The name of the tree object.
     pub object: [u8; DIGEST],
 }
 
@@ -81,7 +120,9 @@ pub struct NodeReply {
 #[repr(C)]
 #[derive(Clone, Copy, Debug, Default, PartialEq, Eq)]
 pub struct Stage {
+    /// The mode.
     pub mode: u32,
+    /// The name of the object.
     pub object: [u8; DIGEST],
 }
 
@@ -89,11 +130,17 @@ pub struct Stage {
 #[repr(C)]
 #[derive(Clone, Copy, Debug, Default, PartialEq, Eq)]
 pub struct UndoReply {
+    /// 0, or the number of the refusal.
     pub refusal: u32,
+    /// The place of the refusal.
     pub place: usize,
+    /// Where the path stands.
     pub path: Name,
+    /// Stage 1.
     pub first: Stage,
+    /// Stage 2.
     pub second: Stage,
+    /// Stage 3.
     pub third: Stage,
 }
 
@@ -101,8 +148,11 @@ pub struct UndoReply {
 #[repr(C)]
 #[derive(Clone, Copy, Debug, Default, PartialEq, Eq)]
 pub struct WriteReply {
+    /// 0, or the number of the refusal.
     pub refusal: u32,
+    /// The place of the refusal.
     pub place: usize,
+    /// How many bytes were written.
     pub length: usize,
 }
 
@@ -110,9 +160,13 @@ pub struct WriteReply {
 #[repr(C)]
 #[derive(Clone, Copy, Debug, Default, PartialEq, Eq)]
 pub struct StartReply {
+    /// 0, or the number of the refusal.
     pub refusal: u32,
+    /// The place of the refusal.
     pub place: usize,
+    /// The place of the first entry.
     pub at: usize,
+    /// How many entries there are.
     pub left: u32,
 }
 
@@ -120,11 +174,17 @@ pub struct StartReply {
 #[repr(C)]
 #[derive(Clone, Copy, Debug, Default, PartialEq, Eq)]
 pub struct StepReply {
+    /// 0, or the number of the refusal.
     pub refusal: u32,
+    /// The place of the refusal.
     pub place: usize,
+    /// Where the name stands.
     pub name: Name,
+    /// The other fields.
     pub fields: Fields,
+    /// The place after the entry.
     pub at: usize,
+    /// How many entries remain there.
     pub left: u32,
 }
 

@@ -1,0 +1,127 @@
+//! What the calls show and take.
+
+use crate::raw::{CheckReply, Fields, Stage, DIGEST};
+
+/// The name of an object: its SHA-1.
+pub type ObjectName = [u8; DIGEST];
+
+/// The modes that an entry may have.
+pub mod mode {
+    /// A regular file, 100644.
+    pub const REGULAR: u32 = 0o100644;
+    /// A regular file that can be executed, 100755.
+    pub const EXECUTABLE: u32 = 0o100755;
+    /// A symbolic link, 120000.
+    pub const SYMLINK: u32 = 0o120000;
+    /// A commit of another repository, 160000.
+    pub const GITLINK: u32 = 0o160000;
+}
+
+/// The version in which a file is to be written.
+#[derive(Clone, Copy, Debug, Default, PartialEq, Eq, Hash)]
+pub enum Version {
+    /// 2 where no entry needs the extended word (for skip-worktree or intent-to-add), else 3.
+    #[default]
+    Lowest,
+    /// 2, refused where an entry needs the extended word.
+    V2,
+    /// 3.
+    V3,
+    /// 4, which shortens names.
+    V4,
+}
+
+impl Version {
+    /// The number by which the library is asked.
+    pub(crate) const fn asked(self) -> u32 {
+        match self {
+            Self::Lowest => 0,
+            Self::V2 => 2,
+            Self::V3 => 3,
+            Self::V4 => 4,
+        }
+    }
+}
+
+/// What check answers of an accepted file.
+#[derive(Clone, Copy, Debug, PartialEq, Eq, Hash)]
+pub struct Summary {
+    /// The file's version: 2, 3 or 4.
+    pub version: u32,
+    /// How many entries it has.
+    pub entries: u32,
+    /// The byte where its entries end.
+    pub end: usize,
+    /// How many nodes its cache tree has, where it has one.
+    pub nodes: Option<u32>,
+    /// How many resolve-undo records it has, where it has their extension.
+    pub records: Option<u32>,
+}
+
+impl Summary {
+    /// The version that Git would write after an edit: 4 stays 4, else the lowest.
+    ///
+    /// ```
+    /// use nerupazhil::{check, Version, EMPTY, WORKSPACE};
+    ///
+    /// let summary = check(&EMPTY, &mut [0; WORKSPACE])?;
+    /// assert_eq!(summary.version_kept(), Version::Lowest);
+    /// # Ok::<(), nerupazhil::Refusal>(())
+    /// ```
+    pub const fn version_kept(&self) -> Version {
+        match self.version {
+            4 => Version::V4,
+            _ => Version::Lowest,
+        }
+    }
+
+    pub(crate) fn of(reply: &CheckReply) -> Self {
+        Self {
+            version: reply.version,
+            entries: reply.entries,
+            end: reply.end,
+            nodes: reply.has_tree.then_some(reply.nodes),
+            records: reply.has_undo.then_some(reply.records),
+        }
+    }
+}
+
+/// An entry. Its name is a part of the buffer in which it was read.
+#[derive(Clone, Copy, Debug, PartialEq, Eq)]
+pub struct Entry<'a> {
+    /// The path of the file, relative to the worktree, with `/` between components.
+    pub name: &'a [u8],
+    /// All but the name.
+    pub fields: Fields,
+}
+
+/// A node of the cache tree: what Git knows of the tree object of a directory.
+#[derive(Clone, Copy, Debug, PartialEq, Eq, Hash)]
+pub struct TreeNode<'a> {
+    /// The last component of the directory's path, empty for the root. It is a part of the file.
+    pub name: &'a [u8],
+    /// The level, 1 for the root. Nodes are listed top-down and depth first.
+    pub level: u32,
+    /// How many subtrees the node has.
+    pub subtrees: u32,
+    /// The tree object, or `None` where the node is invalid: an entry below it has changed since.
+    pub tree: Option<Tree>,
+}
+
+/// The tree object of a valid node.
+#[derive(Clone, Copy, Debug, PartialEq, Eq, Hash)]
+pub struct Tree {
+    /// How many entries the directory has, with those of its subdirectories.
+    pub entries: u32,
+    /// The name of the tree object.
+    pub object: ObjectName,
+}
+
+/// What a path was before its conflict was resolved.
+#[derive(Clone, Copy, Debug, PartialEq, Eq)]
+pub struct UndoRecord<'a> {
+    /// The path. It is a part of the file.
+    pub path: &'a [u8],
+    /// Stages 1, 2 and 3, as far as they were there.
+    pub stages: [Option<Stage>; 3],
+}

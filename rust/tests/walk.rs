@@ -1,0 +1,70 @@
+//! A walk as an iterator.
+
+mod common;
+
+use std::iter::FusedIterator;
+
+use common::{number, stored};
+use nerupazhil::{walk, Walk, EMPTY, WORKSPACE};
+
+fn start(file: &[u8]) -> Walk<'_> {
+    walk(file, &mut [0; WORKSPACE]).unwrap()
+}
+
+#[test]
+fn the_size_is_exact_at_each_step() {
+    let file = stored("real/v2-committed");
+    let mut walk = start(&file);
+    for left in (0..20).rev() {
+        assert!(walk.next().is_some());
+        assert_eq!((walk.len(), walk.size_hint()), (left, (left, Some(left))));
+    }
+    assert!(walk.next().is_none());
+    assert_eq!(walk.len(), 0);
+}
+
+#[test]
+fn the_end_stays_the_end() {
+    fn fused(walk: impl FusedIterator + ExactSizeIterator) -> usize {
+        walk.len()
+    }
+    let mut walk = start(&EMPTY);
+    assert!((0..3).all(|_| walk.next().is_none()));
+    assert_eq!(fused(walk), 0);
+}
+
+/// A clone goes on from the same entry, by itself.
+#[test]
+fn a_clone_goes_its_own_way() {
+    let file = stored("real/v2-extended");
+    let mut walk = start(&file);
+    let first = walk.next();
+    let rest: Vec<_> = walk.clone().collect();
+    assert!(start(&file).skip(1).eq(rest.iter().copied()));
+    assert_eq!(start(&file).next(), first);
+    assert_eq!(walk.count(), rest.len());
+}
+
+/// The workspace is free again, and names outlive the walk.
+#[test]
+fn names_last_as_long_as_the_file() {
+    let file = stored("real/v2-committed");
+    let names: Vec<&[u8]> = start(&file).map(|entry| entry.name).collect();
+    assert_eq!(names[..3], [&b"a-b"[..], b"a.b", b"a/b"]);
+    assert!(names.windows(2).all(|pair| pair[0] < pair[1]));
+}
+
+#[test]
+fn version_4_is_refused() {
+    let file = stored("real/v4-committed");
+    assert_eq!(number(walk(&file, &mut [0; WORKSPACE])), 4);
+}
+
+/// What is shown of a walk is short, however long the file.
+#[test]
+fn debug_does_not_show_the_file() {
+    assert_eq!(
+        format!("{:?}", start(&EMPTY)),
+        "Walk { at: 12, left: 0, .. }"
+    );
+}
