@@ -54,7 +54,7 @@ pub fn entry(file: &[u8], work: &mut [u8], k: u32) -> EntryReply {
 
 /// Node `k` of the cache tree.
 pub fn tree_node(file: &[u8], work: &mut [u8], k: u32) -> NodeReply {
-    let shown = open(file, work).and_then(|contents| show_node(file, &contents, k));
+    let shown = open(file, work).and_then(|contents| show_node(&contents, k));
     shown.unwrap_or_else(|Refusal { number, place }| NodeReply {
         refusal: number,
         place,
@@ -198,16 +198,16 @@ fn show_entry(entries: &Entries, work: &mut [u8], k: u32) -> Result<EntryReply, 
     })
 }
 
-fn show_node(file: &[u8], contents: &Contents, k: u32) -> Result<NodeReply, Refusal> {
+fn show_node(contents: &Contents, k: u32) -> Result<NodeReply, Refusal> {
     let tree = contents.tree.as_ref().ok_or(Refusal::absent())?;
     let node = tree.nodes.get(k as usize).ok_or(Refusal::absent())?;
     Ok(NodeReply {
         name: in_file(node.place, node.length),
         level: node.level as u32,
         count: node.count.unwrap_or(0),
-        subtrees: node.subtrees,
+        subtrees: node.subtrees.len() as u32,
         valid: node.count.is_some(),
-        object: node.object(file),
+        object: tree.object(node),
         ..NodeReply::default()
     })
 }

@@ -140,7 +140,7 @@ impl Writer {
         self.all_entries(contents, change)?;
         self.bytes[HEADER - 4..HEADER].copy_from_slice(&self.entries.to_be_bytes());
         if let Some(tree) = &contents.tree {
-            self.extension(b"TREE", &nodes(contents.file, tree));
+            self.extension(b"TREE", &nodes(tree));
         }
         if let Some(undo) = &contents.undo {
             // The records have no other spelling than that of the file.
@@ -243,14 +243,14 @@ impl Writer {
 }
 
 /// The data of TREE.
-fn nodes(file: &[u8], tree: &Tree) -> Vec<u8> {
+fn nodes(tree: &Tree) -> Vec<u8> {
     let mut data = Vec::new();
-    for node in &tree.nodes {
-        data.extend_from_slice(&file[node.place..node.place + node.length]);
+    for (i, node) in tree.nodes.iter().enumerate() {
+        data.extend_from_slice(tree.name(i));
         let count = node.count.map_or(-1, i64::from);
-        data.extend(format!("\0{count} {}\n", node.subtrees).bytes());
+        data.extend(format!("\0{count} {}\n", node.subtrees.len()).bytes());
         if node.count.is_some() {
-            data.extend(node.object(file));
+            data.extend(tree.object(node));
         }
     }
     data
