@@ -110,7 +110,7 @@ pub fn remove(
 /// Whether a walk can go over the file, and where it starts.
 pub fn walk_start(file: &[u8], work: &mut [u8]) -> StartReply {
     let started = open(file, work).and_then(|contents| match contents.entries.version {
-        4 => Err(Refusal::of_request(refusal::VERSION)),
+        4 => Err(Refusal::whole(refusal::VERSION)),
         _ => Ok(contents.entries.items.len() as u32),
     });
     match started {
@@ -152,7 +152,7 @@ pub fn walk_next(file: &[u8], at: usize, left: u32) -> StepReply {
 fn open<'a>(file: &'a [u8], work: &mut [u8]) -> Result<Contents<'a>, Refusal> {
     let start = work
         .get_mut(..WORKSPACE)
-        .ok_or(Refusal::of_request(refusal::WORKSPACE_SMALL))?;
+        .ok_or(Refusal::whole(refusal::WORKSPACE_SMALL))?;
     start.fill(0);
     whole::read(file)
 }
