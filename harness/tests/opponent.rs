@@ -9,6 +9,7 @@ use harness::opponent;
 use harness::plain::sha1;
 use nerupazhil::raw::{CheckReply, Fields, Name, DIGEST, WORKSPACE};
 
+mod cases;
 mod comparison;
 
 const VECTORS: &str = concat!(env!("CARGO_MANIFEST_DIR"), "/../tests/vectors");
@@ -170,6 +171,17 @@ fn stored_files_are_listed_as_stored() {
         let file = fs::read(format!("{VECTORS}/{name}.index")).unwrap();
         let expected = fs::read_to_string(format!("{VECTORS}/{name}.list")).unwrap();
         assert_eq!(listing(&file), expected, "{name}");
+    }
+}
+
+#[test]
+fn single_rules_are_kept() {
+    for (file, answer) in cases::all() {
+        let given = check(&file);
+        assert!(
+            given.starts_with(&answer),
+            "{given}, not {answer}: {file:02x?}"
+        );
     }
 }
 

@@ -7,7 +7,7 @@ use harness::index_file::{letters, node, File, LARGEST, OBJECT};
 use harness::{ffi, opponent};
 use nerupazhil::raw::{Fields, DIGEST, WORKSPACE};
 
-use super::{extend, index, put, regular, seal, workspace, VECTORS};
+use super::{cases, extend, index, put, regular, seal, workspace, VECTORS};
 
 /// Makes the same call of both libraries. `work` and `out` are what is lent, an output of so many bytes.
 macro_rules! both {
@@ -173,6 +173,13 @@ fn stored_files() {
     for row in table.lines() {
         let (name, _) = row.split_once('\t').unwrap();
         all_calls(&fs::read(format!("{VECTORS}/{name}")).unwrap());
+    }
+}
+
+#[test]
+fn files_for_single_rules() {
+    for (file, _) in cases::all() {
+        all_calls(&file);
     }
 }
 
