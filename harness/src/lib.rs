@@ -9,3 +9,4 @@ pub mod index_file;
 pub mod lent;
 pub mod plain;
 pub mod random;
+pub mod vectors;
