@@ -135,6 +135,10 @@ impl Lent {
         }
     }
 
+    pub fn what(&self) -> &'static str {
+        self.what
+    }
+
     /// Lends a copy of the content, which can only be read.
     pub fn read_only(&mut self, content: &[u8], edge: Edge) {
         self.lend(content.len(), edge);

@@ -6,6 +6,7 @@
 pub mod ffi;
 pub mod hostile;
 pub mod index_file;
+pub mod inputs;
 pub mod lent;
 pub mod plain;
 pub mod random;

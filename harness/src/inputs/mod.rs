@@ -1,0 +1,291 @@
+//! Inputs to compare programs on: index files, sound and damaged, and bytes that are none. Input number i of a seed is
+//! always the same.
+
+mod damage;
+mod layout;
+pub mod names;
+mod records;
+pub mod requests;
+
+use crate::index_file::{letters, LARGEST};
+use crate::random::Random;
+use layout::{signed, Layout};
+use records::{Extension, Records, Undo, LEVELS, MODES};
+
+#[derive(Clone, Copy, Debug, PartialEq, Eq, PartialOrd, Ord)]
+pub enum Kind {
+    Few,
+    Some,
+    Hundreds,
+    LongNames,
+    Deep,
+    BadName,
+    Field,
+    Fields,
+    Bytes,
+    Cut,
+    Noise,
+    HeaderAndNoise,
+    Limit,
+}
+
+/// Which kinds follow each other, so that each run has its share of each.
+const TURN: [(Kind, usize); 12] = [
+    (Kind::Few, 12),
+    (Kind::Some, 5),
+    (Kind::Hundreds, 1),
+    (Kind::LongNames, 2),
+    (Kind::Deep, 2),
+    (Kind::BadName, 4),
+    (Kind::Field, 17),
+    (Kind::Fields, 3),
+    (Kind::Bytes, 7),
+    (Kind::Cut, 8),
+    (Kind::Noise, 1),
+    (Kind::HeaderAndNoise, 2),
+];
+/// How many inputs have each kind in its share.
+const TURN_LENGTH: u64 = 64;
+/// One input of so many is at a limit of the sizes.
+const LIMIT_TURN: u64 = 4096;
+/// Small files of at most so many bytes are cut at every length, with and without a corrected checksum.
+const CUTS: u64 = 256;
+
+pub struct Input {
+    pub kind: Kind,
+    pub bytes: Vec<u8>,
+    /// Whether it must be accepted.
+    pub sound: bool,
+    /// Names of its entries, as far as they are known.
+    pub names: Vec<Vec<u8>>,
+    /// How many bytes are ample for what is written from it.
+    pub room: usize,
+}
+
+/// The input of a seed and number.
+pub fn input(seed: u64, number: u64) -> Input {
+    let random = &mut Random::of(seed, number);
+    let (kind, nth) = kind(number);
+    match kind {
+        Kind::Few | Kind::Some | Kind::Hundreds | Kind::LongNames | Kind::Deep => {
+            sound(kind, &drawn(random, kind))
+        }
+        Kind::BadName => bad_name(random),
+        Kind::Field | Kind::Fields => fields(random, kind),
+        Kind::Bytes => bytes(random),
+        Kind::Cut => cut(random, seed, nth),
+        Kind::Noise | Kind::HeaderAndNoise => noise(random, kind),
+        Kind::Limit => limit(random, nth),
+    }
+}
+
+/// The kind of a number, and the how-manieth of its kind it is.
+fn kind(number: u64) -> (Kind, u64) {
+    if number % LIMIT_TURN == LIMIT_TURN - 1 {
+        return (Kind::Limit, number / LIMIT_TURN);
+    }
+    let (turn, mut place) = (number / TURN_LENGTH, number * 37 % TURN_LENGTH);
+    for (kind, share) in TURN {
+        if place < share as u64 {
+            return (kind, turn * share as u64 + place);
+        }
+        place -= share as u64;
+    }
+    unreachable!("the shares make up a turn")
+}
+
+// ---- sound files
+
+fn drawn(random: &mut Random, kind: Kind) -> Records {
+    let version = 2 + random.below(3) as u32;
+    let count = match kind {
+        Kind::Few => random.below(7),
+        Kind::Some => random.below(40),
+        Kind::Hundreds => 100 + random.below(250),
+        _ => 1 + random.below(6),
+    };
+    let depth = 1 + random.below(4);
+    let name = |k| match kind {
+        Kind::LongNames if k % 2 == 0 => names::long(random),
+        Kind::Deep => deep_name(random),
+        _ => names::sound(random, depth),
+    };
+    let names = (0..count).map(name).collect();
+    let entries = records::entries(random, version, names);
+    records::records(random, version, entries, LEVELS)
+}
+
+/// A name some levels down, often around the last level.
+fn deep_name(random: &mut Random) -> Vec<u8> {
+    let levels = match random.one_in(2) {
+        true => random.below(LEVELS),
+        false => LEVELS - 4 + random.below(8),
+    };
+    let directory = *random.pick(&[b"d/", b"e/"]);
+    [directory.repeat(levels), names::component(random)].concat()
+}
+
+fn sound(kind: Kind, records: &Records) -> Input {
+    let body = Layout::new(records).body();
+    input_of(kind, records, signed(body, true), true)
+}
+
+fn input_of(kind: Kind, records: &Records, bytes: Vec<u8>, sound: bool) -> Input {
+    let names: Vec<Vec<u8>> = records.entries.iter().map(|e| e.name.clone()).collect();
+    let spelled: usize = names.iter().map(|name| name.len() + 80).sum();
+    let room = bytes.len() + spelled + names::LONGEST + 200;
+    Input {
+        kind,
+        bytes,
+        sound,
+        names,
+        room,
+    }
+}
+
+// ---- damaged files
+
+/// Mostly a small file, and one in so many that has the rarer parts.
+fn victim(random: &mut Random) -> Records {
+    let kind = match random.below(16) {
+        0 => Kind::Some,
+        1 => Kind::LongNames,
+        2 => Kind::Deep,
+        _ => Kind::Few,
+    };
+    drawn(random, kind)
+}
+
+fn right_checksum(random: &mut Random) -> bool {
+    !random.one_in(16)
+}
+
+/// An entry with a bad name, in its place among the others.
+fn bad_name(random: &mut Random) -> Input {
+    let mut records = victim(random);
+    let name = names::bad(random);
+    let entry = records::entry(random, records.version, name, 0);
+    let place = records.entries.partition_point(|e| e.name < entry.name);
+    records.entries.insert(place, entry);
+    let body = Layout::new(&records).body();
+    input_of(Kind::BadName, &records, signed(body, true), false)
+}
+
+/// One field with another value, or several.
+fn fields(random: &mut Random, kind: Kind) -> Input {
+    let records = victim(random);
+    let mut layout = Layout::new(&records);
+    let times = match kind {
+        Kind::Fields => 2 + random.below(3),
+        _ => 1,
+    };
+    for _ in 0..times {
+        damage::field(random, &mut layout);
+    }
+    let right = right_checksum(random);
+    input_of(kind, &records, signed(layout.body(), right), false)
+}
+
+/// Bytes changed anywhere: before the checksum is made, or seldom behind that.
+fn bytes(random: &mut Random) -> Input {
+    let records = victim(random);
+    let mut body = Layout::new(&records).body();
+    for _ in 0..1 + random.below(3) {
+        damage::bytes(random, &mut body);
+    }
+    let mut file = signed(body, true);
+    if random.one_in(12) {
+        damage::bytes(random, &mut file);
+    }
+    input_of(Kind::Bytes, &records, file, false)
+}
+
+/// The n-th cut: each small file has its turn to be cut at every length, as it is and with a corrected checksum. In
+/// place of a cut behind its end a longer file is cut somewhere.
+fn cut(random: &mut Random, seed: u64, nth: u64) -> Input {
+    let (turn, place) = (nth / (2 * CUTS), nth % (2 * CUTS));
+    let (length, corrected) = ((place / 2) as usize, place % 2 == 1);
+    let small = &mut Random::of(!seed, turn);
+    let mut records = drawn(small, Kind::Few);
+    records.entries.truncate(2);
+    let mut file = signed(Layout::new(&records).body(), true);
+    let mut length = length;
+    if length >= file.len() {
+        records = victim(random);
+        file = signed(Layout::new(&records).body(), true);
+        length = random.below(file.len());
+    }
+    file.truncate(length);
+    if corrected {
+        file = signed(file, true);
+    }
+    input_of(Kind::Cut, &records, file, false)
+}
+
+// ---- no files
+
+fn noise(random: &mut Random, kind: Kind) -> Input {
+    let length = random.below(300);
+    let mut bytes = random.bytes(length);
+    if kind == Kind::HeaderAndNoise {
+        let version = 2 + random.below(3) as u32;
+        let mut body = b"DIRC".to_vec();
+        body.extend(version.to_be_bytes());
+        body.extend((random.below(3) as u32).to_be_bytes());
+        body.extend(bytes);
+        bytes = signed(body, right_checksum(random));
+    }
+    Input {
+        kind,
+        room: bytes.len() + names::LONGEST + 200,
+        bytes,
+        sound: false,
+        names: Vec::new(),
+    }
+}
+
+// ---- limits
+
+/// Mostly a file that is too long; one in four of version 4 that has, in version 2, about as many bytes as a file may.
+fn limit(random: &mut Random, nth: u64) -> Input {
+    if nth % 4 == 1 {
+        return about_the_largest(random);
+    }
+    let more = 1 + random.below(3);
+    let mut bytes = vec![0; LARGEST + more];
+    bytes[..12].copy_from_slice(b"DIRC\0\0\0\x02\0\0\0\0");
+    Input {
+        kind: Kind::Limit,
+        bytes,
+        sound: false,
+        names: Vec::new(),
+        room: 1000,
+    }
+}
+
+fn about_the_largest(random: &mut Random) -> Input {
+    // An entry with the longest name takes 8,256 bytes in version 2, and all of these with the rest 16,777,216 where
+    // a path of resolve undo has 952 bytes.
+    const ENTRIES: usize = 2032;
+    const PATH: usize = 952;
+    let name = |k| [vec![b'p'; names::LONGEST - 4], letters(k, 4)].concat();
+    let mut entries = Vec::new();
+    for k in 0..ENTRIES {
+        let mut entry = records::entry(random, 2, name(k), 0);
+        entry.more = 0;
+        entries.push(entry);
+    }
+    let undo = Undo {
+        path: vec![b'u'; PATH - 1 + random.below(3)],
+        modes: [MODES[0], 0, 0],
+        objects: [random.array(); 3],
+    };
+    let records = Records {
+        version: 4,
+        entries,
+        extensions: vec![Extension::Undo(vec![undo])],
+    };
+    let mut input = sound(Kind::Limit, &records);
+    input.room = LARGEST + 9;
+    input
+}
