@@ -2,6 +2,7 @@
 //! always the same.
 
 mod damage;
+mod faults;
 mod layout;
 pub mod names;
 mod records;
@@ -17,9 +18,13 @@ pub enum Kind {
     Few,
     Some,
     Hundreds,
+    Wide,
     LongNames,
     Deep,
     BadName,
+    Order,
+    Tree,
+    Extension,
     Field,
     Fields,
     Bytes,
@@ -30,17 +35,21 @@ pub enum Kind {
 }
 
 /// Which kinds follow each other, so that each run has its share of each.
-const TURN: [(Kind, usize); 12] = [
-    (Kind::Few, 12),
-    (Kind::Some, 5),
+const TURN: [(Kind, usize); 16] = [
+    (Kind::Few, 10),
+    (Kind::Some, 4),
     (Kind::Hundreds, 1),
+    (Kind::Wide, 1),
     (Kind::LongNames, 2),
     (Kind::Deep, 2),
     (Kind::BadName, 4),
-    (Kind::Field, 17),
+    (Kind::Order, 4),
+    (Kind::Tree, 4),
+    (Kind::Extension, 2),
+    (Kind::Field, 12),
     (Kind::Fields, 3),
-    (Kind::Bytes, 7),
-    (Kind::Cut, 8),
+    (Kind::Bytes, 5),
+    (Kind::Cut, 7),
     (Kind::Noise, 1),
     (Kind::HeaderAndNoise, 2),
 ];
@@ -70,7 +79,10 @@ pub fn input(seed: u64, number: u64) -> Input {
         Kind::Few | Kind::Some | Kind::Hundreds | Kind::LongNames | Kind::Deep => {
             sound(kind, &drawn(random, kind))
         }
+        Kind::Wide => wide(random),
         Kind::BadName => bad_name(random),
+        Kind::Order | Kind::Tree => faulty(random, kind),
+        Kind::Extension => extension(random),
         Kind::Field | Kind::Fields => fields(random, kind),
         Kind::Bytes => bytes(random),
         Kind::Cut => cut(random, seed, nth),
@@ -115,6 +127,36 @@ fn drawn(random: &mut Random, kind: Kind) -> Records {
     records::records(random, version, entries, LEVELS)
 }
 
+/// Hundreds of directories in any order, some with thousands beside them that no entry is in. One in three has a fault.
+fn wide(random: &mut Random) -> Input {
+    let version = 2 + random.below(3) as u32;
+    let (count, width) = (50 + random.below(400), 1 + random.below(5));
+    let name = |_| {
+        let directory = letters(random.below(26usize.pow(width as u32)), width);
+        [&directory[..], b"/", &names::component(random)].concat()
+    };
+    let names = (0..count).map(name).collect();
+    let entries = records::entries(random, version, names);
+    let mut nodes = records::tree(random, &entries, LEVELS);
+    if random.one_in(4) {
+        let count = 1 + random.below(5000);
+        records::crowd(random, &mut nodes, count);
+    }
+    let fault = random.one_in(3);
+    if fault {
+        faults::nodes(random, &mut nodes);
+    }
+    let records = Records {
+        version,
+        entries,
+        extensions: vec![Extension::Tree(nodes)],
+    };
+    Input {
+        sound: !fault,
+        ..laid_out(Kind::Wide, &records)
+    }
+}
+
 /// A name some levels down, often around the last level.
 fn deep_name(random: &mut Random) -> Vec<u8> {
     let levels = match random.one_in(2) {
@@ -126,18 +168,25 @@ fn deep_name(random: &mut Random) -> Vec<u8> {
 }
 
 fn sound(kind: Kind, records: &Records) -> Input {
-    let body = Layout::new(records).body();
-    input_of(kind, records, signed(body, true), true)
+    Input {
+        sound: true,
+        ..laid_out(kind, records)
+    }
 }
 
-fn input_of(kind: Kind, records: &Records, bytes: Vec<u8>, sound: bool) -> Input {
+/// The records' file, whether it is sound or not.
+fn laid_out(kind: Kind, records: &Records) -> Input {
+    input_of(kind, records, signed(Layout::new(records).body(), true))
+}
+
+fn input_of(kind: Kind, records: &Records, bytes: Vec<u8>) -> Input {
     let names: Vec<Vec<u8>> = records.entries.iter().map(|e| e.name.clone()).collect();
     let spelled: usize = names.iter().map(|name| name.len() + 80).sum();
     let room = bytes.len() + spelled + names::LONGEST + 200;
     Input {
         kind,
         bytes,
-        sound,
+        sound: false,
         names,
         room,
     }
@@ -167,8 +216,25 @@ fn bad_name(random: &mut Random) -> Input {
     let entry = records::entry(random, records.version, name, 0);
     let place = records.entries.partition_point(|e| e.name < entry.name);
     records.entries.insert(place, entry);
-    let body = Layout::new(&records).body();
-    input_of(Kind::BadName, &records, signed(body, true), false)
+    laid_out(Kind::BadName, &records)
+}
+
+/// Entries out of order, or a tree with a fault.
+fn faulty(random: &mut Random, kind: Kind) -> Input {
+    let mut records = victim(random);
+    match kind {
+        Kind::Order => faults::order(random, &mut records),
+        _ => faults::tree(random, &mut records),
+    }
+    laid_out(kind, &records)
+}
+
+/// One more extension at the end.
+fn extension(random: &mut Random) -> Input {
+    let records = victim(random);
+    let layout = Layout::new(&records);
+    let body = [layout.body(), damage::extension(random, &layout)].concat();
+    input_of(Kind::Extension, &records, signed(body, true))
 }
 
 /// One field with another value, or several.
@@ -183,7 +249,7 @@ fn fields(random: &mut Random, kind: Kind) -> Input {
         damage::field(random, &mut layout);
     }
     let right = right_checksum(random);
-    input_of(kind, &records, signed(layout.body(), right), false)
+    input_of(kind, &records, signed(layout.body(), right))
 }
 
 /// Bytes changed anywhere: before the checksum is made, or seldom behind that.
@@ -197,7 +263,7 @@ fn bytes(random: &mut Random) -> Input {
     if random.one_in(12) {
         damage::bytes(random, &mut file);
     }
-    input_of(Kind::Bytes, &records, file, false)
+    input_of(Kind::Bytes, &records, file)
 }
 
 /// The n-th cut: each small file has its turn to be cut at every length, as it is and with a corrected checksum. In
@@ -219,7 +285,7 @@ fn cut(random: &mut Random, seed: u64, nth: u64) -> Input {
     if corrected {
         file = signed(file, true);
     }
-    input_of(Kind::Cut, &records, file, false)
+    input_of(Kind::Cut, &records, file)
 }
 
 // ---- no files

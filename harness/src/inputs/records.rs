@@ -225,6 +225,28 @@ fn arrange(random: &mut Random, order: Order, lists: &mut [Vec<Node>]) {
     }
 }
 
+/// Adds directories that no entry is in to an invalid root, at the start or at the end, rising or not.
+pub fn crowd(random: &mut Random, nodes: &mut Vec<Node>, count: usize) {
+    let mut added: Vec<Node> = (0..count).map(|k| one_of_a_crowd(random, k)).collect();
+    if random.one_in(2) {
+        random.shuffle(&mut added);
+    }
+    nodes[0].count = -1;
+    nodes[0].subtrees += count;
+    let place = *random.pick(&[1, nodes.len()]);
+    nodes.splice(place..place, added);
+}
+
+fn one_of_a_crowd(random: &mut Random, k: usize) -> Node {
+    let digit = |shift: usize| 0x80 + (k >> shift) as u8 % 64;
+    Node {
+        name: vec![digit(12), digit(6), digit(0)],
+        count: *random.pick(&[-1, 0]),
+        subtrees: 0,
+        object: random.array(),
+    }
+}
+
 // ---- resolve undo and all together
 
 fn undo(random: &mut Random) -> Vec<Undo> {
