@@ -8,6 +8,7 @@ pub mod hostile;
 pub mod index_file;
 pub mod inputs;
 pub mod lent;
+pub mod opponent;
 pub mod plain;
 pub mod random;
 pub mod vectors;

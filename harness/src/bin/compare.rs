@@ -9,15 +9,14 @@
 
 #![deny(warnings)]
 
-use harness::ffi::{self as opponent};
 use harness::ffi::{self, CheckReply, EntryReply, NodeReply, StartReply, StepReply};
 use harness::ffi::{UndoReply, WriteReply, DIGEST, WORKSPACE};
 use harness::index_file::LARGEST;
 use harness::inputs::requests::{self, Call};
 use harness::inputs::{self, Input, Kind};
 use harness::lent::{Edge, Lent, Place};
-use harness::plain;
 use harness::random::Random;
+use harness::{opponent, plain};
 use std::collections::BTreeMap;
 use std::env;
 use std::fs;
