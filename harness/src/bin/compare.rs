@@ -4,7 +4,8 @@
 //!     compare [--heap] [SEED [COUNT [FIRST]]]
 //!
 //! takes COUNT inputs of a seed from number FIRST on: seed 1, 10,000 inputs and number 0 where they are not told. With
-//! --heap everything is lent from the heap in its exact size, for valgrind. The last line is 'N passed, M failed', and
+//! --heap everything is lent from the heap in its exact size, for valgrind. A call that touches a page without access
+//! ends the program by a signal; FIRST and COUNT then find the input. The last line is 'N passed, M failed', and
 //! the exit status is 0 only where M is 0.
 
 #![deny(warnings)]
@@ -19,55 +20,113 @@ use harness::random::Random;
 use harness::{opponent, plain};
 use std::collections::BTreeMap;
 use std::env;
+use std::fmt;
 use std::fs;
+use std::ops::Range;
+use std::panic::{catch_unwind, AssertUnwindSafe};
 use std::process::exit;
+use std::thread;
 use std::time::Instant;
 
 /// The highest number of a refusal.
 const REFUSALS: usize = 21;
 /// A run of so many inputs or more must meet every refusal.
 const COVERING: u64 = 10_000;
-/// How many failures are told in full.
+/// How many failures of a thread are told in full.
 const TOLD: u64 = 10;
 
 fn main() {
-    let mut words: Vec<String> = env::args().skip(1).collect();
-    let place = match words.first().map(String::as_str) {
-        Some("--heap") => Place::Heap,
-        _ => Place::Pages,
-    };
-    words.retain(|word| word != "--heap");
-    let numbers: Result<Vec<u64>, _> = words.iter().map(|word| word.parse()).collect();
-    let (seed, count, first) = match numbers.as_deref() {
-        Ok([]) => (1, COVERING, 0),
-        Ok([seed]) => (*seed, COVERING, 0),
-        Ok([seed, count]) => (*seed, *count, 0),
-        Ok([seed, count, first]) => (*seed, *count, *first),
-        _ => {
+    let run = match Run::new(&env::args().skip(1).collect::<Vec<_>>()) {
+        Some(run) => run,
+        None => {
             eprintln!("usage: compare [--heap] [SEED [COUNT [FIRST]]]");
             exit(2);
         }
     };
     let start = Instant::now();
-    let mut comparison = Comparison::new(place);
-    let mut failed = 0;
-    for number in first..first.saturating_add(count) {
-        if let Err(why) = comparison.input(seed, number) {
-            failed += 1;
-            tell(seed, number, failed, &why);
-        }
-    }
-    comparison.counts.print();
-    println!(
-        "{count} inputs of seed {seed} from {first} on in {:.1} s",
-        start.elapsed().as_secs_f64()
-    );
-    let missed = match count >= COVERING {
-        true => comparison.counts.missed(),
+    let counts = run.counts();
+    counts.print();
+    println!("{run} in {:.1} s", start.elapsed().as_secs_f64());
+    let missed = match run.count >= COVERING {
+        true => counts.missed(),
         false => 0,
     };
-    println!("{} passed, {} failed", count - failed, failed + missed);
-    exit(i32::from(failed + missed > 0));
+    let failed = counts.failed + missed;
+    println!("{} passed, {failed} failed", run.count - counts.failed);
+    exit(i32::from(failed > 0));
+}
+
+// ---- a run
+
+/// Which inputs are taken, and where everything is lent.
+struct Run {
+    place: Place,
+    seed: u64,
+    count: u64,
+    first: u64,
+}
+
+impl Run {
+    fn new(words: &[String]) -> Option<Self> {
+        let place = match words.first().is_some_and(|word| word == "--heap") {
+            true => Place::Heap,
+            false => Place::Pages,
+        };
+        let words = &words[usize::from(place == Place::Heap)..];
+        let numbers: Result<Vec<u64>, _> = words.iter().map(|word| word.parse()).collect();
+        let (seed, count, first) = match numbers.ok()?[..] {
+            [] => (1, COVERING, 0),
+            [seed] => (seed, COVERING, 0),
+            [seed, count] => (seed, count, 0),
+            [seed, count, first] => (seed, count, first),
+            _ => return None,
+        };
+        first.checked_add(count)?;
+        Some(Self {
+            place,
+            seed,
+            count,
+            first,
+        })
+    }
+
+    /// Takes all inputs, with a thread for each processor. On the heap there is one: valgrind runs no two at a time.
+    fn counts(&self) -> Counts {
+        let threads = match self.place {
+            Place::Heap => 1,
+            Place::Pages => thread::available_parallelism().map_or(1, |n| n.get() as u64),
+        };
+        let end = |share: u64| self.first + self.count * share / threads;
+        thread::scope(|scope| {
+            let share = |k| scope.spawn(move || self.share(end(k)..end(k + 1)));
+            let shares: Vec<_> = (0..threads).map(share).collect();
+            let mut counts = Counts::default();
+            for share in shares {
+                counts.add(share.join().expect("the counts of a share"));
+            }
+            counts
+        })
+    }
+
+    fn share(&self, numbers: Range<u64>) -> Counts {
+        let mut comparison = Comparison::new(self.place);
+        for number in numbers {
+            let compared = AssertUnwindSafe(|| comparison.input(self.seed, number));
+            let result = catch_unwind(compared);
+            if let Err(why) = result.unwrap_or(Err("a panic".to_string())) {
+                comparison.counts.failed += 1;
+                tell(self.seed, number, comparison.counts.failed, &why);
+            }
+        }
+        comparison.counts
+    }
+}
+
+impl fmt::Display for Run {
+    fn fmt(&self, f: &mut fmt::Formatter) -> fmt::Result {
+        let (seed, count, first) = (self.seed, self.count, self.first);
+        write!(f, "{count} inputs of seed {seed} from number {first} on")
+    }
 }
 
 /// Tells a failure and keeps its input.
@@ -296,6 +355,7 @@ fn same(ours: &Lent, theirs: &Lent) -> Result<(), String> {
 
 #[derive(Default)]
 struct Counts {
+    failed: u64,
     /// How many inputs of each kind there were, and how many of these were accepted.
     kinds: BTreeMap<Kind, (u64, u64)>,
     refusals: [u64; REFUSALS + 1],
@@ -306,6 +366,18 @@ impl Counts {
         let (inputs, sound) = self.kinds.entry(kind).or_default();
         *inputs += 1;
         *sound += u64::from(accepted);
+    }
+
+    fn add(&mut self, other: Self) {
+        self.failed += other.failed;
+        for (kind, (inputs, accepted)) in other.kinds {
+            let (all, sound) = self.kinds.entry(kind).or_default();
+            *all += inputs;
+            *sound += accepted;
+        }
+        for (count, more) in self.refusals.iter_mut().zip(other.refusals) {
+            *count += more;
+        }
     }
 
     fn call(&mut self, refusal: u32) -> Result<(), String> {

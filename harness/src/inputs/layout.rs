@@ -219,14 +219,14 @@ impl Layout {
         self.pieces[part.first] = self.keep(bytes);
     }
 
-    fn covers(&self, field: Field) -> Vec<Part> {
+    pub fn parts_of(&self, field: Field) -> Vec<Part> {
         let parts = self.parts.iter().copied();
         parts.filter(|part| part.field == field).collect()
     }
 
     /// Makes the size of each extension that of its data.
     pub fn repair_sizes(&mut self) {
-        for part in self.covers(Field::Extension) {
+        for part in self.parts_of(Field::Extension) {
             let size = self.length(part.first + 2..part.end) as u32;
             self.pieces[part.first + 1] = self.keep(&size.to_be_bytes());
         }
@@ -242,7 +242,7 @@ impl Layout {
         if self.version == 4 {
             return;
         }
-        for part in self.covers(Field::Entry) {
+        for part in self.parts_of(Field::Entry) {
             let (name, last) = (part.end - 2, part.end - 1);
             let flags = self.pieces[part.first + FLAGS].clone();
             if let [high, low] = self.store[flags] {

@@ -25,6 +25,7 @@ pub enum Kind {
     Order,
     Tree,
     Extension,
+    Offset,
     Field,
     Fields,
     Bytes,
@@ -35,7 +36,7 @@ pub enum Kind {
 }
 
 /// Which kinds follow each other, so that each run has its share of each.
-const TURN: [(Kind, usize); 16] = [
+const TURN: [(Kind, usize); 17] = [
     (Kind::Few, 10),
     (Kind::Some, 4),
     (Kind::Hundreds, 1),
@@ -46,7 +47,8 @@ const TURN: [(Kind, usize); 16] = [
     (Kind::Order, 4),
     (Kind::Tree, 4),
     (Kind::Extension, 2),
-    (Kind::Field, 12),
+    (Kind::Offset, 1),
+    (Kind::Field, 11),
     (Kind::Fields, 3),
     (Kind::Bytes, 5),
     (Kind::Cut, 7),
@@ -77,12 +79,13 @@ pub fn input(seed: u64, number: u64) -> Input {
     let (kind, nth) = kind(number);
     match kind {
         Kind::Few | Kind::Some | Kind::Hundreds | Kind::LongNames | Kind::Deep => {
-            sound(kind, &drawn(random, kind))
+            sound(kind, &drawn(random, kind, LEVELS))
         }
         Kind::Wide => wide(random),
         Kind::BadName => bad_name(random),
         Kind::Order | Kind::Tree => faulty(random, kind),
         Kind::Extension => extension(random),
+        Kind::Offset => offset(random),
         Kind::Field | Kind::Fields => fields(random, kind),
         Kind::Bytes => bytes(random),
         Kind::Cut => cut(random, seed, nth),
@@ -108,7 +111,8 @@ fn kind(number: u64) -> (Kind, u64) {
 
 // ---- sound files
 
-fn drawn(random: &mut Random, kind: Kind) -> Records {
+/// Records with entries as the kind says, and a tree of at most so many levels.
+fn drawn(random: &mut Random, kind: Kind, levels: usize) -> Records {
     let version = 2 + random.below(3) as u32;
     let count = match kind {
         Kind::Few => random.below(7),
@@ -124,7 +128,7 @@ fn drawn(random: &mut Random, kind: Kind) -> Records {
     };
     let names = (0..count).map(name).collect();
     let entries = records::entries(random, version, names);
-    records::records(random, version, entries, LEVELS)
+    records::records(random, version, entries, levels)
 }
 
 /// Hundreds of directories in any order, some with thousands beside them that no entry is in. One in three has a fault.
@@ -202,28 +206,36 @@ fn victim(random: &mut Random) -> Records {
         2 => Kind::Deep,
         _ => Kind::Few,
     };
-    drawn(random, kind)
+    drawn(random, kind, LEVELS)
 }
 
 fn right_checksum(random: &mut Random) -> bool {
     !random.one_in(16)
 }
 
-/// An entry with a bad name, in its place among the others.
+/// An entry with a bad name, in its place among the others. One in three ends with that entry, and lacks bytes of it.
 fn bad_name(random: &mut Random) -> Input {
     let mut records = victim(random);
     let name = names::bad(random);
     let entry = records::entry(random, records.version, name, 0);
     let place = records.entries.partition_point(|e| e.name < entry.name);
     records.entries.insert(place, entry);
-    laid_out(Kind::BadName, &records)
+    if !random.one_in(3) {
+        return laid_out(Kind::BadName, &records);
+    }
+    records.entries.truncate(place + 1);
+    records.extensions.clear();
+    let mut body = Layout::new(&records).body();
+    body.truncate(body.len() - 1 - random.below(8));
+    input_of(Kind::BadName, &records, signed(body, true))
 }
 
-/// Entries out of order, or a tree with a fault.
+/// Entries out of order, or a tree with a fault: one in six may have too many levels.
 fn faulty(random: &mut Random, kind: Kind) -> Input {
     let mut records = victim(random);
     match kind {
         Kind::Order => faults::order(random, &mut records),
+        _ if random.one_in(6) => records = drawn(random, Kind::Deep, LEVELS + 3),
         _ => faults::tree(random, &mut records),
     }
     laid_out(kind, &records)
@@ -235,6 +247,15 @@ fn extension(random: &mut Random) -> Input {
     let layout = Layout::new(&records);
     let body = [layout.body(), damage::extension(random, &layout)].concat();
     input_of(Kind::Extension, &records, signed(body, true))
+}
+
+/// Another N in a file of version 4 with long names.
+fn offset(random: &mut Random) -> Input {
+    let mut records = drawn(random, Kind::LongNames, LEVELS);
+    records.version = 4;
+    let mut layout = Layout::new(&records);
+    damage::offset(random, &mut layout);
+    input_of(Kind::Offset, &records, signed(layout.body(), true))
 }
 
 /// One field with another value, or several.
@@ -272,7 +293,7 @@ fn cut(random: &mut Random, seed: u64, nth: u64) -> Input {
     let (turn, place) = (nth / (2 * CUTS), nth % (2 * CUTS));
     let (length, corrected) = ((place / 2) as usize, place % 2 == 1);
     let small = &mut Random::of(!seed, turn);
-    let mut records = drawn(small, Kind::Few);
+    let mut records = drawn(small, Kind::Few, LEVELS);
     records.entries.truncate(2);
     let mut file = signed(Layout::new(&records).body(), true);
     let mut length = length;
