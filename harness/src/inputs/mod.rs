@@ -24,6 +24,7 @@ pub enum Kind {
     BadName,
     Order,
     Tree,
+    Undo,
     Extension,
     Offset,
     Field,
@@ -36,16 +37,17 @@ pub enum Kind {
 }
 
 /// Which kinds follow each other, so that each run has its share of each.
-const TURN: [(Kind, usize); 17] = [
+const TURN: [(Kind, usize); 18] = [
     (Kind::Few, 10),
     (Kind::Some, 4),
     (Kind::Hundreds, 1),
     (Kind::Wide, 1),
     (Kind::LongNames, 2),
     (Kind::Deep, 2),
-    (Kind::BadName, 4),
-    (Kind::Order, 4),
+    (Kind::BadName, 3),
+    (Kind::Order, 3),
     (Kind::Tree, 4),
+    (Kind::Undo, 2),
     (Kind::Extension, 2),
     (Kind::Offset, 1),
     (Kind::Field, 11),
@@ -79,11 +81,13 @@ pub fn input(seed: u64, number: u64) -> Input {
     let (kind, nth) = kind(number);
     match kind {
         Kind::Few | Kind::Some | Kind::Hundreds | Kind::LongNames | Kind::Deep => {
-            sound(kind, &drawn(random, kind, LEVELS))
+            sound(kind, &drawn(random, kind))
         }
         Kind::Wide => wide(random),
         Kind::BadName => bad_name(random),
-        Kind::Order | Kind::Tree => faulty(random, kind),
+        Kind::Order => disorder(random),
+        Kind::Tree => faulty_tree(random),
+        Kind::Undo => faulty_undo(random),
         Kind::Extension => extension(random),
         Kind::Offset => offset(random),
         Kind::Field | Kind::Fields => fields(random, kind),
@@ -111,8 +115,8 @@ fn kind(number: u64) -> (Kind, u64) {
 
 // ---- sound files
 
-/// Records with entries as the kind says, and a tree of at most so many levels.
-fn drawn(random: &mut Random, kind: Kind, levels: usize) -> Records {
+/// Records with entries as the kind says.
+fn drawn(random: &mut Random, kind: Kind) -> Records {
     let version = 2 + random.below(3) as u32;
     let count = match kind {
         Kind::Few => random.below(7),
@@ -128,7 +132,7 @@ fn drawn(random: &mut Random, kind: Kind, levels: usize) -> Records {
     };
     let names = (0..count).map(name).collect();
     let entries = records::entries(random, version, names);
-    records::records(random, version, entries, levels)
+    records::records(random, version, entries)
 }
 
 /// Hundreds of directories in any order, some with thousands beside them that no entry is in. One in three has a fault.
@@ -206,7 +210,7 @@ fn victim(random: &mut Random) -> Records {
         2 => Kind::Deep,
         _ => Kind::Few,
     };
-    drawn(random, kind, LEVELS)
+    drawn(random, kind)
 }
 
 fn right_checksum(random: &mut Random) -> bool {
@@ -230,15 +234,41 @@ fn bad_name(random: &mut Random) -> Input {
     input_of(Kind::BadName, &records, signed(body, true))
 }
 
-/// Entries out of order, or a tree with a fault: one in six may have too many levels.
-fn faulty(random: &mut Random, kind: Kind) -> Input {
+/// Entries out of order.
+fn disorder(random: &mut Random) -> Input {
     let mut records = victim(random);
-    match kind {
-        Kind::Order => faults::order(random, &mut records),
-        _ if random.one_in(6) => records = drawn(random, Kind::Deep, LEVELS + 3),
-        _ => faults::tree(random, &mut records),
+    faults::order(random, &mut records.entries);
+    laid_out(Kind::Order, &records)
+}
+
+/// A cache tree with a fault; one in six may have too many levels instead.
+fn faulty_tree(random: &mut Random) -> Input {
+    let deep = random.one_in(6);
+    let kind = match deep {
+        true => Kind::Deep,
+        false => *random.pick(&[Kind::Few, Kind::Some]),
+    };
+    let mut records = drawn(random, kind);
+    let levels = if deep { LEVELS + 3 } else { LEVELS };
+    let mut nodes = records::tree(random, &records.entries, levels);
+    if !deep {
+        faults::nodes(random, &mut nodes);
     }
-    laid_out(kind, &records)
+    let others = |extension: &Extension| !matches!(extension, Extension::Tree(_));
+    records.extensions.retain(others);
+    records.extensions.push(Extension::Tree(nodes));
+    laid_out(Kind::Tree, &records)
+}
+
+/// Resolve undo with a fault.
+fn faulty_undo(random: &mut Random) -> Input {
+    let mut records = victim(random);
+    let mut undo = records::undo(random);
+    faults::undo(random, &mut undo);
+    let others = |extension: &Extension| !matches!(extension, Extension::Undo(_));
+    records.extensions.retain(others);
+    records.extensions.push(Extension::Undo(undo));
+    laid_out(Kind::Undo, &records)
 }
 
 /// One more extension at the end.
@@ -251,7 +281,7 @@ fn extension(random: &mut Random) -> Input {
 
 /// Another N in a file of version 4 with long names.
 fn offset(random: &mut Random) -> Input {
-    let mut records = drawn(random, Kind::LongNames, LEVELS);
+    let mut records = drawn(random, Kind::LongNames);
     records.version = 4;
     let mut layout = Layout::new(&records);
     damage::offset(random, &mut layout);
@@ -293,7 +323,7 @@ fn cut(random: &mut Random, seed: u64, nth: u64) -> Input {
     let (turn, place) = (nth / (2 * CUTS), nth % (2 * CUTS));
     let (length, corrected) = ((place / 2) as usize, place % 2 == 1);
     let small = &mut Random::of(!seed, turn);
-    let mut records = drawn(small, Kind::Few, LEVELS);
+    let mut records = drawn(small, Kind::Few);
     records.entries.truncate(2);
     let mut file = signed(Layout::new(&records).body(), true);
     let mut length = length;

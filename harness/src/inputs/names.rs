@@ -10,8 +10,12 @@ const COMMON: [&[u8]; 12] = [
     b"a", b"b", b"c", b"ab", b"a-b", b"a.b", b"a0", b"A", b"x.txt", b"list", b"0", b"~",
 ];
 /// Sound, though they look like bad ones or have strange bytes.
-const ODD: [&[u8]; 12] = [
+const ODD: [&[u8]; 16] = [
     b".gi",
+    b"aaa.gi",
+    b"aaa.git",
+    b"aaa.",
+    b"aaa..",
     b".gitx",
     b".Git",
     b"..a",

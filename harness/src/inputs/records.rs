@@ -249,7 +249,8 @@ fn one_of_a_crowd(random: &mut Random, k: usize) -> Node {
 
 // ---- resolve undo and all together
 
-fn undo(random: &mut Random) -> Vec<Undo> {
+/// Records of resolve undo in their order.
+pub fn undo(random: &mut Random) -> Vec<Undo> {
     let mut paths = BTreeSet::new();
     for _ in 0..random.below(5) {
         paths.insert(match random.one_in(12) {
@@ -275,11 +276,11 @@ fn undo(random: &mut Random) -> Vec<Undo> {
     paths.into_iter().map(record).collect()
 }
 
-/// Records over these entries with extensions in any order; a tree of at most so many levels.
-pub fn records(random: &mut Random, version: u32, entries: Vec<Entry>, levels: usize) -> Records {
+/// Records over these entries, with extensions in any order.
+pub fn records(random: &mut Random, version: u32, entries: Vec<Entry>) -> Records {
     let mut extensions = Vec::new();
     if !random.one_in(3) {
-        extensions.push(Extension::Tree(tree(random, &entries, levels)));
+        extensions.push(Extension::Tree(tree(random, &entries, LEVELS)));
     }
     if random.one_in(3) {
         extensions.push(Extension::Undo(undo(random)));

@@ -54,23 +54,24 @@ impl fmt::Display for Call {
             Self::UndoRecord(k) => write!(f, "undo_record {k}"),
             Self::Rewrite(asked) => write!(f, "rewrite in {asked}"),
             Self::Put(asked, name, fields) => {
-                write!(
-                    f,
-                    "put in {asked}, name \"{}\", {fields:?}",
-                    name.escape_ascii()
-                )
+                write!(f, "put in {asked}, name {}, {fields:?}", shown(name))
             }
             Self::Remove(asked, name, stage) => {
-                write!(
-                    f,
-                    "remove in {asked}, name \"{}\", stage {stage}",
-                    name.escape_ascii()
-                )
+                write!(f, "remove in {asked}, name {}, stage {stage}", shown(name))
             }
             Self::WalkStart => write!(f, "walk_start"),
             Self::WalkNext(at, left) => write!(f, "walk_next at {at}, {left} left"),
             Self::Sha1 => write!(f, "sha1"),
         }
+    }
+}
+
+/// A name for people: its beginning, and its length where that is not all.
+fn shown(name: &[u8]) -> String {
+    const SHOWN: usize = 80;
+    match name.get(..SHOWN) {
+        None => format!("\"{}\"", name.escape_ascii()),
+        Some(start) => format!("\"{}\".. of {} bytes", start.escape_ascii(), name.len()),
     }
 }
 
