@@ -111,14 +111,29 @@ impl Run {
     fn share(&self, numbers: Range<u64>) -> Counts {
         let mut comparison = Comparison::new(self.place);
         for number in numbers {
-            let compared = AssertUnwindSafe(|| comparison.input(self.seed, number));
+            let input = inputs::input(self.seed, number);
+            let random = Random::of(self.seed, !number);
+            let compared = AssertUnwindSafe(|| comparison.input(&input, random));
             let result = catch_unwind(compared);
             if let Err(why) = result.unwrap_or(Err("a panic".to_string())) {
                 comparison.counts.failed += 1;
-                tell(self.seed, number, comparison.counts.failed, &why);
+                if comparison.counts.failed <= TOLD {
+                    self.tell(number, &input.bytes, &why);
+                }
             }
         }
         comparison.counts
+    }
+
+    /// Tells a failure and keeps its input.
+    fn tell(&self, number: u64, input: &[u8], why: &str) {
+        let seed = self.seed;
+        let path = env::temp_dir().join(format!("compare-{seed}-{number}.index"));
+        let kept = match fs::write(&path, input) {
+            Ok(()) => path.display().to_string(),
+            Err(error) => format!("not kept: {error}"),
+        };
+        println!("FAILED: seed {seed}, input {number} ({kept}): {why}");
     }
 }
 
@@ -127,19 +142,6 @@ impl fmt::Display for Run {
         let (seed, count, first) = (self.seed, self.count, self.first);
         write!(f, "{count} inputs of seed {seed} from number {first} on")
     }
-}
-
-/// Tells a failure and keeps its input.
-fn tell(seed: u64, number: u64, nth: u64, why: &str) {
-    if nth > TOLD {
-        return;
-    }
-    let path = env::temp_dir().join(format!("compare-{seed}-{number}.index"));
-    let kept = match fs::write(&path, inputs::input(seed, number).bytes) {
-        Ok(()) => path.display().to_string(),
-        Err(error) => format!("not kept: {error}"),
-    };
-    println!("FAILED: seed {seed}, input {number} ({kept}): {why}");
 }
 
 // ---- replies of both
@@ -243,9 +245,8 @@ impl Comparison {
     }
 
     /// Asks both everything about an input.
-    fn input(&mut self, seed: u64, number: u64) -> Result<(), String> {
-        let input = inputs::input(seed, number);
-        let random = &mut Random::of(seed, !number);
+    fn input(&mut self, input: &Input, mut random: Random) -> Result<(), String> {
+        let random = &mut random;
         let edge = *random.pick(&[Edge::Start, Edge::End]);
         self.file.read_only(&input.bytes, edge);
         self.name.read_only(b"", edge);
@@ -256,8 +257,8 @@ impl Comparison {
         if input.sound && checked.refusal > 0 {
             return Err(format!("a sound file is refused: {checked:?}"));
         }
-        for call in requests::calls(random, &input, &checked) {
-            self.ask(random, &call, &input)?;
+        for call in requests::calls(random, input, &checked) {
+            self.ask(random, &call, input)?;
         }
         if checked.refusal == 0 {
             self.walk()?;
