@@ -237,19 +237,19 @@ impl Layout {
         self.pieces[2] = self.keep(&self.entries.to_be_bytes());
     }
 
-    /// Makes each length field and each padding of versions 2 and 3 fit its name.
+    /// Makes each length field and each padding of versions 2 and 3 fit its name, where an entry has its own pieces.
     pub fn repair_entries(&mut self) {
         if self.version == 4 {
             return;
         }
         for part in self.parts_of(Field::Entry) {
-            let (name, last) = (part.end - 2, part.end - 1);
-            let flags = self.pieces[part.first + FLAGS].clone();
-            if let [high, low] = self.store[flags] {
-                let length = self.pieces[name].len().min(4095) as u16;
-                let flags = u16::from_be_bytes([high, low]) & 0xf000 | length;
-                self.pieces[part.first + FLAGS] = self.keep(&flags.to_be_bytes());
-            }
+            let (flags, name, last) = (part.first + FLAGS, part.end - 2, part.end - 1);
+            let [high, low] = self.store[self.pieces[flags].clone()] else {
+                continue;
+            };
+            let length = self.pieces[name].len().min(4095) as u16;
+            let new = u16::from_be_bytes([high, low]) & 0xf000 | length;
+            self.pieces[flags] = self.keep(&new.to_be_bytes());
             let zeros = padding(self.length(part.first..last));
             self.pieces[last] = self.keep(&[0; 8][..zeros]);
         }

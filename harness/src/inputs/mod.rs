@@ -13,22 +13,35 @@ use crate::random::Random;
 use layout::{signed, Layout};
 use records::{Extension, Records, Undo, LEVELS, MODES};
 
+/// Kinds of inputs: sound files, then files with a fault or damage, bytes that are no file, and sizes at a limit.
 #[derive(Clone, Copy, Debug, PartialEq, Eq, PartialOrd, Ord)]
 pub enum Kind {
+    /// Entries, up to six.
     Few,
+    /// Up to forty.
     Some,
     Hundreds,
+    /// Many siblings in the cache tree; some have a fault.
     Wide,
     LongNames,
+    /// Many levels of directories.
     Deep,
     BadName,
+    /// Entries out of order.
     Order,
+    /// A cache tree with a fault.
     Tree,
+    /// Resolve undo with a fault.
     Undo,
+    /// One extension more.
     Extension,
+    /// Another N in version 4.
     Offset,
+    /// One field with another value.
     Field,
+    /// Several.
     Fields,
+    /// Bytes changed anywhere.
     Bytes,
     Cut,
     Noise,
@@ -98,7 +111,7 @@ pub fn input(seed: u64, number: u64) -> Input {
     }
 }
 
-/// The kind of a number, and the how-manieth of its kind it is.
+/// The kind of a number, and how many of that kind stand before it.
 fn kind(number: u64) -> (Kind, u64) {
     if number % LIMIT_TURN == LIMIT_TURN - 1 {
         return (Kind::Limit, number / LIMIT_TURN);
