@@ -74,7 +74,7 @@ pub fn common(a: &[u8], b: &[u8]) -> usize {
 /// The number N of version 4, which is at most 16,511: one byte, or two with 1 added to the first digit.
 pub fn offset_code(n: usize) -> Vec<u8> {
     match n {
-        0..128 => vec![n as u8],
+        0..=127 => vec![n as u8],
         _ => vec![(127 + n / 128) as u8, (n % 128) as u8],
     }
 }

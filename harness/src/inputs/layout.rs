@@ -156,9 +156,9 @@ impl Layout {
             layout.add(Field::NodeName, &node.name);
             layout.add(Field::Separator, &[0]);
             layout.add(Field::NodeCount, node.count.to_string().as_bytes());
-            layout.add(Field::Separator, &[b' ']);
+            layout.add(Field::Separator, b" ");
             layout.add(Field::Subtrees, node.subtrees.to_string().as_bytes());
-            layout.add(Field::Separator, &[b'\n']);
+            layout.add(Field::Separator, b"\n");
             if node.count >= 0 {
                 layout.add(Field::NodeObject, &node.object);
             }
