@@ -37,24 +37,14 @@ impl File {
         self.bytes
             .extend((name.len().min(4095) as u16).to_be_bytes());
         if self.version == 4 {
-            let kept = self
-                .previous
-                .iter()
-                .zip(name)
-                .take_while(|(a, b)| a == b)
-                .count();
-            let n = self.previous.len() - kept;
-            if n < 128 {
-                self.bytes.push(n as u8);
-            } else {
-                self.bytes.extend([(127 + n / 128) as u8, (n % 128) as u8]);
-            }
+            let kept = common(&self.previous, name);
+            self.bytes.extend(offset_code(self.previous.len() - kept));
             self.bytes.extend(&name[kept..]);
             self.bytes.push(0);
         } else {
             self.bytes.extend(name);
             let length = self.bytes.len() - start;
-            self.bytes.extend(vec![0; 8 - length % 8]);
+            self.bytes.extend(vec![0; padding(length)]);
         }
         self.previous = name.to_vec();
         self.entries += 1;
@@ -74,6 +64,24 @@ impl File {
         assert!(self.bytes.len() <= LARGEST, "{} bytes", self.bytes.len());
         self.bytes
     }
+}
+
+/// How many bytes two names share at their start.
+pub fn common(a: &[u8], b: &[u8]) -> usize {
+    a.iter().zip(b).take_while(|(a, b)| a == b).count()
+}
+
+/// The number N of version 4, which is at most 16,511: one byte, or two with 1 added to the first digit.
+pub fn offset_code(n: usize) -> Vec<u8> {
+    match n {
+        0..=127 => vec![n as u8],
+        _ => vec![(127 + n / 128) as u8, (n % 128) as u8],
+    }
+}
+
+/// How many NULs, 1 to 8, follow an entry of versions 2 and 3 that has so many bytes with its name.
+pub fn padding(length: usize) -> usize {
+    8 - length % 8
 }
 
 /// A node: name, NUL, count, space, subtrees, LF, and an object name where the count is not negative.

@@ -6,6 +6,9 @@
 pub mod ffi;
 pub mod hostile;
 pub mod index_file;
+pub mod inputs;
+pub mod lent;
 pub mod opponent;
 pub mod plain;
 pub mod random;
+pub mod vectors;

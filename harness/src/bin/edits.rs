@@ -5,14 +5,11 @@
 #![deny(warnings)]
 
 use harness::ffi;
-use nerupazhil::raw;
+use harness::lent::{Edge, Lent, Place};
 use std::fmt::Display;
 use std::io::{self, BufRead, BufReader, BufWriter, Read, Write};
 use std::process::exit;
 use std::str::{FromStr, SplitWhitespace};
-
-/// How many bytes stand before and behind those that are lent.
-const GUARD: usize = 64;
 
 /// The length of a workspace, where a request does not tell it.
 const WORK: usize = ffi::WORKSPACE + 100;
@@ -156,91 +153,57 @@ fn bytes(input: &mut impl Read, length: usize) -> Vec<u8> {
 
 // ---- what is lent
 
-/// Bytes that are lent to a call, with guards around them.
-struct Lent {
-    what: &'static str,
-    before: Vec<u8>,
-    bytes: Vec<u8>,
+/// What a request lends to its call.
+struct Lending {
+    file: Lent,
+    name: Lent,
+    work: Lent,
+    out: Lent,
 }
 
-impl Lent {
-    fn new(what: &'static str, content: &[u8]) -> Self {
-        let before = [&pattern(GUARD), content, &pattern(GUARD)].concat();
-        let bytes = before.clone();
+impl Lending {
+    fn new(request: &Request) -> Self {
+        let input = |what, content: &[u8]| {
+            let mut lent = Lent::new(what, Place::Pages, content.len());
+            lent.read_only(content, Edge::End);
+            lent
+        };
+        let blank = |what, length| {
+            let mut lent = Lent::new(what, Place::Pages, length);
+            lent.blank(length, Edge::End);
+            lent
+        };
         Self {
-            what,
-            before,
-            bytes,
+            file: input("file", &request.file),
+            name: input("name", &request.name),
+            work: blank("workspace", request.work),
+            out: blank("output", request.room),
         }
     }
 
-    /// Bytes that the call may write to.
-    fn blank(what: &'static str, length: usize) -> Self {
-        Self::new(what, &pattern(length))
-    }
-
-    fn length(&self) -> usize {
-        self.bytes.len() - 2 * GUARD
-    }
-
-    /// A mutable pointer, also to what is only read, so that a write through it would be seen.
-    fn pointer(&mut self) -> *mut u8 {
-        self.bytes.as_mut_ptr().wrapping_add(GUARD)
-    }
-
-    /// The first bytes of those that were lent.
-    fn first(&self, count: usize) -> &[u8] {
-        &self.bytes[GUARD..GUARD + count]
-    }
-
-    /// Sees that nothing changed but for the first bytes.
-    fn unchanged_after(&self, count: usize) {
-        let behind = GUARD + count;
-        if self.bytes[..GUARD] != self.before[..GUARD] {
-            die(format!("bytes before the {} were written", self.what));
-        }
-        let pairs = self.bytes[behind..].iter().zip(&self.before[behind..]);
-        if let Some(at) = pairs.clone().position(|(now, before)| now != before) {
-            let (at, length) = (count + at, self.length());
-            die(format!(
-                "byte {at} of the {} of {length} bytes was written",
-                self.what
-            ));
-        }
-    }
-
-    /// The workspace after a call: untouched after 19, else its first bytes are zero and the others untouched.
-    fn cleared(&self, refusal: u32) {
+    /// Sees that the call wrote to nothing but the workspace and the first bytes of the output, and that it left the
+    /// workspace as it shall: untouched after 19, else its first bytes are zero and the others untouched.
+    fn stays(&self, refusal: u32, written: usize) -> Result<(), String> {
+        self.file.guards_stay()?;
+        self.name.guards_stay()?;
+        self.out.stays_after(written)?;
         if refusal == 19 {
-            return self.unchanged_after(0);
+            return self.work.stays_after(0);
         }
-        if self.length() < ffi::WORKSPACE {
-            die("a workspace that is too small is not 19");
-        }
-        self.unchanged_after(ffi::WORKSPACE);
-        if self.first(ffi::WORKSPACE).iter().any(|&byte| byte != 0) {
-            die("the workspace is not zero");
+        self.work.stays_after(ffi::WORKSPACE)?;
+        match self.work.bytes()[..ffi::WORKSPACE] == [0; ffi::WORKSPACE] {
+            true => Ok(()),
+            false => Err("the workspace is not zero".to_string()),
         }
     }
-}
-
-/// Bytes that a call is not likely to write by chance.
-fn pattern(length: usize) -> Vec<u8> {
-    (0..length)
-        .map(|k| (k * 7 + k / 256 + 0xa5) as u8)
-        .collect()
 }
 
 // ---- calls and answers
 
 fn check(request: &Request, output: &mut impl Write) -> io::Result<()> {
-    let mut file = Lent::new("file", &request.file);
-    let mut work = Lent::blank("workspace", request.work);
-    let (length, room) = (file.length(), work.length());
-    // SAFETY: the pointers and lengths are those of bytes that are lent here, apart from each other.
-    let answer = unsafe { raw::nerupazhil_check(file.pointer(), length, work.pointer(), room) };
-    file.unchanged_after(0);
-    work.cleared(answer.refusal);
+    let mut lent = Lending::new(request);
+    let answer = ffi::check(lent.file.bytes(), lent.work.bytes_mut());
+    lent.stays(answer.refusal, 0).unwrap_or_else(|why| die(why));
     if answer.refusal > 0 {
         return writeln!(output, "refused {} {}", answer.refusal, answer.place);
     }
@@ -258,72 +221,28 @@ fn check(request: &Request, output: &mut impl Write) -> io::Result<()> {
 }
 
 fn write(request: &Request, output: &mut impl Write) -> io::Result<()> {
-    let mut file = Lent::new("file", &request.file);
-    let mut name = Lent::new("name", &request.name);
-    let mut work = Lent::blank("workspace", request.work);
-    let mut out = Lent::blank("output", request.room);
-    let answer = call(request, &mut file, &mut name, &mut work, &mut out);
-    file.unchanged_after(0);
-    name.unchanged_after(0);
-    work.cleared(answer.refusal);
-    if answer.refusal > 0 {
-        out.unchanged_after(0);
-        if answer.length != 0 {
-            die(format!("a refusal carries more than its place: {answer:?}"));
-        }
-        return writeln!(output, "refused {} {}", answer.refusal, answer.place);
+    let mut lent = Lending::new(request);
+    let answer = call(request, &mut lent);
+    let (refusal, place, length) = (answer.refusal, answer.place, answer.length);
+    lent.stays(refusal, length).unwrap_or_else(|why| die(why));
+    if refusal > 0 && length > 0 || refusal == 0 && place > 0 {
+        die(format!("an answer has too much: {answer:?}"));
     }
-    if answer.length > out.length() || answer.place != 0 {
-        die(format!(
-            "{answer:?}, the output having {} bytes",
-            out.length()
-        ));
+    if refusal > 0 {
+        return writeln!(output, "refused {refusal} {place}");
     }
-    out.unchanged_after(answer.length);
-    writeln!(output, "done {}", answer.length)?;
-    output.write_all(out.first(answer.length))
+    writeln!(output, "done {length}")?;
+    output.write_all(&lent.out.bytes()[..length])
 }
 
-fn call(
-    request: &Request,
-    file: &mut Lent,
-    name: &mut Lent,
-    work: &mut Lent,
-    out: &mut Lent,
-) -> ffi::WriteReply {
-    let (length, room, out_length) = (file.length(), work.length(), out.length());
-    let (file, work, out) = (file.pointer(), work.pointer(), out.pointer());
-    let (name_length, name) = (name.length(), name.pointer());
+fn call(request: &Request, lent: &mut Lending) -> ffi::WriteReply {
+    let (file, name) = (lent.file.bytes(), lent.name.bytes());
+    let (work, out) = (lent.work.bytes_mut(), lent.out.bytes_mut());
     let (asked, fields) = (request.asked, request.fields);
-    // SAFETY: the pointers and lengths are those of bytes that are lent by the caller, apart from each other.
-    unsafe {
-        match request.call.as_str() {
-            "rewrite" => raw::nerupazhil_rewrite(file, length, work, room, out, out_length, asked),
-            "put" => raw::nerupazhil_put(
-                file,
-                length,
-                work,
-                room,
-                out,
-                out_length,
-                asked,
-                name,
-                name_length,
-                fields,
-            ),
-            "remove" => raw::nerupazhil_remove(
-                file,
-                length,
-                work,
-                room,
-                out,
-                out_length,
-                asked,
-                name,
-                name_length,
-                fields.stage,
-            ),
-            other => die(format!("{other} is no call")),
-        }
+    match request.call.as_str() {
+        "rewrite" => ffi::rewrite(file, work, out, asked),
+        "put" => ffi::put(file, work, out, asked, name, fields),
+        "remove" => ffi::remove(file, work, out, asked, name, fields.stage),
+        other => die(format!("{other} is no call")),
     }
 }

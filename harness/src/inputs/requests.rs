@@ -1,0 +1,194 @@
+//! What is asked of an input.
+
+use super::{names, Input};
+use crate::ffi::{CheckReply, Fields, WORKSPACE};
+use crate::random::Random;
+use std::fmt;
+
+/// Versions to ask for: those that there are, more than once, and ones that there are not.
+const ASKED: [u32; 14] = [0, 0, 0, 2, 2, 2, 3, 3, 4, 4, 1, 5, 0x0200_0000, u32::MAX];
+const STAGES: [u32; 12] = [0, 0, 0, 0, 1, 2, 3, 4, 7, 256, 0x1_0000, u32::MAX];
+const MODES: [u32; 12] = [
+    0o100644, 0o100644, 0o100644, 0o100755, 0o120000, 0o160000, 0o100755, 0o160000, 0, 0o100664,
+    0o40000, 0x1_81a4,
+];
+/// Files above this length are asked less.
+const LONG: usize = 8192;
+
+/// A call with all but the file and what is lent.
+#[derive(Clone)]
+pub enum Call {
+    Check,
+    Entry(u32),
+    TreeNode(u32),
+    UndoRecord(u32),
+    Rewrite(u32),
+    Put(u32, Vec<u8>, Fields),
+    Remove(u32, Vec<u8>, u32),
+    WalkStart,
+    WalkNext(usize, u32),
+    Sha1,
+}
+
+impl Call {
+    /// Whether it takes an output.
+    pub fn writes(&self) -> bool {
+        matches!(self, Self::Rewrite(_) | Self::Put(..) | Self::Remove(..))
+    }
+
+    /// The name that it takes.
+    pub fn name(&self) -> &[u8] {
+        match self {
+            Self::Put(_, name, _) | Self::Remove(_, name, _) => name,
+            _ => b"",
+        }
+    }
+}
+
+impl fmt::Display for Call {
+    fn fmt(&self, f: &mut fmt::Formatter) -> fmt::Result {
+        match self {
+            Self::Check => write!(f, "check"),
+            Self::Entry(k) => write!(f, "entry {k}"),
+            Self::TreeNode(k) => write!(f, "tree_node {k}"),
+            Self::UndoRecord(k) => write!(f, "undo_record {k}"),
+            Self::Rewrite(asked) => write!(f, "rewrite in {asked}"),
+            Self::Put(asked, name, fields) => {
+                write!(f, "put in {asked}, name {}, {fields:?}", shown(name))
+            }
+            Self::Remove(asked, name, stage) => {
+                write!(f, "remove in {asked}, name {}, stage {stage}", shown(name))
+            }
+            Self::WalkStart => write!(f, "walk_start"),
+            Self::WalkNext(at, left) => write!(f, "walk_next at {at}, {left} left"),
+            Self::Sha1 => write!(f, "sha1"),
+        }
+    }
+}
+
+/// A name for people: its beginning, and its length where that is not all.
+fn shown(name: &[u8]) -> String {
+    const SHOWN: usize = 80;
+    match name.get(..SHOWN) {
+        None => format!("\"{}\"", name.escape_ascii()),
+        Some(start) => format!("\"{}\".. of {} bytes", start.escape_ascii(), name.len()),
+    }
+}
+
+/// The length of a workspace: mostly just enough, at times more, seldom too little.
+pub fn workspace(random: &mut Random) -> usize {
+    match random.below(32) {
+        0 => *random.pick(&[0, 1, WORKSPACE - 1]),
+        1..=4 => WORKSPACE + 1,
+        5 | 6 => 10_000,
+        _ => WORKSPACE,
+    }
+}
+
+/// Every call, with several requests where the file was accepted.
+pub fn calls(random: &mut Random, input: &Input, checked: &CheckReply) -> Vec<Call> {
+    let times = match checked.refusal {
+        0 if input.bytes.len() <= LONG => 3,
+        _ => 1,
+    };
+    let mut calls = vec![Call::Check, Call::Sha1, Call::WalkStart];
+    for _ in 0..times {
+        calls.push(Call::Entry(number(random, checked.entries)));
+        calls.push(Call::TreeNode(number(random, checked.nodes)));
+        calls.push(Call::UndoRecord(number(random, checked.records)));
+        calls.push(Call::Rewrite(*random.pick(&ASKED)));
+        calls.push(put(random, input));
+        calls.push(remove(random, input));
+        calls.push(forged(random, input));
+        calls.push(forged(random, input));
+    }
+    calls
+}
+
+/// A number of an entry, node or record: mostly of one that there is, or close to the last, or far beyond.
+fn number(random: &mut Random, count: u32) -> u32 {
+    match random.below(8) {
+        0 => count,
+        1 => count.saturating_add(1),
+        2 => u32::MAX,
+        3 => count.saturating_sub(1),
+        _ => random.below(count as usize + 1) as u32,
+    }
+}
+
+fn put(random: &mut Random, input: &Input) -> Call {
+    let mut numbers = [0; 9].map(|_| random.next() as u32);
+    if random.one_in(4) {
+        numbers = [u32::MAX; 9];
+    }
+    let fields = Fields {
+        ctime_seconds: numbers[0],
+        ctime_nanoseconds: numbers[1],
+        mtime_seconds: numbers[2],
+        mtime_nanoseconds: numbers[3],
+        dev: numbers[4],
+        ino: numbers[5],
+        mode: *random.pick(&MODES),
+        uid: numbers[6],
+        gid: numbers[7],
+        size: numbers[8],
+        object: random.array(),
+        assume_valid: random.one_in(2),
+        stage: *random.pick(&STAGES),
+        skip_worktree: random.one_in(4),
+        intent_to_add: random.one_in(4),
+    };
+    Call::Put(*random.pick(&ASKED), name(random, input), fields)
+}
+
+fn remove(random: &mut Random, input: &Input) -> Call {
+    let stage = *random.pick(&STAGES);
+    Call::Remove(*random.pick(&ASKED), name(random, input), stage)
+}
+
+/// A name: one that is there, one near it, one before or after all, a new one or a bad one.
+fn name(random: &mut Random, input: &Input) -> Vec<u8> {
+    let known = match input.names.len() {
+        0 => b"a/b".to_vec(),
+        _ => random.pick(&input.names).clone(),
+    };
+    match random.below(16) {
+        0..=6 => known,
+        7 => [&known[..], b"x"].concat(),
+        8 => [&known[..], b"/x"].concat(),
+        9 => known[..known.len().saturating_sub(1)].to_vec(),
+        10 => sibling(&known),
+        11 => random
+            .pick(&[&b"\x01"[..], b"\xff\xff", b"!/a", b"~~/~"])
+            .to_vec(),
+        12 => names::long(random),
+        13 => names::bad(random),
+        _ => names::sound(random, 4),
+    }
+}
+
+/// A new name in the directory of this one.
+fn sibling(name: &[u8]) -> Vec<u8> {
+    let slash = name.iter().rposition(|&byte| byte == b'/');
+    let directory = &name[..slash.map_or(0, |at| at + 1)];
+    [directory, b"new"].concat()
+}
+
+/// A step of a walk that nobody made.
+fn forged(random: &mut Random, input: &Input) -> Call {
+    let length = input.bytes.len();
+    let at = match random.below(12) {
+        0 => *random.pick(&[0, 4, 11, 13, 1 << 32, usize::MAX, usize::MAX - 61]),
+        1 => (length + random.below(3)).saturating_sub(21),
+        2 => length + random.below(2),
+        3..=5 => 12,
+        6..=8 => 12 + 8 * random.below(length / 8 + 1),
+        _ => random.below(length + 1),
+    };
+    let left = match random.below(4) {
+        0 => 0,
+        1 => u32::MAX,
+        _ => 1 + random.below(3) as u32,
+    };
+    Call::WalkNext(at, left)
+}
