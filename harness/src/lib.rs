@@ -6,5 +6,6 @@
 pub mod ffi;
 pub mod hostile;
 pub mod index_file;
+pub mod opponent;
 pub mod plain;
 pub mod random;

@@ -1,0 +1,292 @@
+//! The entries of a file.
+
+use std::cmp::Ordering;
+
+use nerupazhil::raw::{Fields, DIGEST};
+
+use super::names::{nul, sound};
+use super::refusal::{self, Refusal};
+
+/// The bytes of the header: the first entry stands after them.
+pub const HEADER: usize = 12;
+
+/// Regular file, executable file, symbolic link, gitlink.
+pub const MODES: [u32; 4] = [0o100644, 0o100755, 0o120000, 0o160000];
+
+/// The largest number in the length field: it stands for all lengths from there on.
+pub const LONG: usize = 4095;
+
+/// Flags.
+pub const ASSUME_VALID: u16 = 1 << 15;
+pub const EXTENDED: u16 = 1 << 14;
+pub const STAGE_SHIFT: u32 = 12;
+
+/// Bits of the extended word.
+pub const SKIP_WORKTREE: u16 = 1 << 14;
+pub const INTENT_TO_ADD: u16 = 1 << 13;
+
+/// The bytes of an entry before the extended word and the name, and where some of them stand.
+const FIXED: usize = 62;
+const WORD: usize = 2;
+const MODE_AT: usize = 24;
+const OBJECT_AT: usize = 40;
+const FLAGS_AT: usize = 60;
+
+/// All entries of a file.
+pub struct Entries<'a> {
+    /// The file less its checksum.
+    pub body: &'a [u8],
+    pub version: u32,
+    pub items: Vec<Item>,
+    /// The byte where entries end.
+    pub end: usize,
+}
+
+/// Where an entry stands: its first byte, and what the file has of its name. In version 4 the name begins with the
+/// `kept` first bytes of the name before.
+pub struct Item {
+    pub place: usize,
+    pub start: usize,
+    pub length: usize,
+    pub kept: usize,
+}
+
+/// What an entry is compared with: the name before, which version 4 makes and the others show, and its stage.
+#[derive(Default)]
+struct Before<'a> {
+    made: Vec<u8>,
+    shown: &'a [u8],
+    stage: u16,
+}
+
+impl<'a> Entries<'a> {
+    /// Reads the entries that the header counts.
+    pub fn read(body: &'a [u8], version: u32, count: u32) -> Result<Self, Refusal> {
+        let most = body.len() / FIXED;
+        let mut items = Vec::with_capacity(most.min(count as usize));
+        let mut end = HEADER;
+        let mut before = Before::default();
+        for _ in 0..count {
+            let place = end;
+            let read = before.next(body, version, place);
+            let (item, next) = read.map_err(|number| Refusal { number, place })?;
+            items.push(item);
+            end = next;
+        }
+        Ok(Self {
+            body,
+            version,
+            items,
+            end,
+        })
+    }
+
+    /// The name of an item, where `before` holds what this made of the items before it, from nothing.
+    pub fn name<'n>(&self, item: &Item, before: &'n mut Vec<u8>) -> &'n [u8]
+    where
+        'a: 'n,
+    {
+        let text = &self.body[item.start..item.start + item.length];
+        if self.version != 4 {
+            return text;
+        }
+        before.truncate(item.kept);
+        before.extend_from_slice(text);
+        before
+    }
+
+    /// The name of entry `k`.
+    pub fn name_of(&self, k: usize) -> Vec<u8> {
+        let mut before = Vec::new();
+        let mut name: &[u8] = &[];
+        for item in &self.items[..=k] {
+            name = self.name(item, &mut before);
+        }
+        name.to_vec()
+    }
+}
+
+impl<'a> Before<'a> {
+    /// The entry at a place and the place after it, or the number of what refuses it.
+    fn next(&mut self, body: &'a [u8], version: u32, at: usize) -> Result<(Item, usize), u32> {
+        let (start, flags) = head(body, version, at)?;
+        let (item, end, order) = if version == 4 {
+            compressed(body, at, start, flags, &mut self.made)?
+        } else {
+            let (item, end) = plain(body, at, start, flags)?;
+            let name = &body[start..start + item.length];
+            let order = name.cmp(self.shown);
+            self.shown = name;
+            (item, end, order)
+        };
+        let stage = stage(flags);
+        if order.then(stage.cmp(&self.stage)) != Ordering::Greater {
+            return Err(refusal::ORDER);
+        }
+        self.stage = stage;
+        Ok((item, end))
+    }
+}
+
+/// The entry of version 2 or 3 at a place and the place after it.
+pub fn entry_at(body: &[u8], version: u32, at: usize) -> Result<(Item, usize), u32> {
+    let (start, flags) = head(body, version, at)?;
+    plain(body, at, start, flags)
+}
+
+/// The fields of the sound entry at a place.
+pub fn fields(body: &[u8], at: usize) -> Fields {
+    let number = |i: usize| long(body, at + 4 * i);
+    let flags = flags(body, at);
+    let word = word(body, at);
+    let mut object = [0; DIGEST];
+    object.copy_from_slice(&body[at + OBJECT_AT..at + FLAGS_AT]);
+    Fields {
+        ctime_seconds: number(0),
+        ctime_nanoseconds: number(1),
+        mtime_seconds: number(2),
+        mtime_nanoseconds: number(3),
+        dev: number(4),
+        ino: number(5),
+        mode: number(6),
+        uid: number(7),
+        gid: number(8),
+        size: number(9),
+        object,
+        assume_valid: flags & ASSUME_VALID != 0,
+        stage: stage(flags).into(),
+        skip_worktree: word & SKIP_WORKTREE != 0,
+        intent_to_add: word & INTENT_TO_ADD != 0,
+    }
+}
+
+/// The stage of the sound entry at a place.
+pub fn stage_at(body: &[u8], at: usize) -> u32 {
+    stage(flags(body, at)).into()
+}
+
+/// The extended word of the sound entry at a place, 0 where it has none.
+pub fn word(body: &[u8], at: usize) -> u16 {
+    if flags(body, at) & EXTENDED == 0 {
+        return 0;
+    }
+    short(body, at + FIXED)
+}
+
+/// The bytes of an entry of version 2 or 3, whose name stands after so many bytes.
+pub fn padded(before: usize, length: usize) -> usize {
+    (before + length) / 8 * 8 + 8
+}
+
+/// A number of 32 bits.
+pub fn long(bytes: &[u8], at: usize) -> u32 {
+    let [a, b] = [short(bytes, at), short(bytes, at + 2)];
+    u32::from(a) << 16 | u32::from(b)
+}
+
+fn short(bytes: &[u8], at: usize) -> u16 {
+    u16::from_be_bytes([bytes[at], bytes[at + 1]])
+}
+
+fn flags(body: &[u8], at: usize) -> u16 {
+    short(body, at + FLAGS_AT)
+}
+
+fn stage(flags: u16) -> u16 {
+    flags >> STAGE_SHIFT & 3
+}
+
+/// Checks an entry up to its name: the place after that, and the flags.
+fn head(body: &[u8], version: u32, at: usize) -> Result<(usize, u16), u32> {
+    let rest = body.get(at..).unwrap_or(&[]);
+    let fixed = rest.get(..FIXED).ok_or(refusal::ENTRY_CUT)?;
+    if !MODES.contains(&long(fixed, MODE_AT)) {
+        return Err(refusal::MODE);
+    }
+    let flags = short(fixed, FLAGS_AT);
+    if flags & EXTENDED == 0 {
+        return Ok((at + FIXED, flags));
+    }
+    if version == 2 {
+        return Err(refusal::FLAGS);
+    }
+    let word = rest.get(FIXED..FIXED + WORD).ok_or(refusal::ENTRY_CUT)?;
+    if short(word, 0) & !(SKIP_WORKTREE | INTENT_TO_ADD) != 0 {
+        return Err(refusal::FLAGS);
+    }
+    Ok((at + FIXED + WORD, flags))
+}
+
+/// Checks the name and the padding of an entry of version 2 or 3.
+fn plain(body: &[u8], place: usize, start: usize, flags: u16) -> Result<(Item, usize), u32> {
+    let length = match length_field(flags) {
+        LONG => nul(body, start).ok_or(refusal::ENTRY_CUT)? - start,
+        length => length,
+    };
+    if start + length >= body.len() {
+        return Err(refusal::ENTRY_CUT);
+    }
+    check_name(&body[start..start + length], 0, flags)?;
+    let end = place + padded(start - place, length);
+    let padding = body.get(start + length..end);
+    if padding.ok_or(refusal::ENTRY_CUT)?.iter().any(|b| *b != 0) {
+        return Err(refusal::PADDING);
+    }
+    let item = Item {
+        place,
+        start,
+        length,
+        kept: 0,
+    };
+    Ok((item, end))
+}
+
+/// Checks N and the name of an entry of version 4, and makes the name of the one before it; also how the two compare.
+fn compressed(
+    body: &[u8],
+    place: usize,
+    start: usize,
+    flags: u16,
+    name: &mut Vec<u8>,
+) -> Result<(Item, usize, Ordering), u32> {
+    let (n, start) = back(body, start)?;
+    let kept = name.len().checked_sub(n).ok_or(refusal::BACK)?;
+    let end = nul(body, start).ok_or(refusal::ENTRY_CUT)?;
+    let text = &body[start..end];
+    let order = text.cmp(&name[kept..]);
+    name.truncate(kept);
+    name.extend_from_slice(text);
+    check_name(name, kept, flags)?;
+    let item = Item {
+        place,
+        start,
+        length: text.len(),
+        kept,
+    };
+    Ok((item, end + 1, order))
+}
+
+/// N at a place, and the place after it.
+fn back(body: &[u8], at: usize) -> Result<(usize, usize), u32> {
+    let byte = |at: usize| body.get(at).map(|b| usize::from(*b));
+    let first = byte(at).ok_or(refusal::ENTRY_CUT)?;
+    if first < 128 {
+        return Ok((first, at + 1));
+    }
+    match byte(at + 1).ok_or(refusal::ENTRY_CUT)? {
+        second @ 0..=127 => Ok(((first - 127) * 128 + second, at + 2)),
+        _ => Err(refusal::BACK),
+    }
+}
+
+fn check_name(name: &[u8], kept: usize, flags: u16) -> Result<(), u32> {
+    if sound(name, kept) && name.len().min(LONG) == length_field(flags) {
+        Ok(())
+    } else {
+        Err(refusal::NAME)
+    }
+}
+
+fn length_field(flags: u16) -> usize {
+    usize::from(flags) & LONG
+}

@@ -1,0 +1,215 @@
+//! A first comparison of the plain library with the proved one: every call, and all that it may write.
+
+use std::fmt::Debug;
+use std::fs;
+
+use harness::index_file::{node, OBJECT};
+use harness::{ffi, opponent};
+use nerupazhil::raw::{Fields, DIGEST, WORKSPACE};
+
+use super::{extend, index, put, regular, seal, workspace, VECTORS};
+
+/// Makes the same call of both libraries. `work` and `out` are what is lent, an output of so many bytes.
+macro_rules! both {
+    ($file:ident, $length:expr, |$work:ident, $out:ident| $call:ident($($value:expr),*)) => {
+        same(
+            concat!(stringify!($call), stringify!(($($value),*))),
+            $file,
+            $length,
+            |$work, $out| ffi::$call($($value),*),
+            |$work, $out| opponent::$call($($value),*),
+        )
+    };
+}
+
+/// Compares the answers of two calls, and the workspaces and outputs that they leave.
+fn same<R: PartialEq + Debug>(
+    call: &str,
+    file: &[u8],
+    length: usize,
+    proved: impl Fn(&mut [u8], &mut [u8]) -> R,
+    plain: impl Fn(&mut [u8], &mut [u8]) -> R,
+) -> R {
+    let lent = || (workspace(), vec![0x5a; length]);
+    let (mut proved_lent, mut plain_lent) = (lent(), lent());
+    let proved = proved(&mut proved_lent.0, &mut proved_lent.1);
+    let plain = plain(&mut plain_lent.0, &mut plain_lent.1);
+    assert_eq!(proved, plain, "{call} of {file:02x?}");
+    assert!(proved_lent == plain_lent, "{call} leaves of {file:02x?}");
+    plain
+}
+
+/// Compares all calls on a file.
+fn all_calls(file: &[u8]) {
+    let reply = both!(file, 0, |work, _out| check(file, work));
+    for k in 0..=reply.entries {
+        both!(file, 0, |work, _out| entry(file, work, k));
+    }
+    for k in 0..=reply.nodes {
+        both!(file, 0, |work, _out| tree_node(file, work, k));
+    }
+    for k in 0..=reply.records {
+        both!(file, 0, |work, _out| undo_record(file, work, k));
+    }
+    for k in [reply.entries.wrapping_sub(1), u32::MAX] {
+        both!(file, 0, |work, _out| entry(file, work, k));
+        both!(file, 0, |work, _out| tree_node(file, work, k));
+        both!(file, 0, |work, _out| undo_record(file, work, k));
+    }
+    small_workspaces(file);
+    rewrites(file);
+    edits(file);
+    walk(file);
+}
+
+fn small_workspaces(file: &[u8]) {
+    for length in [0, WORKSPACE - 1, WORKSPACE] {
+        both!(file, 0, |work, _out| check(file, &mut work[..length]));
+        both!(file, 0, |work, _out| entry(file, &mut work[..length], 0));
+        both!(file, 9, |work, out| rewrite(
+            file,
+            &mut work[..length],
+            out,
+            0
+        ));
+    }
+}
+
+/// Rewrites in each version, with outputs that are large, just large enough and too small.
+fn rewrites(file: &[u8]) {
+    for asked in [0, 1, 2, 3, 4, 5, u32::MAX] {
+        let most = 4 * file.len() + 1000;
+        let reply = both!(file, most, |work, out| rewrite(file, work, out, asked));
+        let length = reply.length;
+        both!(file, length, |work, out| rewrite(file, work, out, asked));
+        let less = length.saturating_sub(1);
+        both!(file, less, |work, out| rewrite(file, work, out, asked));
+    }
+}
+
+/// Puts and removes names of the file and others.
+fn edits(file: &[u8]) {
+    let mut fields = regular();
+    fields.size = 0x01020304;
+    let mut names: Vec<Vec<u8>> = super::names(file);
+    let others = [
+        "", "a", "a/", "a//b", "a-c", "a/c/d", ".git", "x/.git", "zz/y",
+    ];
+    names.extend(others.map(|name| name.as_bytes().to_vec()));
+    for (i, name) in names.iter().enumerate() {
+        let asked = [0, 2, 3, 4, 1][i % 5];
+        fields.stage = i as u32 % 5;
+        fields.mode = [0o100644, 0o100755, 0o120000, 0o160000, 0o40000][i / 2 % 5];
+        fields.skip_worktree = i % 3 == 0;
+        fields.intent_to_add = i % 4 == 0;
+        fields.assume_valid = i % 2 == 0;
+        let most = 4 * file.len() + 1000;
+        both!(file, most, |work, out| put(
+            file, work, out, asked, name, fields
+        ));
+        both!(file, 200, |work, out| put(
+            file, work, out, asked, name, fields
+        ));
+        for stage in [0, i as u32 % 5] {
+            both!(file, most, |work, out| remove(
+                file, work, out, asked, name, stage
+            ));
+        }
+    }
+}
+
+/// A walk from its start to its end, and steps at other places.
+fn walk(file: &[u8]) {
+    let start = both!(file, 0, |work, _out| walk_start(file, work));
+    let (mut at, mut left) = (start.at, start.left);
+    for _ in 0..=start.left {
+        let step = step(file, at, left);
+        (at, left) = (step.at, step.left);
+    }
+    let last = file.len().min(1000);
+    for at in (0..last + 2).chain([usize::MAX - 70, usize::MAX]) {
+        step(file, at, 1);
+    }
+}
+
+fn step(file: &[u8], at: usize, left: u32) -> ffi::StepReply {
+    let proved = ffi::walk_next(file, at, left);
+    let plain = opponent::walk_next(file, at, left);
+    assert_eq!(proved, plain, "{left} left at {at} of {file:02x?}");
+    plain
+}
+
+/// A small file with all kinds of records in a version, its tree valid or not.
+fn small(version: u32, valid: bool) -> Vec<u8> {
+    let file = index(version, &[b"a-b", b"a/b", b"a/c", b"b/c/d", b"e"]);
+    let fields = Fields {
+        stage: 2,
+        assume_valid: true,
+        skip_worktree: version > 2,
+        ..regular()
+    };
+    let file = put(&file, version, b"a/c", fields).unwrap();
+    let mut tree = Vec::new();
+    let count = |count: i64| if valid { count } else { -count };
+    node(&mut tree, b"", count(6), 2);
+    node(&mut tree, b"b", count(1), 1);
+    node(&mut tree, b"c", 1, 0);
+    node(&mut tree, b"a", 3, 0);
+    let one = [&b"plan\x00100644\x000\x00100644\0"[..], &OBJECT, &OBJECT].concat();
+    let two = [&b"x/y\x000\x000\x00160000\0"[..], &OBJECT].concat();
+    let file = extend(&file, b"REUC", &[one, two].concat());
+    let file = extend(&file, b"XTRA", b"passed over");
+    extend(&file, b"TREE", &tree)
+}
+
+fn small_files() -> Vec<Vec<u8>> {
+    let kinds = [(2, true), (3, false), (4, true), (4, false)];
+    kinds.map(|(version, valid)| small(version, valid)).to_vec()
+}
+
+#[test]
+fn stored_files() {
+    let table = fs::read_to_string(format!("{VECTORS}/expected.tsv")).unwrap();
+    for row in table.lines() {
+        let (name, _) = row.split_once('\t').unwrap();
+        all_calls(&fs::read(format!("{VECTORS}/{name}")).unwrap());
+    }
+}
+
+#[test]
+fn all_cuts_of_small_files() {
+    for file in small_files() {
+        all_calls(&file);
+        for length in 0..file.len() {
+            let cut = &file[..length];
+            both!(cut, 0, |work, _out| check(cut, work));
+            let sealed = seal(cut);
+            all_calls(&sealed);
+        }
+    }
+}
+
+#[test]
+fn single_bytes_changed() {
+    for file in small_files() {
+        for place in 0..file.len() - DIGEST {
+            one_byte_changed(&file, place);
+        }
+    }
+}
+
+/// One byte set to others, with the checksum right again: each bit turned, and bytes that mean something. At
+/// every fourth place the first of them goes through all calls.
+fn one_byte_changed(file: &[u8], place: usize) {
+    let mut body = file[..file.len() - DIGEST].to_vec();
+    let old = body[place];
+    let turned = (0..8).map(|bit| old ^ 1 << bit);
+    for (i, value) in turned.chain(*b"\0\n -./01AZa\xff").enumerate() {
+        body[place] = value;
+        let changed = &seal(&body)[..];
+        both!(changed, 0, |work, _out| check(changed, work));
+        if i == 0 && place % 4 == 0 {
+            all_calls(changed);
+        }
+    }
+}
