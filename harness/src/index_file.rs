@@ -179,9 +179,9 @@ impl Entries<'_> {
         }
     }
 
-    /// An entry's share of the nodes takes less than 4 bytes.
+    /// An entry's share of the nodes takes less than 2 bytes.
     fn full(&self) -> bool {
-        let bytes = self.file.bytes.len() + 4 * self.names.len();
+        let bytes = self.file.bytes.len() + 2 * self.names.len();
         self.names.len() == self.plan.most_entries || bytes + 1024 > self.plan.most_bytes
     }
 }

@@ -1,5 +1,5 @@
-//! How much stack a call takes: it runs on a stack of its own that was painted before, and the deepest byte that lost the
-//! paint is looked for. For x86-64 and its calls under Linux.
+//! How much stack a call takes: it runs on a stack of its own that was painted before, and the deepest byte that lost
+//! the paint is looked for. For x86-64 and its calls under Linux.
 
 use std::arch::asm;
 
@@ -15,8 +15,8 @@ pub fn depth(call: &mut dyn FnMut()) -> usize {
 fn painted(paint: u8, mut call: &mut dyn FnMut()) -> usize {
     let mut stack = vec![paint; ROOM];
     let top = ROOM - (stack.as_ptr() as usize + ROOM) % 16;
-    // SAFETY: the stack's top is a multiple of 16, as calls want it, and lies in a vector that nothing else uses. r12 keeps
-    // the old stack, since a called function leaves it as it was. `enter` does not unwind.
+    // SAFETY: the stack's top is a multiple of 16, as calls want it, and lies in a vector that nothing else uses. r12
+    // keeps the old stack, since a called function leaves it as it was. `enter` does not unwind.
     unsafe {
         asm!(
             "xchg rsp, r12",

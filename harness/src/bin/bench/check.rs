@@ -5,9 +5,13 @@ use harness::index_file::{Order, Repository, FLAT, NESTED};
 use harness::{ffi, opponent, plain, timing};
 use std::cell::Cell;
 
+const TITLE: &str = "Check against a simple check in Rust with the same answers, and against SHA-1 of the same bytes, \
+    plain Rust's and ours. The files have twenty entries a directory and full cache trees, the subtrees in the index's \
+    order or in Git's; the directories are nested, three levels deep, or flat.";
+
 pub fn figures() -> Result<(), String> {
     let table = Table::new(
-        "Check against a simple check in Rust with the same answers, and against SHA-1 of the same bytes: plain Rust's, and ours.",
+        TITLE,
         &[
             ("File", 30),
             ("MiB", 4),

@@ -67,7 +67,8 @@ fn head(arguments: &[&str]) {
     let command = [&["./bench"], arguments].concat().join(" ");
     let processors = thread::available_parallelism().map_or(1, |number| number.get());
     println!(
-        "`{command}` on {}, {processors} processors. Times are the processor's: medians of {} runs in turn in one process, where nothing else is said.",
+        "`{command}` on {}, {processors} processors. Times are the processor's: medians of {} runs in turn in one \
+        process, where nothing else is said.",
         timing::processor(),
         timing::RUNS
     );

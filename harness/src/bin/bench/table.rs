@@ -4,8 +4,8 @@
 pub struct Table(Vec<usize>);
 
 impl Table {
-    /// Prints what the table shows and its head, for columns of at least the widths given. The first column stands left,
-    /// the others right.
+    /// Prints what the table shows and its head, for columns of at least the widths given. The first column stands
+    /// left, the others right.
     pub fn new(title: &str, columns: &[(&str, usize)]) -> Self {
         println!("\n{title}\n");
         let widths = columns.iter().map(|(head, width)| head.len().max(*width));
