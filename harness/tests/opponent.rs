@@ -77,20 +77,24 @@ fn index(version: u32, names: &[&[u8]]) -> Vec<u8> {
 
 /// The words of `expected.tsv` for an answer of check.
 fn words(reply: CheckReply) -> String {
-    let count = |present: bool, n: u32| match present {
-        true => n.to_string(),
-        false => "absent".to_string(),
-    };
-    match reply.refusal {
-        0 => format!(
-            "accepted version {} entries {} end {} nodes {} records {}",
-            reply.version,
-            reply.entries,
-            reply.end,
-            count(reply.has_tree, reply.nodes),
-            count(reply.has_undo, reply.records)
-        ),
-        number => format!("refused {number} at {}", reply.place),
+    if reply.refusal != 0 {
+        return format!("refused {} at {}", reply.refusal, reply.place);
+    }
+    format!(
+        "accepted version {} entries {} end {} nodes {} records {}",
+        reply.version,
+        reply.entries,
+        reply.end,
+        present(reply.has_tree, reply.nodes, "", "absent"),
+        present(reply.has_undo, reply.records, "", "absent")
+    )
+}
+
+/// A number and what it counts, or the word for an absent extension.
+fn present(present: bool, number: u32, counted: &str, absent: &str) -> String {
+    match present {
+        true => format!("{number}{counted}"),
+        false => absent.to_string(),
     }
 }
 
@@ -128,15 +132,8 @@ fn listing(file: &[u8]) -> String {
         let entry = opponent::entry(file, &mut work, k);
         text += &line(&entry.fields, shown(entry.name, file, &work));
     }
-    let [tree, undo] = match (reply.has_tree, reply.has_undo) {
-        (false, false) => ["none".to_string(), "none".to_string()],
-        (true, false) => [format!("{} nodes", reply.nodes), "none".to_string()],
-        (false, true) => ["none".to_string(), format!("{} paths", reply.records)],
-        (true, true) => [
-            format!("{} nodes", reply.nodes),
-            format!("{} paths", reply.records),
-        ],
-    };
+    let tree = present(reply.has_tree, reply.nodes, " nodes", "none");
+    let undo = present(reply.has_undo, reply.records, " paths", "none");
     text + &format!("cache tree {tree}\nresolve-undo {undo}\n")
 }
 

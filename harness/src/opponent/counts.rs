@@ -1,55 +1,72 @@
 //! The counts of the cache tree's nodes, held against the entries.
 
+use std::cmp::Ordering;
+
 use super::entries::Entries;
 use super::names::common;
-use super::tree::{Tree, ROOT};
+use super::tree::{order, Node, Tree, ROOT};
 
 /// A pass over the names in their order, in which the entries of a directory stand together.
 struct Pass<'t, 'a> {
     tree: &'t Tree<'a>,
-    /// The directory that the pass is in, "/" at its end, and that directory with all those above it. The last one may
-    /// be without a node; what is below it is not looked at.
+    tallies: Vec<Tally>,
+    /// The directory that the pass is in, "/" at its end.
     path: Vec<u8>,
+    /// That directory and those above it but the root. The last one may be without a node; what is below that is not
+    /// looked at.
     directories: Vec<Directory>,
-    /// Of each node: how many entries begin with its path; and how many have no further "/", to which the counts of its
-    /// subtrees are added in the end.
-    below: Vec<u64>,
-    parts: Vec<u64>,
     /// How many names have been passed.
-    passed: u64,
+    passed: u32,
+}
+
+/// What a pass finds out about a node.
+#[derive(Clone, Default)]
+struct Tally {
+    /// How many entries have names that begin with the node's path, and how many of these have no further "/".
+    entries: u32,
+    direct: u32,
+    /// How many of the node's subtrees have been passed.
+    subtrees: usize,
 }
 
 /// A directory that the pass is in: its node, how long its path is, and how many names stand before it.
 struct Directory {
     node: Option<usize>,
     length: usize,
-    first: u64,
+    first: u32,
 }
 
 /// Whether the counts of all valid nodes are right.
 pub fn right(entries: &Entries, tree: &Tree) -> bool {
-    let mut pass = Pass::new(tree);
+    let mut pass = Pass {
+        tree,
+        tallies: vec![Tally::default(); tree.nodes.len()],
+        path: Vec::new(),
+        directories: Vec::new(),
+        passed: 0,
+    };
     let mut before = Vec::new();
     for item in &entries.items {
         pass.add(entries.name(item, &mut before));
     }
     pass.leave(0);
-    pass.below[ROOT] = pass.passed;
-    pass.agrees()
+    pass.tallies[ROOT].entries = pass.passed;
+    let mut nodes = tree.nodes.iter().zip(&pass.tallies);
+    nodes.all(|(node, tally)| agrees(tree, node, tally))
 }
 
-impl<'t, 'a> Pass<'t, 'a> {
-    fn new(tree: &'t Tree<'a>) -> Self {
-        Self {
-            tree,
-            path: Vec::new(),
-            directories: Vec::new(),
-            below: vec![0; tree.nodes.len()],
-            parts: vec![0; tree.nodes.len()],
-            passed: 0,
-        }
-    }
+/// Whether a node has the right count, if it is valid, and nothing invalid below it.
+fn agrees(tree: &Tree, node: &Node, tally: &Tally) -> bool {
+    let Some(count) = node.count else {
+        return true;
+    };
+    let counts = node.subtrees.iter().map(|below| tree.nodes[*below].count);
+    let below: Option<u64> = counts.map(|count| count.map(u64::from)).sum();
+    let parts = below.map(|below| below + u64::from(tally.direct));
+    tally.entries == count && parts == Some(u64::from(count))
+}
 
+impl Pass<'_, '_> {
     /// The node of the directory that the pass is in.
     fn node(&self) -> Option<usize> {
         self.directories.last().map_or(Some(ROOT), |last| last.node)
@@ -62,7 +79,7 @@ impl<'t, 'a> Pass<'t, 'a> {
         }
         self.enter(name);
         if let Some(node) = self.node() {
-            self.parts[node] += 1;
+            self.tallies[node].direct += 1;
         }
         self.passed += 1;
     }
@@ -71,7 +88,7 @@ impl<'t, 'a> Pass<'t, 'a> {
     fn leave(&mut self, kept: usize) {
         while let Some(last) = self.directories.pop_if(|last| last.length > kept) {
             if let Some(node) = last.node {
-                self.below[node] += self.passed - last.first;
+                self.tallies[node].entries = self.passed - last.first;
             }
         }
         let length = self.directories.last().map_or(0, |last| last.length);
@@ -86,30 +103,25 @@ impl<'t, 'a> Pass<'t, 'a> {
                 return;
             };
             self.path.extend_from_slice(&rest[..=slash]);
-            self.directories.push(Directory {
-                node: self.tree.subtree(node, &rest[..slash]),
+            let directory = Directory {
+                node: self.subtree(node, &rest[..slash]),
                 length: self.path.len(),
                 first: self.passed,
-            });
+            };
+            self.directories.push(directory);
         }
     }
 
-    /// Whether each valid node has the right count, and nothing invalid below it. A node stands before its subtrees.
-    fn agrees(&mut self) -> bool {
-        let nodes = &self.tree.nodes;
-        for (i, node) in nodes.iter().enumerate().rev() {
-            let count = node.count.map(u64::from);
-            let right = match count {
-                Some(count) => self.below[i] == count && self.parts[i] == count,
-                None => i == ROOT || nodes[node.parent].count.is_none(),
-            };
-            if !right {
-                return false;
-            }
-            if i != ROOT {
-                self.parts[node.parent] += count.unwrap_or(0);
+    /// The subtree of a name, after those that have been passed: directories are entered in the order of the subtrees.
+    fn subtree(&mut self, node: usize, name: &[u8]) -> Option<usize> {
+        let tally = &mut self.tallies[node];
+        for below in &self.tree.nodes[node].subtrees[tally.subtrees..] {
+            match order(self.tree.name(*below), name) {
+                Ordering::Less => tally.subtrees += 1,
+                Ordering::Equal => return Some(*below),
+                Ordering::Greater => return None,
             }
         }
-        true
+        None
     }
 }

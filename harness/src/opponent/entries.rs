@@ -180,8 +180,7 @@ pub fn padded(before: usize, length: usize) -> usize {
 
 /// A number of 32 bits.
 pub fn long(bytes: &[u8], at: usize) -> u32 {
-    let [a, b] = [short(bytes, at), short(bytes, at + 2)];
-    u32::from(a) << 16 | u32::from(b)
+    u32::from_be_bytes([bytes[at], bytes[at + 1], bytes[at + 2], bytes[at + 3]])
 }
 
 fn short(bytes: &[u8], at: usize) -> u16 {
@@ -241,7 +240,7 @@ fn plain(body: &[u8], place: usize, start: usize, flags: u16) -> Result<(Item, u
     Ok((item, end))
 }
 
-/// Checks N and the name of an entry of version 4, and makes the name of the one before it; also how the two compare.
+/// Checks N and the name of an entry of version 4. Makes the name before into this one, and says how they compare.
 fn compressed(
     body: &[u8],
     place: usize,

@@ -54,7 +54,7 @@ pub fn entry(file: &[u8], work: &mut [u8], k: u32) -> EntryReply {
 
 /// Node `k` of the cache tree.
 pub fn tree_node(file: &[u8], work: &mut [u8], k: u32) -> NodeReply {
-    let shown = open(file, work).and_then(|contents| show_node(file, &contents, k));
+    let shown = open(file, work).and_then(|contents| show_node(&contents, k));
     shown.unwrap_or_else(|Refusal { number, place }| NodeReply {
         refusal: number,
         place,
@@ -110,7 +110,7 @@ pub fn remove(
 /// Whether a walk can go over the file, and where it starts.
 pub fn walk_start(file: &[u8], work: &mut [u8]) -> StartReply {
     let started = open(file, work).and_then(|contents| match contents.entries.version {
-        4 => Err(Refusal::of_request(refusal::VERSION)),
+        4 => Err(Refusal::whole(refusal::VERSION)),
         _ => Ok(contents.entries.items.len() as u32),
     });
     match started {
@@ -152,7 +152,7 @@ pub fn walk_next(file: &[u8], at: usize, left: u32) -> StepReply {
 fn open<'a>(file: &'a [u8], work: &mut [u8]) -> Result<Contents<'a>, Refusal> {
     let start = work
         .get_mut(..WORKSPACE)
-        .ok_or(Refusal::of_request(refusal::WORKSPACE_SMALL))?;
+        .ok_or(Refusal::whole(refusal::WORKSPACE_SMALL))?;
     start.fill(0);
     whole::read(file)
 }
@@ -198,16 +198,16 @@ fn show_entry(entries: &Entries, work: &mut [u8], k: u32) -> Result<EntryReply, 
     })
 }
 
-fn show_node(file: &[u8], contents: &Contents, k: u32) -> Result<NodeReply, Refusal> {
+fn show_node(contents: &Contents, k: u32) -> Result<NodeReply, Refusal> {
     let tree = contents.tree.as_ref().ok_or(Refusal::absent())?;
     let node = tree.nodes.get(k as usize).ok_or(Refusal::absent())?;
     Ok(NodeReply {
         name: in_file(node.place, node.length),
         level: node.level as u32,
         count: node.count.unwrap_or(0),
-        subtrees: node.subtrees,
+        subtrees: node.subtrees.len() as u32,
         valid: node.count.is_some(),
-        object: node.object(file),
+        object: tree.object(node),
         ..NodeReply::default()
     })
 }

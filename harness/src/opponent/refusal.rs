@@ -32,13 +32,13 @@ pub struct Refusal {
 }
 
 impl Refusal {
-    /// One of the request or of the file as a whole: its place is 0.
-    pub fn of_request(number: u32) -> Self {
+    /// One of the file as a whole or of the request: its place is 0.
+    pub fn whole(number: u32) -> Self {
         Self { number, place: 0 }
     }
 
     /// There is no such entry, node or record.
     pub fn absent() -> Self {
-        Self::of_request(ABSENT)
+        Self::whole(ABSENT)
     }
 }

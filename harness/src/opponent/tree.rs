@@ -1,6 +1,6 @@
 //! The cache tree.
 
-use std::collections::hash_map::{Entry, HashMap};
+use std::cmp::Ordering;
 use std::ops::Range;
 
 use nerupazhil::raw::DIGEST;
@@ -13,14 +13,11 @@ const LEVELS: usize = 128;
 /// The place of the root in the list of nodes.
 pub const ROOT: usize = 0;
 
-/// What the root has for a parent.
-const NONE: usize = usize::MAX;
-
-/// The nodes, top-down and depth first, and where the subtrees of each stand by their names.
-#[derive(Default)]
+/// The nodes, top-down and depth first.
 pub struct Tree<'a> {
+    /// The file up to the end of the data.
+    data: &'a [u8],
     pub nodes: Vec<Node>,
-    subtrees: HashMap<(usize, &'a [u8]), usize>,
 }
 
 /// A node: where its name stands in the file, and its object name if it is valid.
@@ -28,44 +25,37 @@ pub struct Node {
     pub place: usize,
     pub length: usize,
     pub level: usize,
-    pub parent: usize,
     /// The entry count of a valid node.
     pub count: Option<u32>,
-    pub subtrees: u32,
     object: usize,
-}
-
-/// A node of which so many subtrees are still to come.
-struct Open {
-    node: usize,
-    left: u32,
+    /// The subtrees by their places in the list of nodes, sorted by name as the entries are.
+    pub subtrees: Vec<usize>,
 }
 
 impl<'a> Tree<'a> {
     /// Reads the nodes that fill the data; nothing where they are malformed.
     pub fn read(file: &'a [u8], data: Range<usize>) -> Option<Self> {
-        let mut tree = Self::default();
-        let mut open = vec![Open {
-            node: NONE,
-            left: 1,
-        }];
-        let mut at = data.start;
-        while let Some(parent) = next_parent(&mut open) {
-            let level = open.len();
-            let (node, next) = node_at(&file[..data.end], at, parent, level)?;
-            open.push(Open {
-                node: tree.nodes.len(),
-                left: node.subtrees,
-            });
-            tree.add(file, node)?;
-            at = next;
-        }
-        (at == data.end).then_some(tree)
+        let mut tree = Self {
+            data: &file[..data.end],
+            nodes: Vec::new(),
+        };
+        let end = tree.read_node(data.start, 1)?;
+        (end == data.end).then_some(tree)
     }
 
-    /// The subtree of a name below a node.
-    pub fn subtree(&self, node: usize, name: &[u8]) -> Option<usize> {
-        self.subtrees.get(&(node, name)).copied()
+    /// The name of a node.
+    pub fn name(&self, node: usize) -> &'a [u8] {
+        let node = &self.nodes[node];
+        &self.data[node.place..node.place + node.length]
+    }
+
+    /// The object name of a node, zeros if it is invalid.
+    pub fn object(&self, node: &Node) -> [u8; DIGEST] {
+        let mut object = [0; DIGEST];
+        if node.count.is_some() {
+            object.copy_from_slice(&self.data[node.object..node.object + DIGEST]);
+        }
+        object
     }
 
     /// Makes invalid the root and each node on the way to a name's directory.
@@ -76,49 +66,47 @@ impl<'a> Tree<'a> {
         let mut node = ROOT;
         self.nodes[node].count = None;
         for component in components {
-            match self.subtree(node, component) {
-                Some(below) => node = below,
-                None => return,
-            }
+            let subtrees = &self.nodes[node].subtrees;
+            let found = subtrees.binary_search_by(|below| order(self.name(*below), component));
+            let Ok(place) = found else {
+                return;
+            };
+            node = subtrees[place];
             self.nodes[node].count = None;
         }
     }
 
-    /// Adds a node whose siblings have other names.
-    fn add(&mut self, file: &'a [u8], node: Node) -> Option<()> {
-        let name = &file[node.place..node.place + node.length];
-        match self.subtrees.entry((node.parent, name)) {
-            Entry::Vacant(vacant) => vacant.insert(self.nodes.len()),
-            Entry::Occupied(_) => return None,
-        };
+    /// Reads the node at a place and all below it, and answers the place after them.
+    fn read_node(&mut self, at: usize, level: usize) -> Option<usize> {
+        let (node, count, mut at) = node_at(self.data, at, level)?;
+        let index = self.nodes.len();
         self.nodes.push(node);
-        Some(())
-    }
-}
-
-impl Node {
-    /// The object name, zeros if the node is invalid.
-    pub fn object(&self, file: &[u8]) -> [u8; DIGEST] {
-        let mut object = [0; DIGEST];
-        if self.count.is_some() {
-            object.copy_from_slice(&file[self.object..self.object + DIGEST]);
+        let mut subtrees = Vec::new();
+        for _ in 0..count {
+            subtrees.push(self.nodes.len());
+            at = self.read_node(at, level + 1)?;
         }
-        object
+        subtrees.sort_by(|a, b| order(self.name(*a), self.name(*b)));
+        let mut pairs = subtrees.windows(2);
+        if pairs.any(|pair| self.name(pair[0]) == self.name(pair[1])) {
+            return None;
+        }
+        self.nodes[index].subtrees = subtrees;
+        Some(at)
     }
 }
 
-/// The parent of the next node. It stays open while its subtrees are read.
-fn next_parent(open: &mut Vec<Open>) -> Option<usize> {
-    while open.last()?.left == 0 {
-        open.pop();
-    }
-    let parent = open.last_mut()?;
-    parent.left -= 1;
-    Some(parent.node)
+/// How the names of two directories compare in the names of entries, where "/" follows them.
+pub fn order(one: &[u8], other: &[u8]) -> Ordering {
+    let both = one.len().min(other.len());
+    let next = |name: &[u8]| name.get(both).copied().unwrap_or(b'/');
+    one[..both]
+        .cmp(&other[..both])
+        .then(next(one).cmp(&next(other)))
 }
 
-/// The node at a place and the place after it.
-fn node_at(data: &[u8], place: usize, parent: usize, level: usize) -> Option<(Node, usize)> {
+/// The node at a place, the number of its subtrees, and the place after it.
+fn node_at(data: &[u8], place: usize, level: usize) -> Option<(Node, u32, usize)> {
     let end = nul(data, place)?;
     let name = &data[place..end];
     if level > LEVELS || name.is_empty() != (level == 1) || name.contains(&b'/') {
@@ -126,27 +114,24 @@ fn node_at(data: &[u8], place: usize, parent: usize, level: usize) -> Option<(No
     }
     let (count, at) = decimal(data, end + 1, b' ')?;
     let (subtrees, at) = decimal(data, at, b'\n')?;
-    let count = u32::try_from(count).ok();
-    let next = at + if count.is_some() { DIGEST } else { 0 };
     let node = Node {
         place,
         length: name.len(),
         level,
-        parent,
-        count,
-        subtrees: u32::try_from(subtrees).ok()?,
+        count: u32::try_from(count).ok(),
         object: at,
+        subtrees: Vec::new(),
     };
-    (next <= data.len()).then_some((node, next))
+    let next = at + if node.count.is_some() { DIGEST } else { 0 };
+    let subtrees = u32::try_from(subtrees).ok()?;
+    (next <= data.len()).then_some((node, subtrees, next))
 }
 
 /// The decimal number of 32 bits at a place, and the place after the byte that ends it.
 fn decimal(data: &[u8], at: usize, end: u8) -> Option<(i32, usize)> {
     const LONGEST: usize = "-2147483648".len();
-    let length = data[at..]
-        .iter()
-        .take(LONGEST + 1)
-        .position(|byte| *byte == end)?;
+    let mut bytes = data[at..].iter().take(LONGEST + 1);
+    let length = bytes.position(|byte| *byte == end)?;
     let text = &data[at..at + length];
     let digits = text.strip_prefix(b"-").unwrap_or(text);
     let plain = match digits {

@@ -30,9 +30,9 @@ pub struct Contents<'a> {
 /// Reads a file.
 pub fn read(file: &[u8]) -> Result<Contents<'_>, Refusal> {
     if file.len() > LONGEST {
-        return Err(Refusal::of_request(refusal::TOO_LONG));
+        return Err(Refusal::whole(refusal::TOO_LONG));
     }
-    let (version, count) = header(file).map_err(Refusal::of_request)?;
+    let (version, count) = header(file).map_err(Refusal::whole)?;
     let body = body(file);
     if plain::sha1(body) != file[body.len()..] {
         return Err(Refusal {

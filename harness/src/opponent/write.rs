@@ -38,17 +38,17 @@ pub fn edit(
     asked: u32,
     change: Option<Change>,
 ) -> Result<usize, Refusal> {
-    check_request(asked, change).map_err(Refusal::of_request)?;
-    let version = version(&contents, asked, change).map_err(Refusal::of_request)?;
+    check_request(asked, change).map_err(Refusal::whole)?;
+    let version = version(&contents, asked, change).map_err(Refusal::whole)?;
     if let (Some(tree), Some(change)) = (&mut contents.tree, change) {
         tree.invalidate(change.name);
     }
     let written = Writer::new(version).write(&contents, change);
-    let bytes = written.ok_or(Refusal::of_request(refusal::TOO_LONG))?;
-    let start = out.get_mut(..bytes.len());
-    start
-        .ok_or(Refusal::of_request(refusal::OUTPUT_SMALL))?
-        .copy_from_slice(&bytes);
+    let bytes = written.ok_or(Refusal::whole(refusal::TOO_LONG))?;
+    let start = out
+        .get_mut(..bytes.len())
+        .ok_or(Refusal::whole(refusal::OUTPUT_SMALL))?;
+    start.copy_from_slice(&bytes);
     Ok(bytes.len())
 }
 
@@ -112,16 +112,8 @@ fn compare(name: &[u8], stage: u32, change: Option<Change>) -> Ordering {
 
 /// The extended word of an entry, 0 where it needs none.
 fn word(fields: &Fields) -> u16 {
-    let skip = if fields.skip_worktree {
-        SKIP_WORKTREE
-    } else {
-        0
-    };
-    let intent = if fields.intent_to_add {
-        INTENT_TO_ADD
-    } else {
-        0
-    };
+    let skip = u16::from(fields.skip_worktree) * SKIP_WORKTREE;
+    let intent = u16::from(fields.intent_to_add) * INTENT_TO_ADD;
     skip | intent
 }
 
@@ -140,7 +132,7 @@ impl Writer {
         self.all_entries(contents, change)?;
         self.bytes[HEADER - 4..HEADER].copy_from_slice(&self.entries.to_be_bytes());
         if let Some(tree) = &contents.tree {
-            self.extension(b"TREE", &nodes(contents.file, tree));
+            self.extension(b"TREE", &nodes(tree));
         }
         if let Some(undo) = &contents.undo {
             // The records have no other spelling than that of the file.
@@ -209,13 +201,11 @@ impl Writer {
             .extend(numbers.iter().flat_map(|n| n.to_be_bytes()));
         self.bytes.extend(fields.object);
         let word = word(fields);
-        let mut flags = (fields.stage << STAGE_SHIFT) as u16 | name.len().min(LONG) as u16;
-        if fields.assume_valid {
-            flags |= ASSUME_VALID;
-        }
-        if word != 0 {
-            flags |= EXTENDED;
-        }
+        let assume_valid = u16::from(fields.assume_valid) * ASSUME_VALID;
+        let extended = u16::from(word != 0) * EXTENDED;
+        let stage = (fields.stage as u16) << STAGE_SHIFT;
+        let length = name.len().min(LONG) as u16;
+        let flags = assume_valid | extended | stage | length;
         self.bytes.extend(flags.to_be_bytes());
         if word != 0 {
             self.bytes.extend(word.to_be_bytes());
@@ -243,14 +233,14 @@ impl Writer {
 }
 
 /// The data of TREE.
-fn nodes(file: &[u8], tree: &Tree) -> Vec<u8> {
+fn nodes(tree: &Tree) -> Vec<u8> {
     let mut data = Vec::new();
-    for node in &tree.nodes {
-        data.extend_from_slice(&file[node.place..node.place + node.length]);
+    for (i, node) in tree.nodes.iter().enumerate() {
+        data.extend_from_slice(tree.name(i));
         let count = node.count.map_or(-1, i64::from);
-        data.extend(format!("\0{count} {}\n", node.subtrees).bytes());
+        data.extend(format!("\0{count} {}\n", node.subtrees.len()).bytes());
         if node.count.is_some() {
-            data.extend(node.object(file));
+            data.extend(tree.object(node));
         }
     }
     data

@@ -3,7 +3,7 @@
 use std::fmt::Debug;
 use std::fs;
 
-use harness::index_file::{node, OBJECT};
+use harness::index_file::{letters, node, File, LARGEST, OBJECT};
 use harness::{ffi, opponent};
 use nerupazhil::raw::{Fields, DIGEST, WORKSPACE};
 
@@ -187,6 +187,27 @@ fn all_cuts_of_small_files() {
             all_calls(&sealed);
         }
     }
+}
+
+#[test]
+fn results_at_the_limit() {
+    for (last, length, refusal) in [(929, LARGEST, 0), (930, 0, 2)] {
+        let file = &file_near_limit(last)[..];
+        let reply = both!(file, LARGEST, |work, out| rewrite(file, work, out, 2));
+        assert_eq!((reply.length, reply.refusal), (length, refusal));
+        let reply = both!(file, 99, |work, out| rewrite(file, work, out, 0));
+        assert_eq!(reply.refusal, if refusal == 0 { 20 } else { 2 });
+    }
+}
+
+/// A file of version 4 that has just the longest length in version 2 where its last name has 922 to 929 bytes.
+fn file_near_limit(last: usize) -> Vec<u8> {
+    let mut file = File::new(4);
+    for i in 0..2032 {
+        file.entry(&[&[b'n'; 8180][..], &letters(i, 10)].concat());
+    }
+    file.entry(&vec![b'z'; last]);
+    file.finish()
 }
 
 #[test]
