@@ -1,5 +1,6 @@
 //! Index files, laid out for tests and benchmarks.
 
+use crate::ffi::Fields;
 use crate::plain;
 
 /// The most bytes that an index may have.
@@ -84,6 +85,15 @@ pub fn padding(length: usize) -> usize {
     8 - length % 8
 }
 
+/// The fields of an entry for a file.
+pub fn list_entry() -> Fields {
+    Fields {
+        mode: 0o100644,
+        object: OBJECT,
+        ..Fields::default()
+    }
+}
+
 /// A node: name, NUL, count, space, subtrees, LF, and an object name where the count is not negative.
 pub fn node(data: &mut Vec<u8>, name: &[u8], count: i64, subtrees: usize) {
     data.extend(name);
@@ -103,26 +113,116 @@ pub fn letters(mut i: usize, width: usize) -> Vec<u8> {
     name
 }
 
-/// A file as Git keeps for a large repository: directories of twenty files each, with a cache tree of valid nodes in
-/// the index's order. It has at most so many bytes.
-pub fn everyday(version: u32, most: usize) -> Vec<u8> {
-    const FILES: usize = 20;
-    // More than the entries of a directory and its node take, and than what stands around all of them.
-    const DIRECTORY: usize = 2048;
-    let mut file = File::new(version);
-    let mut nodes = Vec::new();
-    let mut directories = 0;
-    while file.bytes.len() + nodes.len() + 2 * DIRECTORY < most {
-        let directory = letters(directories, 6);
-        for i in 0..FILES {
-            file.entry(&[&directory[..], b"/list-", &letters(i, 4), b".txt"].concat());
-        }
-        node(&mut nodes, &directory, FILES as i64, 0);
-        directories += 1;
+/// How the subtrees of a node are ordered: as the index shows them first, or as Git writes them, by length and then by
+/// bytes.
+#[derive(Clone, Copy)]
+pub enum Order {
+    Index,
+    Git,
+}
+
+/// How many subdirectories a directory has, by its level, the root first: as many as a file takes, without any below
+/// them or with two levels below them.
+pub const FLAT: &[usize] = &[usize::MAX];
+pub const NESTED: &[usize] = &[usize::MAX, 12, 12];
+
+/// A file as Git keeps it for a large repository, to be laid out: twenty files in each directory, and a cache tree of
+/// valid nodes. It takes the most entries that fit both limits.
+pub struct Repository {
+    pub version: u32,
+    pub widths: &'static [usize],
+    pub order: Order,
+    pub most_entries: usize,
+    pub most_bytes: usize,
+}
+
+impl Repository {
+    /// The file, and the names of its entries.
+    pub fn lay_out(&self) -> (Vec<u8>, Vec<Vec<u8>>) {
+        let mut entries = Entries {
+            plan: self,
+            file: File::new(self.version),
+            names: Vec::new(),
+        };
+        entries.directory(b"", self.widths);
+        let Entries {
+            mut file, names, ..
+        } = entries;
+        let slices: Vec<&[u8]> = names.iter().map(Vec::as_slice).collect();
+        let mut data = Vec::new();
+        full_tree(&mut data, b"", &slices, self.order);
+        file.extension(b"TREE", &data);
+        (file.finish(), names)
     }
-    let mut data = Vec::new();
-    node(&mut data, b"", (directories * FILES) as i64, directories);
-    data.extend(nodes);
-    file.extension(b"TREE", &data);
-    file.finish()
+}
+
+/// The entries of a repository, as far as they are laid out.
+struct Entries<'a> {
+    plan: &'a Repository,
+    file: File,
+    names: Vec<Vec<u8>>,
+}
+
+impl Entries<'_> {
+    /// The entries below a path, in the index's order: those of the subdirectories, then the files.
+    fn directory(&mut self, path: &[u8], widths: &[usize]) {
+        if let Some((&width, below)) = widths.split_first() {
+            let mut i = 0;
+            while i < width && !self.full() {
+                self.directory(&[path, &directory_name(i), b"/"].concat(), below);
+                i += 1;
+            }
+        }
+        self.files(path);
+    }
+
+    fn files(&mut self, path: &[u8]) {
+        for i in 0..20 {
+            if self.full() {
+                return;
+            }
+            let name = [path, b"list-", &letters(i, 4), b".txt"].concat();
+            self.file.entry(&name);
+            self.names.push(name);
+        }
+    }
+
+    /// An entry's share of the nodes takes less than 2 bytes.
+    fn full(&self) -> bool {
+        let bytes = self.file.bytes.len() + 2 * self.names.len();
+        self.names.len() == self.plan.most_entries || bytes + 1024 > self.plan.most_bytes
+    }
+}
+
+/// A name of 4 to 16 bytes. Names rise with i, but their lengths do not.
+fn directory_name(i: usize) -> Vec<u8> {
+    [&letters(i, 4), &b"-cutting-list"[..i * 5 % 13]].concat()
+}
+
+/// The valid node of a directory and all below it, from the names of its entries, as they stand after its path.
+fn full_tree(data: &mut Vec<u8>, name: &[u8], names: &[&[u8]], order: Order) {
+    let mut subtrees = subdirectories(names);
+    if let Order::Git = order {
+        subtrees.sort_by_key(|(directory, _)| (directory.len(), *directory));
+    }
+    node(data, name, names.len() as i64, subtrees.len());
+    for (directory, below) in subtrees {
+        full_tree(data, directory, &below, order);
+    }
+}
+
+/// The subdirectories in rising names, each with the names below it.
+fn subdirectories<'a>(names: &[&'a [u8]]) -> Vec<(&'a [u8], Vec<&'a [u8]>)> {
+    let mut found: Vec<(&[u8], Vec<&[u8]>)> = Vec::new();
+    for name in names {
+        let Some(slash) = name.iter().position(|&byte| byte == b'/') else {
+            continue;
+        };
+        let (directory, below) = (&name[..slash], &name[slash + 1..]);
+        match found.last_mut() {
+            Some((last, names)) if *last == directory => names.push(below),
+            _ => found.push((directory, vec![below])),
+        }
+    }
+    found
 }

@@ -1,5 +1,5 @@
-//! What the tests and the benchmark share: the calls of the proved library, and the plain Rust that they are
-//! compared with.
+//! What the tests and the benchmark share: the calls of the proved library, the plain Rust that they are compared with,
+//! files to try them on, and how time and stack are measured.
 
 #![deny(warnings)]
 
@@ -11,4 +11,6 @@ pub mod lent;
 pub mod opponent;
 pub mod plain;
 pub mod random;
+pub mod stack;
+pub mod timing;
 pub mod vectors;

@@ -39,30 +39,46 @@ fn pad(rest: &[u8], length: usize) -> ([u8; 2 * BLOCK], usize) {
     (padded, end)
 }
 
-/// The hash value after one more block (6.1.2).
+/// The hash value after one more block (6.1.2). Four loops: one loop that chooses the function by the round's number is
+/// slower.
 fn compress(state: [u32; 5], block: &[u8]) -> [u32; 5] {
     let w = schedule(block);
-    let [mut a, mut b, mut c, mut d, mut e] = state;
-    for (t, word) in w.iter().enumerate() {
-        let (f, k) = match t {
-            0..=19 => ((b & c) ^ (!b & d), 0x5a827999),
-            20..=39 => (b ^ c ^ d, 0x6ed9eba1),
-            40..=59 => ((b & c) ^ (b & d) ^ (c & d), 0x8f1bbcdc),
-            _ => (b ^ c ^ d, 0xca62c1d6_u32),
-        };
-        let sum = a.rotate_left(5).wrapping_add(f).wrapping_add(e);
-        let sum = sum.wrapping_add(k).wrapping_add(*word);
-        e = d;
-        d = c;
-        c = b.rotate_left(30);
-        b = a;
-        a = sum;
+    let mut s = state;
+    for &word in &w[..20] {
+        s = round(s, ch(s[1], s[2], s[3]), 0x5a827999, word);
     }
-    let mut next = state;
-    for (word, sum) in next.iter_mut().zip([a, b, c, d, e]) {
-        *word = word.wrapping_add(sum);
+    for &word in &w[20..40] {
+        s = round(s, parity(s[1], s[2], s[3]), 0x6ed9eba1, word);
     }
-    next
+    for &word in &w[40..60] {
+        s = round(s, maj(s[1], s[2], s[3]), 0x8f1bbcdc, word);
+    }
+    for &word in &w[60..] {
+        s = round(s, parity(s[1], s[2], s[3]), 0xca62c1d6, word);
+    }
+    for (sum, word) in s.iter_mut().zip(state) {
+        *sum = sum.wrapping_add(word);
+    }
+    s
+}
+
+/// One round (6.1.2, step 3) with the value of its function and its constant.
+fn round([a, b, c, d, e]: [u32; 5], f: u32, k: u32, word: u32) -> [u32; 5] {
+    let sum = a.rotate_left(5).wrapping_add(f).wrapping_add(e);
+    let sum = sum.wrapping_add(k).wrapping_add(word);
+    [sum, a, b.rotate_left(30), c, d]
+}
+
+fn ch(x: u32, y: u32, z: u32) -> u32 {
+    (x & y) ^ (!x & z)
+}
+
+fn parity(x: u32, y: u32, z: u32) -> u32 {
+    x ^ y ^ z
+}
+
+fn maj(x: u32, y: u32, z: u32) -> u32 {
+    (x & y) ^ (x & z) ^ (y & z)
 }
 
 /// The message schedule of a block (6.1.2, step 1).

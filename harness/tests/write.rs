@@ -2,7 +2,8 @@
 
 #![deny(warnings)]
 
-use harness::{ffi, hostile, index_file};
+use harness::index_file::{self, list_entry};
+use harness::{ffi, hostile};
 use nerupazhil::raw;
 use std::ptr::{null, null_mut};
 use std::thread;
@@ -13,14 +14,6 @@ fn refused(number: u32) -> ffi::WriteReply {
         refusal: number,
         place: 0,
         length: 0,
-    }
-}
-
-fn list_entry() -> ffi::Fields {
-    ffi::Fields {
-        mode: 0o100644,
-        object: index_file::OBJECT,
-        ..ffi::Fields::default()
     }
 }
 
@@ -94,7 +87,7 @@ fn deep_trees_need_little_stack() {
 /// A file of version 4 with long names would have gigabytes in version 2.
 #[test]
 fn a_result_far_too_long_is_refused() {
-    let file = hostile::long_names(8000);
+    let file = hostile::long_names(8000, index_file::LARGEST);
     let mut work = vec![0; ffi::WORKSPACE];
     assert_eq!(ffi::rewrite(&file, &mut work, &mut [], 2), refused(2));
 }
