@@ -3,24 +3,19 @@ use mathlib.Core.Path.{_≡_, refl, sym, ap, _∙_}
 use mathlib.Core.List.{List}
 use mathlib.Core.Bool.{Bool, true, false, _&&_}
 use mathlib.Core.Option.{Option, none, some}
-use Prim.Native.Nat.{ℕ, zero, suc, _<_}
+use Prim.Native.Nat.{ℕ, zero, suc}
 use native.Mathlib.Omega.{arith}
-use lib.ListN.{length, getD, drop}
+use lib.ListN.{length, drop}
 use lib.Dec.{eqb, leb, ltb}
 use Rattle.format.specs.Bytes.{before, decimal, value}
 use Rattle.format.specs.Records as Records
-use Rattle.format.specs.Records.{Forest, Tree, Item, treeItems}
+use Rattle.format.specs.Records.{Forest, Tree}
 use Rattle.format.specs.Layout.{okNodeName, distinct}
 use Rattle.format.specs.Reading.{Read, bad, good, need, shift, bind}
 use Rattle.format.specs.Reader.{readText, countIn, needSome, readCount, readSubtrees, readObject, readNode, readSiblings, readForest, readNodes}
-use Rattle.format_laws.proofs.Readings.{bad-good, need-inv, bind-inv}
 use Rattle.cache_tree.specs.declared.TreeRead.{TreeRead}
 use Rattle.cache_tree.specs.declared.TreeRead.the-variants as T
-use Rattle.cache_tree.specs.Answers.{levelIn}
-use Rattle.cache_tree.specs.Flat.{placeOf}
 use Rattle.cache_tree.specs.Shape.{readShape, treeOf, placed}
-use Rattle.cache_tree.proofs.Flat.{Shown}
-use Rattle.cache_tree.proofs.Shape.{tree-item, level-is}
 
 shift-placed : {A : Type 0} (p m : ℕ) (r : Read A) → shift m (placed p r) ≡ placed p (shift m r)
 unfolding shift
@@ -117,23 +112,3 @@ tree-fault want p d e = shape-placed p 20 d ∙ by (readShape 20 0 d) (e ∙ sym
     by : (x : Read Tree) → T.Bad ≡ treeOf want d x → placed p x ≡ bad 15 p
     by (bad n q) e = refl
     by (good t m) e = let z : _≡_ {A = ℕ} 0 1 = cc in absurd (omega arith)
-
--- ---- node number k of accepted data
-
-good-placed : {A : Type 0} (p m : ℕ) (a : A) (x : Read A) → placed p x ≡ good a m → x ≡ good a m
-good-placed p m a (bad n q) e = bad-good 15 p a m e
-good-placed p m a (good b k) e = e
-
-shape-nodes : {X : Type 0} (p : ℕ) (d : List ℕ) (t : Tree) (m : ℕ) → readShape 20 p d ≡ good t m → ((n : ℕ) → readNodes 20 0 d ≡ good t n → X) → X
-unfolding readShape
-shape-nodes p d t m e f =
-    bind-inv (readNodes 20 p d) _ t m e λ u a i q r is.
-    need-inv (eqb a (length d)) 15 p _ t i r λ whole r₁.
-    need-inv (distinct (u .subtrees)) 15 p _ t i r₁ λ differs r₂.
-    let same : u ≡ t = cc in
-    f a (good-placed p a t (readNodes 20 0 d) (sym (nodes-placed p 20 d) ∙ q ∙ ap (λ (v : Tree). good v a) same))
-
--- the item is the node that is read where k nodes have passed, and its level is the answer's
-pub tree-node : (p : ℕ) (d : List ℕ) (t : Tree) (m : ℕ) → readShape 20 p d ≡ good t m → (k : ℕ) (z : Item) → k < length (treeItems t)
-    → Shown (drop (placeOf k d) d) (getD (treeItems t) k z) × (levelIn (suc k) (treeItems t) ≡ getD (treeItems t) k z .level)
-tree-node p d t m e k z lt = (shape-nodes p d t m e (λ n q. tree-item d t n q k z lt), level-is k (treeItems t) z lt)

@@ -16,6 +16,7 @@ use Rattle.format.specs.Names.{compare, common, isBelow}
 use Rattle.format_laws.proofs.Tests.{then-inv}
 use Rattle.format_laws.proofs.Lists.{eqList-true}
 use Rattle.format_laws.proofs.Names.{compare-append, common-take, common-ends}
+use Rattle.format_laws.proofs.Orders.{through, names-through, compare-self}
 use Rattle.cache_tree.specs.Flat.{hasName, namesDiffer}
 use Rattle.cache_tree.specs.Orders.{firstBelow, slashBelow, lengthBelow, nameBelow, risesFrom}
 
@@ -93,17 +94,18 @@ compare-ending : (s : List ℕ) → isBelow (compare [] (s ++ (47 ∷ []))) ≡ 
 compare-ending [] = compare-begun 47 []
 compare-ending (x ∷ s) = compare-begun x (s ++ (47 ∷ []))
 
-compare-trans : (s t u : List ℕ) → isBelow (compare s t) ≡ true → isBelow (compare t u) ≡ true → isBelow (compare s u) ≡ true
-compare-trans s t [] h k = absurd (true≢false (sym k ∙ compare-ended t))
-compare-trans s [] (z ∷ u) h k = absurd (true≢false (sym h ∙ compare-ended s))
-compare-trans [] (y ∷ t) (z ∷ u) h k = compare-begun z u
-compare-trans (x ∷ s) (y ∷ t) (z ∷ u) h k =
-    compare-first x z s u ∙ first-trans x y z _ _ _ (compare-trans s t u) (sym (compare-first x y s t) ∙ h) (sym (compare-first y z t u) ∙ k)
+not-above : (o : Order) → isBelow o ≡ true → o ≡ Above → ⊥
+not-above o h e = true≢false (sym h ∙ ap isBelow e)
 
-compare-self : (s : List ℕ) → compare s s ≡ Same
-unfolding compare
-compare-self [] = refl
-compare-self (x ∷ s) = let l : x ≤ x = omega arith in rw (le-ltb x x l) (compare-self s)
+through-below : (o p : Order) → isBelow p ≡ true → isBelow (through o p) ≡ true
+unfolding through
+through-below Below p h = refl
+through-below Same p h = h
+through-below Above p h = h
+
+compare-trans : (s t u : List ℕ) → isBelow (compare s t) ≡ true → isBelow (compare t u) ≡ true → isBelow (compare s u) ≡ true
+compare-trans s t u h k =
+    ap isBelow (names-through s t u (not-above (compare s t) h) (not-above (compare t u) k) .order) ∙ through-below (compare s t) (compare t u) k
 
 -- ---- both orders
 

@@ -2,7 +2,7 @@
 use mathlib.Core.Path.{_≡_, refl, sym, ap, _∙_}
 use mathlib.Core.Logic.{_⊎_, inl, inr}
 use mathlib.Core.Bool.{Bool, true, false, cond}
-use mathlib.Core.List.{List, [], _∷_, _++_, append-assoc}
+use mathlib.Core.List.{List, _++_, append-assoc}
 use mathlib.Core.Option.{Option, none, some}
 use Prim.Native.Nat.{ℕ, zero, suc, _-_, _≤_, _<_}
 use native.Mathlib.Omega.{arith}
@@ -12,17 +12,17 @@ use lib.Dec.{eqb, leb}
 use borrow.Author.Tests.{leb-true}
 use Rattle.format.specs.Bytes.{Bytes}
 use Rattle.format.specs.Names.{okName}
-use Rattle.format.specs.Records.{Key, Records, Entry, Item, Undo}
+use Rattle.format.specs.Records.{Key, Records, Entry}
 use Rattle.format.specs.Layout.{Entries, entries-end, entries-more, Spells}
 use Rattle.format.specs.Reading.{Read, bad, good}
 use Rattle.format.specs.Reader.{Contents, readFile}
 use Rattle.file.specs.declared.Summary.{Summary}
 use Rattle.file.specs.declared.Checked.{Checked}
 use Rattle.file.specs.declared.Checked.the-variants.{Refused, Accepted}
-use Rattle.file.specs.Answers.{tooSmall, cleared, holding, workAfter, refused, inWorkspace, treeCount, undoCount, summaryOf, checkedOf, checkAnswer, given, entryAnswer, nodeAnswer, undoAnswer, View, pick, listed, itemsOf, entryOf, nodeOf, undoOf}
+use Rattle.file.specs.Answers.{tooSmall, cleared, holding, workAfter, refused, inWorkspace, summaryOf, checkedOf, checkAnswer, given, entryAnswer, nodeAnswer, undoAnswer, View, pick, listed, itemsOf, entryOf, nodeOf, undoOf}
 use Rattle.format_laws.proofs.Tests.{and-inv}
 use Rattle.format_laws.proofs.Numbers.{bytes-take}
-use Rattle.spelling.proofs.File.{contentsOf, spelled-read, read-spelled, one, cut}
+use Rattle.spelling.proofs.File.{contentsOf, spelled-read, read-spelled, cut}
 use Rattle.file.specs.Writing.{answered, rewriteAnswer, putAnswer, removeAnswer}
 use Rattle.demands.proofs.Statements.{check, entry, node, undo, rewrite, put, remove}
 
@@ -146,9 +146,6 @@ module _ (w : ℕ) (hash : List ℕ → List ℕ) (work : List ℕ) (width : (b 
   -- ---- demand 3
 
   module _ (f : List ℕ) (r : Records) (h : Spells w hash r f) where
-    contents : Contents
-    contents = contentsOf (h .body-is)
-
     pub checked : check w hash work f ≡ Accepted (summaryOf (contentsOf (h .body-is)))
     checked = check-is work room (readFile w hash f) ∙ ap checkedOf (spelled-read w hash width r f h)
 

@@ -2,11 +2,11 @@
 -- to 95 bytes refused. The cut's checksum reads, in the whole file, as the head of an extension that is passed over. And a file of version 4,
 -- whose entry is shown in the workspace. The first file is rewritten.
 use mathlib.Core.Path.{_≡_, refl}
-use mathlib.Core.List.{List, [], _∷_, _++_}
+use mathlib.Core.List.{List, [], _∷_}
 use mathlib.Core.Bool.{Bool, true, false, _&&_}
-use Prim.Native.Nat.{ℕ, zero, suc, _<_}
+use Prim.Native.Nat.{ℕ, zero, suc}
 use native.Mathlib.Omega.{arith}
-use lib.ListN.{length, take, getD, replicate}
+use lib.ListN.{take, replicate}
 use lib.Dec.{ltb}
 use borrow.Author.Tests.{ltb-true}
 use Rattle.hash_words.specs.Padding.{be64, padded, pad}
@@ -16,7 +16,7 @@ use Rattle.format.specs.Bytes.{Bytes, put16, put32, put32s, be16, be32, be32s, 
 use Rattle.format.specs.Names.{componentsFrom, components, okComponent, okComponents, okName, lengthField, compare}
 use Rattle.format.specs.Layout.{okMode, fixedLength, entryLength, flagsOf, wordOf, okNodeName, has, distinct, under, inside, files, allValid, sum, okCount, okCounts, okTreeCounts, modeText, someStage, optional, trees, undos, names, Spells}
 use Rattle.format.specs.Reading.{good, need, shift, bind}
-use Rattle.format.specs.Reader.{Contents, isSet, okWord, plainLength, readPlain, readN, joined, readSuffix, readPacked, readName, entryOf, readTail, readFixed, readEntry, readEntries, readText, countIn, needSome, readCount, readSubtrees, readObject, readNode, readSiblings, readForest, readNodes, readTree, modeIn, readMode, readStage, readStages, readUndo, readUndos, readData, readExtension, readExtensions, readBody, readFile}
+use Rattle.format.specs.Reader.{isSet, okWord, plainLength, readPlain, readN, joined, readSuffix, readPacked, readName, entryOf, readTail, readFixed, readEntry, readEntries, readText, countIn, needSome, readCount, readSubtrees, readObject, readNode, readSiblings, readForest, readNodes, readTree, modeIn, readMode, readStage, readStages, readUndo, readUndos, readData, readExtension, readExtensions, readBody, readFile}
 use Rattle.format.specs.Records.{Records, Entry}
 use Rattle.file.specs.declared.Summary.{Summary}
 use Rattle.file.specs.declared.Count.the-variants.{Absent}

@@ -1,17 +1,17 @@
 -- The proofs of the demands on what is written: the laws of crate writing, for the answers of the calls.
-use mathlib.Core.Path.{_≡_, refl, sym, ap, _∙_}
-use mathlib.Core.Bool.{Bool, true, false, cond}
-use mathlib.Core.List.{List, _++_}
+use mathlib.Core.Path.{_≡_, refl, sym, _∙_}
+use mathlib.Core.Bool.{true, false}
+use mathlib.Core.List.{List}
 use Prim.Native.Nat.{ℕ}
 use lib.ListN.{length, take, drop}
 use lib.Seq.{take-at, drop-at}
 use Rattle.format.specs.Bytes.{Bytes, fit32}
 use Rattle.format.specs.Records.{Records, Entry, Key}
-use Rattle.format.specs.Reading.{Read, bad, good}
+use Rattle.format.specs.Reading.{Read, good}
 use Rattle.format.specs.Reader.{Contents, readFile}
 use Rattle.format.specs.Requests.{putRecord, removeRecord, versionFor, rewriteRequest, putRequest, removeRequest}
 use Rattle.file.specs.Answers.{tooSmall}
-use Rattle.file.specs.Writing.{requested, answered, rewriteAnswer, putAnswer, removeAnswer, outputAfter}
+use Rattle.file.specs.Writing.{answered, rewriteAnswer, putAnswer, removeAnswer, outputAfter}
 use Rattle.writing.specs.Sound.{Sound}
 use Rattle.writing.proofs.File.{read-sound}
 use Rattle.writing.proofs.Answers.{Answered, answered-spelled, answered-read, rewrite-answers, put-answers, remove-answers}

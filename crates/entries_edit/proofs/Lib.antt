@@ -1,3 +1,2 @@
 -- Laws of entries that are edited.
-pub mod Puts
 pub mod Ways

@@ -22,17 +22,20 @@ use Rattle.entries_run.specs.declared.Cursor.{Cursor}
 use Rattle.entries_run.specs.declared.Step.{Step}
 use Rattle.entries_run.specs.declared.Next.the-variants as N
 use Rattle.entries_run.specs.Steps.{nameAt, keyAt, entryAt, Inside, Stepped, firstCursor, runFrom}
+use Rattle.entries_run.proofs.Names.{nameAt-length}
 use Rattle.entries_run.proofs.Steps.{entries-bad, entries-good, run-first, run-none, entryAt-name}
 use Rattle.entries_write.specs.declared.Progress.{Progress}
 use Rattle.entries_write.specs.Parts.{Kept, Beside, lastName, EntryWritten, EntriesWritten}
-use Rattle.entries_write.proofs.Names.{common-le, nameAt-length}
 use Rattle.entries_write.proofs.Lists.{entries-append, anyWord-append}
 use Rattle.entries_write.proofs.Stepping.{step-found, step-name, step-keeps, step-beside, step-common}
-use Rattle.entries_place.specs.Places.{rising}
+use Rattle.format_laws.proofs.Names.{common-le}
 use Rattle.format_laws.proofs.Orders.{common-through}
 use Rattle.format_laws.proofs.Keys.{before-name}
+use Rattle.entries_place.specs.Places.{rising}
 use Rattle.entries_place.proofs.Places.{read-rising}
 use Rattle.entries_place.proofs.Finding.{key-at}
+use Rattle.file.specs.declared.Fields.{Fields}
+use Rattle.file.specs.Answers.{entryWith}
 use Rattle.entries_edit.specs.declared.Edit.{Edit}
 use Rattle.entries_edit.specs.declared.Edit.the-variants as E
 use Rattle.entries_edit.specs.declared.Laid.{Laid}
@@ -302,6 +305,12 @@ kept-laid {v} {b} {work} {count} {version} {out} {at} h e =
     edited-laid v b work count E.Keep e version out at count (omega arith)
     (λ es m q same. rw (first-name v b work) at (all-laid h es m (run-first v count b work ∙ q)))
     (all-leaves h)
+
+-- whether the entry that is put, one in front of it or one of the others needs the extended word
+pub put-word : (x : Fields) (name : List ℕ) (front word rest others all : Bool) → word ≡ (x .«skip_worktree» || x .«intent_to_add») → others ≡ (word || rest)
+    → all ≡ (front || others) → all ≡ (front || (needsWord (entryWith x name) || rest))
+unfolding needsWord
+put-word x name front word rest others all is more whole = whole ∙ ap (λ (t : Bool). front || t) (more ∙ ap (λ (t : Bool). t || rest) is)
 
 -- the first k of them, then a change
 module _ {v : ℕ} {b work : List ℕ} (count : ℕ) {k version : ℕ} {out : List ℕ} {at : ℕ} {work₁ out₁ : List ℕ} {p : Progress} (few : k ≤ count)

@@ -1,16 +1,14 @@
 // The entries of a body, written with one of them put or removed, or as they are.
 ghost use mathlib.Core.Path.{_≡_};
 ghost use mathlib.Core.Bool.{true, false, _||_};
-ghost use mathlib.Core.List.{List, [], _∷_, _++_};
+ghost use mathlib.Core.List.{List};
 ghost use Prim.Native.Nat.{ℕ, _+_, _*_, _≤_, min};
 ghost use lib.ListN.{length};
-ghost use Rattle.format.specs.Bytes.{put32s};
 ghost use Rattle.format.specs.Names as Names;
 ghost use Rattle.format.specs.Records.{Entry};
 ghost use Rattle.format.specs.Layout.{bit};
-ghost use Rattle.output.specs.Output.{Wrote};
 ghost use Rattle.entries_run.specs.Steps.{Room, Inside, Placed, keyAt, entryAt};
-ghost use Rattle.entries_write.specs.Parts.{Kept, EntryWritten};
+ghost use Rattle.entries_write.specs.Parts.{Kept};
 ghost use Rattle.file.specs.Answers.{entryWith};
 ghost use Rattle.entries_edit.specs.declared.Edit.the-variants as E;
 ghost use Rattle.entries_edit.specs.Edits.{passes, StepLaid, OthersLaid, PastLaid, RemovedLaid, EntriesEdited};
@@ -32,76 +30,6 @@ pub struct Laid {
     pub extended: bool,
 }
 
-// ---- the entry that is put
-
-// Five 32-bit numbers.
-fn put_five(out: &mut [u8], at: usize, a: u32, b: u32, c: u32, d: u32, e: u32) -> usize
-    requires { ⌜ at + 20 ≤ 1125899906842624 ⌝ }
-    ensures { λ r. ⌜ Wrote (now (out .entry)) at (put32s (a ∷ b ∷ c ∷ d ∷ e ∷ [])) (now (out .exit)) r × (r ≡ at + 20) ⌝ }
-{
-    let second = output::put_32(&mut *out, at, a);
-    let third = output::put_32(&mut *out, second, b);
-    let fourth = output::put_32(&mut *out, third, c);
-    let fifth = output::put_32(&mut *out, fourth, d);
-    output::put_32(out, fifth, e)
-}
-
-// The ten numbers and the object name.
-fn put_fields(out: &mut [u8], at: usize, fields: Fields) -> usize
-    requires { ⌜ at + 60 ≤ 1125899906842624 ⌝ }
-    ensures { λ r. ⌜ Wrote (now (out .entry)) at (put32s (entryWith fields [] .numbers) ++ fields .object) (now (out .exit)) r × (r ≡ at + 60) ⌝ }
-{
-    let middle = put_five(
-        &mut *out,
-        at,
-        fields.ctime_seconds,
-        fields.ctime_nanoseconds,
-        fields.mtime_seconds,
-        fields.mtime_nanoseconds,
-        fields.dev,
-    );
-    let end = put_five(
-        &mut *out,
-        middle,
-        fields.ino,
-        fields.mode,
-        fields.uid,
-        fields.gid,
-        fields.size,
-    );
-    let object = fields.object;
-    output::put_bytes(out, end, &object)
-}
-
-// A bit of this value, where it is set.
-fn bit_of(set: bool, value: u32) -> u32
-    ensures { λ r. ⌜ r ≡ bit set * value ⌝ }
-{
-    if set {
-        return value;
-    }
-    0
-}
-
-// An entry of these fields and this name, after a name of so many bytes, of which it keeps the first.
-fn put_record(
-    out: &mut [u8],
-    at: usize,
-    version: u32,
-    fields: Fields,
-    name: &[u8],
-    previous: usize,
-    kept: usize,
-) -> usize
-    requires { ⌜ (at + 8264 ≤ 1125899906842624) × (fields .stage ≤ 3) × Kept (now name) previous kept ⌝ }
-    ensures { λ r. ⌜ EntryWritten (now (out .entry)) at version (entryWith fields (now (name .entry))) previous kept (now (out .exit)) r ⌝ }
-{
-    let middle = put_fields(&mut *out, at, fields);
-    let base = bit_of(fields.assume_valid, 32768) + fields.stage * 4096;
-    let word = bit_of(fields.skip_worktree, 16384) + bit_of(fields.intent_to_add, 8192);
-    entries_write::put_rest(out, middle, version, base, word, name, previous, kept)
-}
-
 // ---- names
 
 // How many bytes the name before a cursor, in the workspace in version 4, else in the body, and a name have in common.
@@ -109,7 +37,7 @@ fn common_at<'a>(b: &'a [u8], v: u32, work: &'a [u8], c: Cursor, name: &[u8]) ->
     requires { ⌜ Inside (now b) c × (8192 ≤ length (now work)) ⌝ }
     ensures { λ r. ⌜ r ≡ Names.common (keyAt v (now (b .entry)) (now (work .entry)) c .name) (now (name .entry)) ⌝ }
 {
-    fields::common(entries_write::name_at(b, v, work, c.start, c.len), name)
+    fields::common(entries_run::name_at(b, v, work, c.start, c.len), name)
 }
 
 // The smaller of two numbers.
@@ -391,7 +319,15 @@ fn put_with(
     let front = entries_write::put_entries(b, v, &mut *work, start, k, version, &mut *out, at);
     let c = front.cursor;
     let kept = common_at(b, v, &*work, c, name);
-    let middle = put_record(&mut *out, front.at, version, fields, name, c.len, kept);
+    let middle = entries_record::put_record(
+        &mut *out,
+        front.at,
+        version,
+        fields,
+        name,
+        c.len,
+        kept,
+    );
     let rest = put_others(b, v, work, c, count - k, there, name, version, out, middle);
     let word = or(fields.skip_worktree, fields.intent_to_add);
     Laid {

@@ -3,11 +3,9 @@ use mathlib.Core.Path.{_≡_, refl, sym, ap, _∙_}
 use mathlib.Core.List.{List, [], _∷_, _++_}
 use mathlib.Core.Bool.{true, false}
 use mathlib.Core.Option.{some}
-use Prim.Native.Nat.{ℕ, zero, suc, _+_, _≤_, _<_, min}
+use Prim.Native.Nat.{ℕ, zero, suc, _+_}
 use native.Mathlib.Nat.{suc-add}
-use native.Mathlib.Omega.{arith}
-use lib.ListN.{length, take, drop, getElem?, length-drop}
-use Rattle.format.specs.Names.{common}
+use lib.ListN.{take, drop, getElem?}
 use Rattle.format.specs.Records.{Entry, Key, keyOf, start}
 use Rattle.format.specs.Layout.{bit}
 use Rattle.format.specs.Reading.{good}
@@ -18,15 +16,9 @@ use Rattle.format_laws.proofs.Readings.{good-inv, bind-inv}
 use Rattle.spelling_entries.proofs.Entries.{entry-rises}
 use Rattle.entries_place.specs.declared.Place.{Place}
 use Rattle.entries_place.specs.Places.{rank, startsWith, isThere, rising, Ranked}
-use Rattle.format_laws.proofs.Orders.{common-through}
-use Rattle.format_laws.proofs.Keys.{before-name, before-trans, same-key, before-other}
+use Rattle.format_laws.proofs.Keys.{before-trans, same-key, before-other}
 
 -- ---- the place
-
-pub rank-le : (k : Key) (es : List Entry) → rank k es ≤ length es
-unfolding rank
-rank-le k [] = omega arith
-rank-le k (x ∷ xs) = by-test (goesBefore (keyOf x) k) (λ p. rw p (omega (arith, rank-le k xs))) (λ p. rw p (omega arith))
 
 -- where an entry is there, it has the key
 pub there-inv {ℓ} : {X : Type ℓ} (k : Key) (es : List Entry) → isThere k es ≡ true
@@ -44,9 +36,6 @@ there-name k es h x at =
     there-inv k es h λ y ys rest here is.
     let same : y ≡ x = cc in
     (ap (λ (z : Entry). z .name) (sym same) ∙ ap (λ (z : Key). z .name) is, ap (λ (z : Entry). z .stage) (sym same) ∙ ap (λ (z : Key). z .stage) is)
-
-pub there-less : (k : Key) (es : List Entry) → isThere k es ≡ true → rank k es < length es
-there-less k es h = there-inv k es h (λ x xs at here is. omega (arith, ap length at, length-drop (rank k es) es))
 
 -- ---- put
 
@@ -105,23 +94,6 @@ read-rising w v (suc n) k p s es m q =
     bind-inv _ _ _ _ q₁ λ fs c d rest q₂ sum₁.
     good-inv _ _ _ _ q₂ λ is l.
     rw (← is, entry-rises w v k p s e i first) (read-rising w v n (keyOf e) (p + i) (drop i s) fs c rest)
-
--- ---- entries that rise
-
--- from any of them on
-pub rising-from : (k : Key) (done : List Entry) (x : Entry) (xs : List Entry) → rising k (done ++ (x ∷ xs)) ≡ true → rising (keyOf x) xs ≡ true
-unfolding rising
-rising-from k [] x xs h = and-inv (goesBefore k (keyOf x)) (rising (keyOf x) xs) h .1
-rising-from k (d ∷ done) x xs h = rising-from (keyOf d) done x xs (and-inv (goesBefore k (keyOf d)) (rising (keyOf d) (done ++ (x ∷ xs))) h .1)
-
--- where x is removed, what the names before and after it have in common
-pub common-removed : (k : Key) (x y : Entry) (xs : List Entry) → rising k (x ∷ y ∷ xs) ≡ true
-    → common (k .name) (y .name) ≡ min (common (k .name) (x .name)) (common (x .name) (y .name))
-unfolding rising
-common-removed k x y xs h =
-    let i = and-inv (goesBefore k (keyOf x)) (rising (keyOf x) (y ∷ xs)) h in
-    let j = and-inv (goesBefore (keyOf x) (keyOf y)) (rising (keyOf y) xs) (i .1) in
-    common-through (k .name) (x .name) (y .name) (before-name k (keyOf x) (i .0)) (before-name (keyOf x) (keyOf y) (j .0))
 
 -- ---- the same from the place that was found
 

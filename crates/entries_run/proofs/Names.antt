@@ -1,15 +1,44 @@
--- Laws of two names after each other, and of the name that version 4 rebuilds in the workspace.
-use mathlib.Core.Path.{_≡_, sym, ap, _∙_}
+-- Laws of a name at its place, of two names after each other, and of the name that version 4 rebuilds in the workspace.
+use mathlib.Core.Path.{_≡_, refl, sym, ap, _∙_}
 use mathlib.Core.List.{List, _++_}
 use Prim.Native.Nat.{ℕ, _+_, _-_, _≤_}
+use native.Mathlib.Nat.{add-sub-cancel-left}
 use native.Mathlib.Omega.{arith}
-use lib.ListN.{length, take, drop}
+use lib.ListN.{length, take, drop, length-drop}
 use lib.Seq.{length-take-le, take-add}
+use lib.Dec.{eqb}
+use borrow.Author.Tests.{eq-eqb, ne-eqb}
 use Rattle.format.specs.declared.Order.{Order}
 use Rattle.format.specs.Names.{compare, common, rises}
+use Rattle.format_laws.proofs.Tests.{by-cond}
 use Rattle.format_laws.proofs.Names.{compare-append, common-append}
+use Rattle.entries_run.specs.declared.Cursor.{Cursor}
 use Rattle.entries_run.specs.declared.Standing.{Standing}
-use Rattle.entries_run.specs.Steps.{Stands, Rebuilt}
+use Rattle.entries_run.specs.Steps.{nameAt, Inside, Stands, Rebuilt}
+
+-- ---- a name at its place
+
+pub nameAt-length : (v : ℕ) (b work : List ℕ) (c : Cursor) → Inside b c → 8192 ≤ length work → length (nameAt v b work (c .start) (c .len)) ≡ c .len
+unfolding nameAt
+nameAt-length v b work c h room =
+    by-cond
+    (λ s. length s ≡ c .len)
+    (eqb v 4)
+    (take (c .len) work)
+    (take (c .len) (drop (c .start) b))
+    (λ packed. length-take-le (c .len) work (omega arith))
+    (λ plain. let more : c .len ≤ length (drop (c .start) b) = simp length-drop (omega arith) in length-take-le (c .len) (drop (c .start) b) more)
+
+module _ (v : ℕ) (b work : List ℕ) (start len : ℕ) where
+  pub nameAt-work : v ≡ 4 → take len work ≡ nameAt v b work start len
+  unfolding nameAt
+  nameAt-work e = rw (eq-eqb v 4 e) refl
+
+  pub nameAt-body : (v ≡ 4 → ⊥) → take (start + len - start) (drop start b) ≡ nameAt v b work start len
+  unfolding nameAt
+  nameAt-body e = rw (ne-eqb v 4 e, add-sub-cancel-left) refl
+
+-- ---- two names
 
 -- two names that have k bytes in common, s standing to t as o says
 pub stands : (s t : List ℕ) (m n k : ℕ) (o : Order) → k ≡ common s t → k ≤ length s → compare s t ≡ o

@@ -3,7 +3,7 @@ use mathlib.Core.Path.{_≡_, refl, sym, ap, _∙_}
 use mathlib.Core.List.{List, [], _∷_, _++_, append-nil}
 use mathlib.Core.Bool.{Bool, true, false, cond}
 use mathlib.Core.Option.{some}
-use Prim.Native.Nat.{ℕ, suc, _+_, _-_, _/_, _%_, _≤_, _<_}
+use Prim.Native.Nat.{ℕ, suc, _+_, _-_, _≤_, _<_}
 use native.Mathlib.Nat.{zero-add}
 use native.Mathlib.Omega.{arith}
 use lib.ListN.{length, take, drop, getElem?, length-append}
@@ -137,10 +137,6 @@ module _ (v : ℕ) (b w : List ℕ) (at : ℕ) (st : Step) where
   pub entryAt-name : entryAt v b w at st .name ≡ nameAt v b w (st .next .start) (st .next .len)
   unfolding entryOf
   entryAt-name = refl
-
-  pub entryAt-stage : entryAt v b w at st .stage ≡ st .flags / 4096 % 4
-  unfolding entryOf
-  entryAt-stage = refl
 
 pub runOf-bad : (res : Read (List Entry)) (n p : ℕ) → R.Bad n p ≡ runOf res → res ≡ bad n p
 runOf-bad (bad m q) n p e = cc

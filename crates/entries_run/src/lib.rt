@@ -5,7 +5,7 @@ ghost use mathlib.Core.List.{List};
 ghost use Prim.Native.Nat.{ℕ, _+_, _-_, _≤_};
 ghost use lib.ListN.{length};
 ghost use lib.Dec.{eqb};
-ghost use Rattle.entries_run.specs.Steps.{Stands, Rebuilt, Room, Inside, Headed, Numbered, Answered, readRest, Stepped, firstCursor, Ran, Reaches};
+ghost use Rattle.entries_run.specs.Steps.{nameAt, Stands, Rebuilt, Room, Inside, Headed, Numbered, Answered, readRest, Stepped, firstCursor, Ran, Reaches};
 use entries::Fixed;
 use entries::Head;
 use entries::Number;
@@ -63,6 +63,18 @@ pub fn first() -> Cursor
         len: 0,
         stage: 0,
     }
+}
+
+// A name of len bytes: first in the workspace in version 4, else at its start in the body.
+pub fn name_at<'a>(b: &'a [u8], v: u32, work: &'a [u8], start: usize, len: usize) -> &'a [u8]
+    requires { ⌜ (start + len ≤ length (now b)) × (len ≤ length (now work)) ⌝ }
+    ensures { λ r. ⌜ now r ≡ nameAt v (now (b .entry)) (now (work .entry)) start len ⌝ }
+{
+    if v == 4 {
+        return &work[..len];
+    }
+    let end = start + len;
+    &b[start..end]
 }
 
 // Whether a name of stage t may follow the previous one, of stage s, and how many bytes the two have in common.

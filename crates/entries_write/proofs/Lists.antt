@@ -3,9 +3,8 @@ use mathlib.Core.Path.{_≡_, refl, sym, ap, _∙_}
 use mathlib.Core.List.{List, [], _∷_, _++_, append-assoc, append-nil}
 use mathlib.Core.Bool.{Bool, _||_, or-assoc, or-false}
 use Prim.Native.Nat.{ℕ}
-use lib.Dec.{eqb}
 use Rattle.format.specs.Records.{Entry}
-use Rattle.format.specs.Writer.{needsWord, writeName, writeRest, writeEntry, writeEntries}
+use Rattle.format.specs.Writer.{needsWord, writeEntry, writeEntries}
 use Rattle.format.specs.Requests.{anyWord}
 use Rattle.entries_write.specs.Parts.{lastName}
 
@@ -37,14 +36,3 @@ lastName-append p (x ∷ xs) ys = lastName-append (x .name) xs ys
 pub lastName-one : (p : List ℕ) (x : Entry) → lastName p (x ∷ []) ≡ x .name
 unfolding lastName
 lastName-one p x = refl
-
--- versions 2 and 3 write the same
-module _ (w v v′ : ℕ) (same : eqb v 4 ≡ eqb v′ 4) where
-  entry-version : (p : List ℕ) (e : Entry) → writeEntry w v p e ≡ writeEntry w v′ p e
-  unfolding writeEntry writeRest writeName
-  entry-version p e = rw same
-
-  pub entries-version : (p : List ℕ) (es : List Entry) → writeEntries w v p es ≡ writeEntries w v′ p es
-  unfolding writeEntries
-  entries-version p [] = refl
-  entries-version p (e ∷ es) = rw (entry-version p e, entries-version (e .name) es)

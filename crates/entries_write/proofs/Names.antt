@@ -1,57 +1,18 @@
 -- Laws of names that are written: the number N, padding, the rest of a name.
-use mathlib.Core.Path.{_≡_, refl, sym}
+use mathlib.Core.Path.{_≡_, sym}
 use mathlib.Core.List.{List, [], _∷_, _++_}
-use mathlib.Core.Bool.{Bool, true, false, cond}
-use Prim.Native.Nat.{ℕ, suc, _+_, _-_, _/_, _%_, _≤_, _<_}
-use native.Mathlib.Nat.{add-sub-cancel-left}
+use Prim.Native.Nat.{ℕ, _+_, _-_, _/_, _%_, _≤_, _<_}
 use native.Mathlib.Omega.{arith}
 use lib.ListN.{length, take, drop, replicate, length-drop, length-replicate}
-use lib.Seq.{length-take-le, take-all}
-use lib.Dec.{eqb}
+use lib.Seq.{take-all}
 use borrow.Author.Tests.{eq-eqb, ne-eqb}
 use Rattle.format.specs.Bytes.{putN}
-use Rattle.format.specs.Names.{common}
 use Rattle.format.specs.Layout.{entryLength}
 use Rattle.format.specs.Writer.{writePlain, writePacked, writeName}
 use Rattle.spelling_entries.proofs.Bytes.{putN-one, putN-two}
-use Rattle.format_laws.proofs.Tests.{by-cond}
 use Rattle.output.specs.Output.{Wrote}
 use Rattle.output.proofs.Laws.{wrote-then}
-use Rattle.entries_run.specs.declared.Cursor.{Cursor}
-use Rattle.entries_run.specs.Steps.{nameAt, Inside}
 use Rattle.entries_write.specs.Parts.{Kept, NameWritten}
-
--- ---- the common beginning of two names, and a name at its place
-
-common-by : (s t : List ℕ) (b : Bool) (n : ℕ) → n ≤ length s → n ≤ length t → (cond b (suc n) 0 ≤ suc (length s)) × (cond b (suc n) 0 ≤ suc (length t))
-common-by s t true n h l = omega arith
-common-by s t false n h l = omega arith
-
-pub common-le : (s t : List ℕ) → (common s t ≤ length s) × (common s t ≤ length t)
-unfolding common
-common-le [] t = omega arith
-common-le (x ∷ s) [] = omega arith
-common-le (x ∷ s) (y ∷ t) = let (h, l) = common-le s t in common-by s t (eqb x y) (common s t) h l
-
-pub nameAt-length : (v : ℕ) (b work : List ℕ) (c : Cursor) → Inside b c → 8192 ≤ length work → length (nameAt v b work (c .start) (c .len)) ≡ c .len
-unfolding nameAt
-nameAt-length v b work c h room =
-    by-cond
-    (λ s. length s ≡ c .len)
-    (eqb v 4)
-    (take (c .len) work)
-    (take (c .len) (drop (c .start) b))
-    (λ packed. length-take-le (c .len) work (omega arith))
-    (λ plain. let more : c .len ≤ length (drop (c .start) b) = simp length-drop (omega arith) in length-take-le (c .len) (drop (c .start) b) more)
-
-module _ (v : ℕ) (b work : List ℕ) (start len : ℕ) where
-  pub nameAt-work : v ≡ 4 → take len work ≡ nameAt v b work start len
-  unfolding nameAt
-  nameAt-work e = rw (eq-eqb v 4 e) refl
-
-  pub nameAt-body : (v ≡ 4 → ⊥) → take (start + len - start) (drop start b) ≡ nameAt v b work start len
-  unfolding nameAt
-  nameAt-body e = rw (ne-eqb v 4 e, add-sub-cancel-left) refl
 
 -- ---- the number N
 

@@ -5,13 +5,14 @@ use Prim.Native.Nat.{ℕ, _≤_}
 use native.Mathlib.Omega.{arith}
 use lib.ListN.{length}
 use Rattle.format.specs.Records.{Entry}
+use Rattle.format_laws.proofs.Names.{common-le}
 use Rattle.entries_run.specs.declared.Cursor.{Cursor}
 use Rattle.entries_run.specs.declared.Step.{Step}
 use Rattle.entries_run.specs.declared.Next.the-variants as N
 use Rattle.entries_run.specs.Steps.{nameAt, keyAt, entryAt, Inside, Found, Stepped, Placed}
+use Rattle.entries_run.proofs.Names.{nameAt-length}
 use Rattle.entries_run.proofs.Steps.{entryAt-name}
 use Rattle.entries_write.specs.Parts.{Kept, Beside}
-use Rattle.entries_write.proofs.Names.{common-le, nameAt-length}
 
 module _ {v : ℕ} {b work : List ℕ} {c : Cursor} {work′ : List ℕ} {st : Step} (t : Stepped v b work c work′ (N.Good st)) where
   abbrev entry : Entry

@@ -7,7 +7,7 @@ ghost use Rattle.format.specs.Bytes.{putN};
 ghost use Rattle.format.specs.Reader.{isSet};
 ghost use Rattle.format.specs.Writer.{writePlain, writePacked, writeName};
 ghost use Rattle.output.specs.Output.{Wrote};
-ghost use Rattle.entries_run.specs.Steps.{nameAt, entryAt, Inside, Placed};
+ghost use Rattle.entries_run.specs.Steps.{entryAt, Inside, Placed};
 ghost use Rattle.entries_write.specs.Parts.{Kept, NameWritten, RestWritten, EntryWritten, EntriesWritten};
 use entries_run::Cursor;
 use entries_run::Next;
@@ -96,18 +96,6 @@ pub fn put_rest(
     put_name(out, end, version, 64, name, previous, kept)
 }
 
-// The name that a step told: first in the workspace in version 4, else at its start in the body.
-pub fn name_at<'a>(b: &'a [u8], v: u32, work: &'a [u8], start: usize, len: usize) -> &'a [u8]
-    requires { ⌜ (start + len ≤ length (now b)) × (len ≤ length (now work)) ⌝ }
-    ensures { λ r. ⌜ now r ≡ nameAt v (now (b .entry)) (now (work .entry)) start len ⌝ }
-{
-    if v == 4 {
-        return &work[..len];
-    }
-    let end = start + len;
-    &b[start..end]
-}
-
 // The entry at a place of the body, of which a step told the flags, the extended word and where its name stands.
 pub fn put_step<'a>(
     b: &'a [u8],
@@ -129,7 +117,7 @@ pub fn put_step<'a>(
     let base = st.flags / 32768 % 2 * 32768 + st.flags / 4096 % 4 * 4096;
     let word = st.word / 8192 % 4 * 8192;
     let next = st.next;
-    let name = name_at(b, v, work, next.start, next.len);
+    let name = entries_run::name_at(b, v, work, next.start, next.len);
     put_rest(out, middle, version, base, word, name, previous, kept)
 }
 

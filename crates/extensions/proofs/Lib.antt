@@ -6,4 +6,3 @@ pub mod Faults
 pub mod Known
 pub mod Trees
 pub mod Runs
-pub mod Wanted

@@ -1,7 +1,7 @@
 // Fields, texts and names in a slice of bytes, and the workspace that holds a name.
 ghost use mathlib.Core.Path.{_≡_};
 ghost use mathlib.Core.List.{_++_};
-ghost use Prim.Native.Nat.{ℕ, _+_, _-_, _≤_, _<_};
+ghost use Prim.Native.Nat.{_+_, _-_, _≤_, _<_};
 ghost use lib.ListN.{length, take, drop, replicate};
 ghost use Rattle.format.specs.Bytes.{be16, be32, eqList, before, zeros};
 ghost use Rattle.format.specs.Names as Names;

@@ -15,8 +15,7 @@ use Rattle.format.specs.Reader.{isSet, entryOf}
 use Rattle.format_laws.proofs.Lists.{past-zeros}
 use Rattle.format_laws.proofs.Numbers.{be32-drop}
 use Rattle.file.specs.declared.Fields.{Fields}
-use Rattle.file.specs.declared.Shown.{Shown}
-use Rattle.file.specs.declared.Shown.the-variants.{Refused, InFile, InWorkspace}
+use Rattle.file.specs.declared.Shown.the-variants.{InWorkspace}
 use Rattle.file.specs.Answers.{tooSmall, View, refused, cleared, holding, partIn, nameIn, entryWith}
 
 -- ---- the workspace
@@ -76,13 +75,6 @@ part-within m zero n s h = take-take n m s (omega arith)
 part-within zero (suc at) n s h = absurd (omega arith)
 part-within (suc m) (suc at) n [] h = refl
 part-within (suc m) (suc at) n (x ∷ s) h = part-within m at n s (omega arith)
-
--- the workspace does not matter where the name is a part of the file
-pub file-name : (s : Shown) (file work : List ℕ) → ((n : ℕ) → s ≡ InWorkspace n → ⊥) → nameIn s file work ≡ nameIn s file []
-unfolding nameIn
-file-name (Refused n p) file work h = refl
-file-name (InFile at n) file work h = refl
-file-name (InWorkspace n) file work h = absurd (h n refl)
 
 -- a name that a workspace holds is the one that an answer with its length points at
 pub holding-name : (name file work : List ℕ) → nameIn (InWorkspace (length name)) file (holding name work) ≡ name

@@ -8,7 +8,7 @@ use lib.Seq.{drop-drop}
 use Rattle.format.specs.Bytes.{be32}
 use Rattle.format.specs.Records as F
 use Rattle.format.specs.Layout.{Extension, trees, undos, names}
-use Rattle.format.specs.Reading.{Read, bad, good, shift, bind}
+use Rattle.format.specs.Reading.{bad, good, shift, bind}
 use Rattle.format.specs.Reader.{Contents, noneSeen, readEntries, readExtensions, readBody, first}
 use Rattle.format_laws.proofs.Readings.{good-inv, bind-inv}
 use Rattle.entries_run.specs.declared.Run.the-variants as R

@@ -13,11 +13,7 @@ use Rattle.format.specs.Layout.{DIRC}
 use Rattle.format.specs.Reading.{bad, need}
 use Rattle.format.specs.Reader.{readBody, readFile}
 use Rattle.format_laws.proofs.Tests.{and-inv}
-use Rattle.hash.specs.Sha1.{sha1}
-use Rattle.file_header.specs.declared.Opening.{Opening}
-use Rattle.file_header.specs.declared.Header.{Header}
-use Rattle.file_header.specs.declared.Header.the-variants.{Bad, Good}
-use Rattle.file_header.specs.Header.{isVersion, Opened, HeaderOf}
+use Rattle.file_header.specs.Header.{isVersion}
 
 -- all that follows the first n
 pub rest-of : (n : ℕ) (f : List ℕ) → take (length f - n) (drop n f) ≡ drop n f
@@ -70,11 +66,3 @@ module _ (w : ℕ) (hash : List ℕ → List ℕ) (f : List ℕ) where
         pub file-body : eqList (drop (length f - w) f) (hash (take (length f - w) f)) ≡ true → readFile w hash f ≡ readBody w v (take (length f - w) f)
         unfolding need
         file-body h = rw (file-sized, signed, known, h)
-
--- what a caller that matches on an answer knows
-module _ (f : List ℕ) (r : Header) (said : HeaderOf f r) where
-  pub header-bad : (n p : ℕ) → r ≡ Bad n p → readFile 20 sha1 f ≡ bad n p
-  header-bad n p e = rw e at said
-
-  pub header-good : (h : Opening) → r ≡ Good h → Opened f h
-  header-good h e = rw e at said

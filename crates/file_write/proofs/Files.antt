@@ -22,8 +22,9 @@ use Rattle.file_contents.specs.declared.Parts.{Parts}
 use Rattle.entries_edit.specs.declared.Edit.{Edit}
 use Rattle.entries_edit.specs.declared.Laid.{Laid}
 use Rattle.entries_edit.specs.Edits.{Replaces}
-use Rattle.file_write.specs.Results.{changed, Has, BodyWritten, Measured, versionOf, likeOf, Answers, FileWritten}
-use Rattle.file_write.proofs.Bodies.{body-like}
+use Rattle.file_body.specs.Bodies.{changed, Has, BodyWritten}
+use Rattle.file_body.proofs.Bodies.{body-like}
+use Rattle.file_write.specs.Results.{Measured, versionOf, likeOf, Answers, FileWritten}
 
 -- ---- the version
 

@@ -1,4 +1,2 @@
 -- Laws that the proofs of this crate cite.
-pub mod Extensions
-pub mod Bodies
 pub mod Files

@@ -1,18 +1,17 @@
 -- The cases that the requirements mark P: one table over the definitions.
 use mathlib.Core.Path.{_≡_, refl}
 use mathlib.Core.List.{List, [], _∷_, _++_}
-use mathlib.Core.Bool.{Bool, true, false}
-use Prim.Native.Nat.{ℕ, zero, suc, _+_}
+use Prim.Native.Nat.{ℕ, _+_}
 use lib.ListN.{length, replicate}
-use Rattle.format.specs.declared.Order.the-variants.{Below, Same, Above}
+use Rattle.format.specs.declared.Order.the-variants.{Below, Above}
 use Rattle.format.specs.Bytes.{two, putN, eqList, before, lacks, digits, decimal, valueFrom, value}
 use Rattle.format.specs.Names.{lengthField, compare, common}
-use Rattle.format.specs.Records.{Count, valid, invalid, Node, Forest, nil, tree, Tree, width}
+use Rattle.format.specs.Records.{valid, invalid, nil, tree, Tree, width}
 use Rattle.format.specs.Layout.{entryLength, okNodeName, has, distinct, under, inside, files, allValid, sum, okCount, okCounts, okTreeCounts}
-use Rattle.format.specs.Reading.{Read, bad, good, need, shift, bind}
+use Rattle.format.specs.Reading.{good, need, shift, bind}
 use Rattle.format.specs.Writer.{writePacked, digitsOf, decimalOf, writeCount, writeObject, writeNode, writeForest, writeTree}
 use Rattle.format.specs.Requests.{invalidNode, invalidWay, invalidTree}
-use Rattle.format.specs.Reader.{readN, joined, readText, countIn, needSome, readCount, readSubtrees, readObject, Head, readNode, readSiblings, readForest, readNodes, readTree}
+use Rattle.format.specs.Reader.{readN, joined, readText, countIn, needSome, readCount, readSubtrees, readObject, readNode, readSiblings, readForest, readNodes, readTree}
 
 -- "a-b", "a/b" and "a/c", the entries' names
 entryNames : List (List ℕ)

@@ -1,17 +1,17 @@
 -- Closed cases over whole files, with a stand-in for the hash that answers zeros: the listing's example, an empty index, files too short for
 -- their entries, resolve undo.
 use mathlib.Core.Path.{_≡_, refl}
-use mathlib.Core.List.{List, [], _∷_, _++_}
-use mathlib.Core.Bool.{Bool, true, false}
-use mathlib.Core.Option.{Option, none, some}
-use Prim.Native.Nat.{ℕ, zero, suc, _+_}
+use mathlib.Core.List.{List, [], _∷_}
+use mathlib.Core.Bool.{false}
+use mathlib.Core.Option.{none}
+use Prim.Native.Nat.{ℕ}
 use lib.ListN.{length, replicate}
 use Rattle.format.specs.Bytes.{be16, be32, be32s, two, eqList, before, lacks, zeros, digits, decimal, valueFrom, value}
 use Rattle.format.specs.Names.{componentsFrom, components, okComponent, okComponents, okName, lengthField, compare}
-use Rattle.format.specs.Records.{Entry, Stage, Undo, Records}
+use Rattle.format.specs.Records.{Entry}
 use Rattle.format.specs.Layout.{okMode, fixedLength, entryLength, okNodeName, has, distinct, under, inside, files, allValid, sum, okCount, okCounts, okTreeCounts, modeText, someStage, optional, trees, undos, names}
-use Rattle.format.specs.Reading.{Read, bad, good, need, shift, bind}
-use Rattle.format.specs.Reader.{Contents, isSet, okWord, plainLength, readPlain, readN, joined, readSuffix, readPacked, readName, entryOf, readTail, readFixed, readEntry, readEntries, readText, countIn, needSome, readCount, readSubtrees, readObject, readNode, readSiblings, readForest, readNodes, readTree, modeIn, readMode, readStage, readStages, readUndo, readUndos, readData, readExtension, readExtensions, readBody, readFile}
+use Rattle.format.specs.Reading.{bad, good, need, shift, bind}
+use Rattle.format.specs.Reader.{isSet, okWord, plainLength, readPlain, readN, joined, readSuffix, readPacked, readName, entryOf, readTail, readFixed, readEntry, readEntries, readText, countIn, needSome, readCount, readSubtrees, readObject, readNode, readSiblings, readForest, readNodes, readTree, modeIn, readMode, readStage, readStages, readUndo, readUndos, readData, readExtension, readExtensions, readBody, readFile}
 
 unfoldable pub hash : List ℕ → List ℕ
 hash b = replicate 20 0

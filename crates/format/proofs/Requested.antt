@@ -1,18 +1,17 @@
 -- Closed cases of requests, with a stand-in for the hash that answers zeros: an index of "a" and "b/c" rewritten, put to, removed from, and
 -- the order of refusals.
 use mathlib.Core.Path.{_≡_, refl}
-use mathlib.Core.List.{List, [], _∷_, _++_}
+use mathlib.Core.List.{List, [], _∷_}
 use mathlib.Core.Bool.{Bool, true, false}
-use mathlib.Core.Option.{Option, none, some}
-use Prim.Native.Nat.{ℕ, zero, suc, _+_}
-use lib.ListN.{length, replicate}
+use mathlib.Core.Option.{none}
+use Prim.Native.Nat.{ℕ}
 use Rattle.format.specs.Bytes.{put16, put32, put32s, putN, eqList, lacks}
 use Rattle.format.specs.Names.{componentsFrom, components, okComponent, okComponents, okName, lengthField, compare, common}
-use Rattle.format.specs.Records.{Entry, modeOf, Key, Count, valid, invalid, Node, nil, tree, Tree, width, Records}
+use Rattle.format.specs.Records.{Entry, modeOf, Count, valid, invalid, Node, nil, tree, Records}
 use Rattle.format.specs.Layout.{okMode, fixedLength, entryLength, flagsOf, wordOf, under}
-use Rattle.format.specs.Reading.{Read, bad, good, need}
-use Rattle.format.specs.Writer.{needsWord, writePlain, writePacked, writeName, writeRest, writeEntry, writeEntries, digitsOf, decimalOf, writeCount, writeObject, writeNode, writeForest, writeTree, writeExtension, writeCacheTree, writeResolveUndo, writeExtensions, writeHeader, writeBody, writeFile}
-use Rattle.format.specs.Requests.{goesBefore, sameKey, putEntry, removeEntry, holds, invalidNode, invalidWay, invalidTree, invalidCacheTree, putRecord, removeRecord, anyWord, okAsked, versionFor, fitting, writing, rewriteRequest, putRequest, removeRequest}
+use Rattle.format.specs.Reading.{bad, good, need}
+use Rattle.format.specs.Writer.{needsWord, writePlain, writePacked, writeName, writeRest, writeEntry, writeEntries, writeCacheTree, writeResolveUndo, writeExtensions, writeHeader, writeBody, writeFile}
+use Rattle.format.specs.Requests.{goesBefore, sameKey, putEntry, removeEntry, holds, invalidNode, invalidWay, invalidCacheTree, putRecord, removeRecord, anyWord, okAsked, versionFor, fitting, writing, rewriteRequest, putRequest, removeRequest}
 use Rattle.format.proofs.Examples.{hash, object, fileEntry, listing}
 
 abbrev a : List ℕ

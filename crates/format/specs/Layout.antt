@@ -3,9 +3,9 @@ use mathlib.Core.Path.{_≡_}
 use mathlib.Core.List.{List, [], _∷_, _++_, map}
 use mathlib.Core.Bool.{Bool, true, false, cond, not, _&&_, _||_}
 use mathlib.Core.Option.{Option, none, some}
-use Prim.Native.Nat.{ℕ, zero, suc, _+_, _-_, _*_, _/_, _≤_, _<_}
+use Prim.Native.Nat.{ℕ, suc, _+_, _-_, _*_, _/_, _≤_, _<_}
 use lib.ListN.{length, take, drop, getD, replicate}
-use lib.Dec.{eqb, leb, ltb}
+use lib.Dec.{eqb, leb}
 use Rattle.format.specs.Bytes.{put16, put32, put32s, fit32, putN, eqList, lacks, decimal, value}
 use Rattle.format.specs.Names.{okName, lengthField, compare, isBelow, rises}
 use Rattle.format.specs.Records.{Entry, modeOf, Key, keyOf, start, Count, valid, invalid, Node, Forest, nil, tree, Tree, width, Stage, Undo, Records}
@@ -159,13 +159,13 @@ files [] = 0
 files (s ∷ ss) = cond (lacks 47 s) 1 0 + files ss
 
 -- whether all siblings are valid, and the sum of their counts
+abbrev pub isValid : Count → Bool
+isValid (valid c) = true
+isValid invalid = false
+
 unfoldable pub allValid : Forest → Bool
 allValid nil = true
 allValid (tree n kids after) = isValid (n .count) && allValid after
-  where
-    isValid : Count → Bool
-    isValid (valid c) = true
-    isValid invalid = false
 
 unfoldable pub sum : Forest → ℕ
 sum nil = 0

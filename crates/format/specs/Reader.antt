@@ -1,12 +1,12 @@
 -- The reader: from bytes to records, or to the first refusal that applies. p is the place of the entry or of the extension that is read,
 -- s the bytes from there to the end of the body or of the extension's data, w the width of an object name and of the checksum.
 use mathlib.Core.List.{List, [], _∷_, _++_}
-use mathlib.Core.Bool.{Bool, true, false, cond, not, _&&_, _||_}
+use mathlib.Core.Bool.{Bool, true, false, cond, not, _&&_}
 use mathlib.Core.Option.{Option, none, some}
-use Prim.Native.Nat.{ℕ, zero, suc, _+_, _-_, _*_, _/_, _%_}
+use Prim.Native.Nat.{ℕ, zero, suc, _+_, _-_, _/_, _%_}
 use lib.ListN.{length, take, drop, getD, replicate}
 use lib.Dec.{eqb, leb, ltb}
-use Rattle.format.specs.Bytes.{be16, be32, be32s, two, eqList, before, lacks, zeros, decimal, value}
+use Rattle.format.specs.Bytes.{be16, be32, be32s, two, eqList, before, zeros, decimal, value}
 use Rattle.format.specs.Names.{okName, lengthField, compare, isBelow, rises}
 use Rattle.format.specs.Records.{Entry, Key, keyOf, start, Count, valid, invalid, Node, Forest, nil, tree, Tree, Stage, Undo, Records}
 use Rattle.format.specs.Layout.{okMode, fixedLength, entryLength, okNodeName, distinct, okTreeCounts, modeText, someStage, Extension, cacheTree, resolveUndo, other, TREE, REUC, DIRC, optional, trees, undos, names}

@@ -1,9 +1,9 @@
 -- The records of an index. w, where it stands, is the width of an object name: 20 bytes for SHA-1.
 use mathlib.Core.List.{List, [], _∷_, _++_}
-use mathlib.Core.Bool.{Bool, true, false}
-use mathlib.Core.Option.{Option, none, some}
-use Prim.Native.Nat.{ℕ, zero, suc, _+_}
-use lib.ListN.{length, getD}
+use mathlib.Core.Bool.{Bool}
+use mathlib.Core.Option.{Option}
+use Prim.Native.Nat.{ℕ, suc, _+_}
+use lib.ListN.{getD}
 
 -- numbers: ctime seconds, ctime nanoseconds, mtime seconds, mtime nanoseconds, dev, ino, mode, uid, gid, size
 pub record Entry : Type 0 where

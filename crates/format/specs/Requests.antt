@@ -7,10 +7,9 @@ use lib.ListN.{length, drop, replicate}
 use lib.Dec.{eqb, leb, ltb}
 use Rattle.format.specs.Bytes.{eqList}
 use Rattle.format.specs.Names.{okName, compare, rises}
-use Rattle.format.specs.Records.{Entry, modeOf, Key, keyOf, Count, invalid, Node, Forest, nil, tree, Tree, Records}
+use Rattle.format.specs.Records.{Entry, modeOf, Key, keyOf, invalid, Node, Forest, nil, tree, Tree, Records}
 use Rattle.format.specs.Layout.{okMode, under}
-use Rattle.format.specs.Reading.{Read, bad, good, need}
-use Rattle.format.specs.Reader.{Contents}
+use Rattle.format.specs.Reading.{Read, good, need}
 use Rattle.format.specs.Writer.{needsWord, writeFile}
 
 -- ---- entries

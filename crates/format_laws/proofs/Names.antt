@@ -31,6 +31,17 @@ pub common-append : (q s t : List ℕ) → common (q ++ s) (q ++ t) ≡ length q
 common-append [] s t = omega arith
 common-append (x ∷ q) s t = common-head x (q ++ s) (q ++ t) ∙ omega (arith, common-append q s t)
 
+-- it is within both
+common-within : (s t : List ℕ) (b : Bool) (n : ℕ) → n ≤ length s → n ≤ length t → (cond b (suc n) 0 ≤ suc (length s)) × (cond b (suc n) 0 ≤ suc (length t))
+common-within s t true n h l = omega arith
+common-within s t false n h l = omega arith
+
+pub common-le : (s t : List ℕ) → (common s t ≤ length s) × (common s t ≤ length t)
+unfolding common
+common-le [] t = omega arith
+common-le (x ∷ s) [] = omega arith
+common-le (x ∷ s) (y ∷ t) = let (h, l) = common-le s t in common-within s t (eqb x y) (common s t) h l
+
 -- the first bytes of s and t, as many as they have in common
 common-by : (x y : ℕ) (s t : List ℕ) (b : Bool) → eqb x y ≡ b → take (common s t) s ≡ take (common s t) t
     → take (cond b (suc (common s t)) 0) (x ∷ s) ≡ take (cond b (suc (common s t)) 0) (y ∷ t)

@@ -83,9 +83,6 @@ be32-here s a n r e h =
     let read : be32 (drop a s) 0 ≡ n = rw e (be32-put32 n r h) in
     rw here at (sym (be32-drop a s 0) ∙ read)
 
-pub be16-at : (p : List ℕ) (n : ℕ) (r : List ℕ) (a : ℕ) → length p ≡ a → n < 65536 → be16 (p ++ (put16 n ++ r)) a ≡ n
-be16-at p n r a e h = be16-here (p ++ (put16 n ++ r)) a n r (drop-at p (put16 n ++ r) a e) h
-
 pub be32-at : (p : List ℕ) (n : ℕ) (r : List ℕ) (a : ℕ) → length p ≡ a → n < 4294967296 → be32 (p ++ (put32 n ++ r)) a ≡ n
 be32-at p n r a e h = be32-here (p ++ (put32 n ++ r)) a n r (drop-at p (put32 n ++ r) a e) h
 

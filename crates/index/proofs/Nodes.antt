@@ -9,6 +9,7 @@ use lib.ListN.{length, take, drop, getD, replicate, length-take, length-drop}
 use lib.Seq.{drop-drop}
 use borrow.Author.Tests.{lt-ltb}
 use Rattle.format.specs.Records as F
+use Rattle.format.specs.Layout.{isValid}
 use Rattle.format.specs.Reading.{good}
 use Rattle.format.specs.Bytes.{before}
 use Rattle.format.specs.Reader.{Head, readText, readCount, readSubtrees, readObject, readNode, readNodes}
@@ -16,7 +17,7 @@ use Rattle.format_laws.proofs.Tests.{false-true}
 use Rattle.format_laws.proofs.Readings.{bind-inv}
 use Rattle.tree_nodes.specs.declared.node.Node as Code
 use Rattle.tree_nodes.specs.declared.node.NodeRead.the-variants as N
-use Rattle.tree_nodes.specs.Answers.{isValid, counted, objectLength, nodeOf, nodeAt}
+use Rattle.tree_nodes.specs.Answers.{counted, objectLength, nodeOf, nodeAt}
 use Rattle.cache_tree.specs.Flat.{placeOf}
 use Rattle.tree_nodes.proofs.Readings.{node-took}
 use Rattle.tree_nodes.proofs.Nodes.{node-named, object-valid, node-object}

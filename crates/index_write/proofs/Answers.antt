@@ -27,7 +27,8 @@ use Rattle.file_contents.specs.declared.Parts.{Parts}
 use Rattle.file_contents.specs.Contents.{bodyOf, inRoom, Contains}
 use Rattle.file_contents.proofs.Room.{room-of, in-room, cleared-by}
 use Rattle.entries_edit.specs.declared.Edit.{Edit}
-use Rattle.file_write.specs.Results.{changed, Ready, FileWritten}
+use Rattle.file_body.specs.Bodies.{changed, Ready}
+use Rattle.file_write.specs.Results.{FileWritten}
 use Rattle.index_write.specs.Calls.{Writes, Opened, Planned, recordNumber}
 use Rattle.index_write.proofs.Files.{has-of, count-few}
 

@@ -23,7 +23,7 @@ use Rattle.writing.proofs.Entries.{entries-long}
 use Rattle.writing.proofs.File.{spelled-sound}
 use Rattle.file_contents.specs.declared.Parts.{Parts}
 use Rattle.file_contents.specs.Contents.{bodyOf, Contains}
-use Rattle.file_write.specs.Results.{Has}
+use Rattle.file_body.specs.Bodies.{Has}
 
 -- ---- records that spell a file
 

@@ -8,7 +8,7 @@ ghost use Rattle.format.specs.Requests.{okAsked, writing, rewriteRequest, putRe
 ghost use Rattle.hash.specs.Sha1.{sha1};
 ghost use Rattle.file.specs.Answers.{cleared, entryWith};
 ghost use Rattle.file.specs.Writing.{requested, rewriteAnswer, putAnswer, removeAnswer};
-ghost use Rattle.file_write.specs.Results.{changed};
+ghost use Rattle.file_body.specs.Bodies.{changed};
 ghost use Rattle.index_write.specs.Calls.{Writes, Opened, Planned, recordNumber};
 use entries_edit::Edit;
 use entries_place::find_place;

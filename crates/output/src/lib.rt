@@ -1,9 +1,8 @@
 // Bytes into an output, one part after another. Each function answers the place after its part. A part that does not fit is not written, so
 // an empty output measures. A part begins at most 2 ^ 50 bytes from the start, far above any file.
-ghost use mathlib.Core.Path.{_≡_};
-ghost use mathlib.Core.List.{List, [], _∷_};
-ghost use Prim.Native.Nat.{ℕ, _+_, _≤_, _<_};
-ghost use lib.ListN.{length, replicate};
+ghost use mathlib.Core.List.{[], _∷_};
+ghost use Prim.Native.Nat.{_+_, _≤_, _<_};
+ghost use lib.ListN.{replicate};
 ghost use Rattle.format.specs.Bytes.{put16, put32};
 ghost use Rattle.output.specs.Output.{Wrote};
 

@@ -10,9 +10,9 @@ use lib.Dec.{eqb, leb}
 use borrow.Author.Tests.{eqb-true, eqb-false, eq-eqb, ne-eqb, le-leb}
 use Rattle.format.specs.Bytes.{lacks}
 use Rattle.format.specs.Records.{Count, valid, invalid, Node, Forest, nil, tree, Tree}
-use Rattle.format.specs.Layout.{bit, distinct, under, inside, files, allValid, sum, okCount, okCounts, okTreeCounts}
+use Rattle.format.specs.Layout.{bit, distinct, under, inside, files, isValid, allValid, sum, okCount, okCounts, okTreeCounts}
 use Rattle.format_laws.proofs.Tests.{false-true, by-test, and-inv, and-inv₃, and-left-comm}
-use Rattle.tree_counts.specs.Judge.{isValid, weight, plain, tidy, positive, reached, covered, counted, hit, judgeEach, judge, matched, countsAll, Sound}
+use Rattle.tree_counts.specs.Judge.{weight, plain, tidy, positive, reached, covered, counted, hit, judgeEach, judge, matched, countsAll, Sound}
 use Rattle.tree_counts.proofs.Tests.{and-when, sums-equal}
 use Rattle.tree_counts.proofs.Siblings.{sound-name, sound-new, sound-kids, sound-after, unreached, file-unreached}
 
@@ -99,11 +99,7 @@ number invalid = 0
 module _ (n : Node) (kids after : Forest) where
   pub valid-step : allValid (tree n kids after) ≡ (isValid (n .count) && allValid after)
   unfolding allValid
-  valid-step = go (n .count)
-    where
-      go : (c : Count) → allValid (tree (record { name = n .name; count = c; object = n .object }) kids after) ≡ (isValid c && allValid after)
-      go (valid c) = refl
-      go invalid = refl
+  valid-step = refl
 
   sum-step : sum (tree n kids after) ≡ number (n .count) + sum after
   unfolding sum number

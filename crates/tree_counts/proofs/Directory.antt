@@ -3,7 +3,7 @@ use mathlib.Core.Path.{_≡_, refl, sym, ap, ap₂, _∙_}
 use mathlib.Core.List.{List, [], _∷_, _++_}
 use mathlib.Core.Bool.{true, false, _&&_}
 use Prim.Native.Nat.{ℕ, _+_}
-use lib.ListN.{length, take, drop, length-append}
+use lib.ListN.{length, take, drop}
 use lib.Dec.{eqb}
 use borrow.Author.Tests.{eq-eqb}
 use Rattle.format.specs.declared.Order.{Order}
@@ -11,13 +11,12 @@ use Rattle.format.specs.declared.Order.the-variants.{Below, Same, Above}
 use Rattle.format.specs.Bytes.{before, lacks}
 use Rattle.format.specs.Names.{compare, rises}
 use Rattle.format.specs.Records.{Entry, Key}
-use Rattle.format.specs.Layout.{under, inside, Entries, entries-end, entries-more, names}
-use Rattle.format_laws.proofs.Tests.{false-true, by-test, and-inv}
+use Rattle.format.specs.Layout.{under, Entries, entries-end, entries-more, names}
+use Rattle.format_laws.proofs.Tests.{false-true, by-test}
 use Rattle.format_laws.proofs.Texts.{lacks-before}
 use Rattle.format_laws.proofs.Names.{compare-append}
 use Rattle.tree_counts.specs.Runs.{notAbove, sortedFrom, begins}
 use Rattle.tree_counts.proofs.Tests.{head-inv}
-use Rattle.tree_counts.proofs.Order.{under-begins, sorted-skip}
 
 -- ---- the first component
 
@@ -53,37 +52,15 @@ begins-append (x ∷ q) r (y ∷ s) = by-test (eqb x y) (λ e. rw e (begins-appe
 pub compare-cut : (q s t : List ℕ) → begins q s ≡ true → begins q t ≡ true → compare (drop (length q) s) (drop (length q) t) ≡ compare s t
 compare-cut q s t p r = sym (compare-append q (drop (length q) s) (drop (length q) t)) ∙ ap₂ compare (sym (begins-split q s p)) (sym (begins-split q t r))
 
-pub compare-under : (d s t : List ℕ) → under d s ≡ true → under d t ≡ true → compare (drop (length d + 1) s) (drop (length d + 1) t) ≡ compare s t
-compare-under d s t p r =
-    ap (λ (n : ℕ). compare (drop n s) (drop n t)) (sym (length-append d (47 ∷ [])))
-    ∙ compare-cut (d ++ (47 ∷ [])) s t (sym (under-begins d s) ∙ p) (sym (under-begins d t) ∙ r)
+-- ---- names that rise
 
--- ---- the names in a directory rise
-
-inside-after : (d s : List ℕ) (ss : List (List ℕ)) → under d s ≡ true → sortedFrom s ss ≡ true → sortedFrom (drop (length d + 1) s) (inside d ss) ≡ true
-unfolding sortedFrom inside
-inside-after d s [] u h = refl
-inside-after d s (t ∷ ss) u h =
-    let i = and-inv (notAbove (compare s t)) (sortedFrom t ss) h in
-    by-test (under d t)
-    (λ v. rw (v, compare-under d s t u v, i .0) (inside-after d t ss v (i .1)))
-    (λ v. rw v (inside-after d s ss u (sorted-skip s t ss h)))
-
+-- none is below the empty one
 pub first-least : (s : List ℕ) → notAbove (compare [] s) ≡ true
 unfolding compare
 first-least [] = refl
 first-least (x ∷ s) = refl
 
-pub inside-sorted : (d a : List ℕ) (ss : List (List ℕ)) → sortedFrom a ss ≡ true → sortedFrom [] (inside d ss) ≡ true
-unfolding sortedFrom inside
-inside-sorted d a [] h = refl
-inside-sorted d a (s ∷ ss) h =
-    let i = and-inv (notAbove (compare a s)) (sortedFrom s ss) h in
-    by-test (under d s)
-    (λ u. rw (u, first-least (drop (length d + 1) s)) (inside-after d s ss u (i .1)))
-    (λ u. rw u (inside-sorted d s ss (i .1)))
-
--- so do the names of entries
+-- those of entries rise
 rises-most : (o : Order) (s t : ℕ) → rises o s t ≡ true → notAbove o ≡ true
 rises-most Below s t h = refl
 rises-most Same s t h = refl

@@ -2,17 +2,18 @@
 use mathlib.Core.Path.{_≡_, refl, sym, ap, _∙_}
 use mathlib.Core.List.{List, [], _∷_, _++_}
 use mathlib.Core.Bool.{Bool, true, false, cond, not}
-use Prim.Native.Nat.{ℕ, _+_, _≤_, _<_}
+use Prim.Native.Nat.{ℕ, _+_, _<_}
 use native.Mathlib.Omega.{arith}
-use lib.ListN.{length, length-append}
+use lib.ListN.{length}
 use lib.Dec.{eqb, ltb, leb, leb·zero, leb·suc-zero, leb·suc-suc}
-use borrow.Author.Tests.{ltb-true, ltb-false, lt-ltb, le-ltb, eq-eqb, not-true}
+use borrow.Author.Tests.{ltb-true, ltb-false, eq-eqb, not-true}
 use Rattle.format.specs.declared.Order.{Order}
-use Rattle.format.specs.declared.Order.the-variants.{Below, Above}
+use Rattle.format.specs.declared.Order.the-variants.{Below, Same, Above}
 use Rattle.format.specs.Names.{compare, common}
 use Rattle.format.specs.Layout.{under}
 use Rattle.format_laws.proofs.Tests.{false-true, clash, by-test, and-inv, eqb-swap}
-use Rattle.tree_counts.specs.Runs.{notAbove, sortedFrom, begins, leads, trails, every, never}
+use Rattle.format_laws.proofs.Orders.{through, names-through}
+use Rattle.tree_counts.specs.Runs.{notAbove, sortedFrom, begins, trails, never}
 use Rattle.tree_counts.proofs.Tests.{head-inv}
 
 -- ---- the order of names
@@ -28,29 +29,18 @@ order-inv x y o e less same =
     (λ q. false-true (rw (p, q) at e))
     (λ q. same (omega (arith, ltb-false x y p, ltb-false y x q)) (rw (p, q) at e)))
 
-order-less : (x y : ℕ) (o : Order) → x < y → notAbove (cond (ltb x y) Below (cond (ltb y x) Above o)) ≡ true
-order-less x y o h = rw (lt-ltb x y h)
+not-above : (o : Order) → notAbove o ≡ true → o ≡ Above → ⊥
+not-above o h e = clash h (ap notAbove e)
 
-order-same : (x y : ℕ) (o : Order) → x ≡ y → cond (ltb x y) Below (cond (ltb y x) Above o) ≡ o
-order-same x y o e =
-    let h : x ≤ y = omega arith in
-    let k : y ≤ x = omega arith in
-    rw (le-ltb x y k, le-ltb y x h)
+through-most : (o p : Order) → notAbove p ≡ true → notAbove (through o p) ≡ true
+unfolding through
+through-most Below p h = refl
+through-most Same p h = h
+through-most Above p h = h
 
 pub order-trans : (s t u : List ℕ) → notAbove (compare s t) ≡ true → notAbove (compare t u) ≡ true → notAbove (compare s u) ≡ true
-unfolding compare
-order-trans [] [] u h k = k
-order-trans [] (y ∷ t) [] h k = refl
-order-trans [] (y ∷ t) (z ∷ u) h k = refl
-order-trans (x ∷ s) [] u h k = false-true h
-order-trans (x ∷ s) (y ∷ t) [] h k = false-true k
-order-trans (x ∷ s) (y ∷ t) (z ∷ u) h k =
-    order-inv x y (compare s t) h
-    (λ p. order-inv y z (compare t u) k (λ q. order-less x z (compare s u) (omega arith)) (λ q g. order-less x z (compare s u) (omega arith)))
-    (λ p f.
-    order-inv y z (compare t u) k
-    (λ q. order-less x z (compare s u) (omega arith))
-    (λ q g. rw (order-same x z (compare s u) (p ∙ q)) (order-trans s t u f g)))
+order-trans s t u h k =
+    ap notAbove (names-through s t u (not-above (compare s t) h) (not-above (compare t u) k) .order) ∙ through-most (compare s t) (compare t u) k
 
 -- a name between two that begin with q begins with q
 pub between : (q s t u : List ℕ) → begins q s ≡ true → begins q u ≡ true → notAbove (compare s t) ≡ true → notAbove (compare t u) ≡ true → begins q t ≡ true
@@ -90,22 +80,7 @@ under-begins [] (y ∷ s) = rw (eqb-swap y 47) (by-test (eqb 47 y) (λ e. rw e) 
 under-begins (x ∷ d) [] = refl
 under-begins (x ∷ d) (y ∷ s) = rw (under-begins d s)
 
-pub under-common : (d s t : List ℕ) → under d s ≡ true → under d t ≡ leb (length d + 1) (common s t)
-under-common d s t u =
-    under-begins d t
-    ∙ begins-common (d ++ (47 ∷ [])) s t (sym (under-begins d s) ∙ u)
-    ∙ ap (λ (n : ℕ). leb n (common s t)) (length-append d (47 ∷ []))
-
 -- ---- names that rise
-
--- those after the first, and those from any on
-pub sorted-skip : (a s : List ℕ) (ss : List (List ℕ)) → sortedFrom a (s ∷ ss) ≡ true → sortedFrom a ss ≡ true
-unfolding sortedFrom
-sorted-skip a s [] h = refl
-sorted-skip a s (t ∷ ss) h =
-    let i = and-inv (notAbove (compare a s)) (sortedFrom s (t ∷ ss)) h in
-    let j = and-inv (notAbove (compare s t)) (sortedFrom t ss) (i .1) in
-    rw (order-trans a s t (i .0) (j .0), j .1)
 
 pub sorted-at : (a : List ℕ) (done : List (List ℕ)) (s : List ℕ) (ss : List (List ℕ)) → sortedFrom a (done ++ (s ∷ ss)) ≡ true
     → (notAbove (compare a s) ≡ true) × (sortedFrom s ss ≡ true)
@@ -120,37 +95,11 @@ sorted-at a (d ∷ done) s ss h =
 abbrev pub Convex : (List ℕ → Bool) → Type 0
 Convex p = (s t u : List ℕ) → p s ≡ true → p u ≡ true → notAbove (compare s t) ≡ true → notAbove (compare t u) ≡ true → p t ≡ true
 
-pub begins-convex : (q : List ℕ) → Convex (begins q)
-begins-convex q = between q
-
 pub under-convex : (d : List ℕ) → Convex (under d)
 under-convex d s t u p r h k =
     under-begins d t ∙ between (d ++ (47 ∷ [])) s t u (sym (under-begins d s) ∙ p) (sym (under-begins d u) ∙ r) h k
 
 module _ (p : List ℕ → Bool) (convex : Convex p) where
-  -- behind one that fails after one that passes, none passes
-  pub ended : (s t : List ℕ) (ss : List (List ℕ)) → p s ≡ true → notAbove (compare s t) ≡ true → p t ≡ false → sortedFrom t ss ≡ true → never p ss ≡ true
-  unfolding sortedFrom never
-  ended s t [] y o n h = refl
-  ended s t (u ∷ ss) y o n h =
-      let i = and-inv (notAbove (compare t u)) (sortedFrom u ss) h in
-      by-test (p u)
-      (λ e. clash (convex s t u y e o (i .0)) n)
-      (λ e. rw (e, ended s u ss y (order-trans s t u o (i .0)) e (i .1)))
-
-  -- behind a run that is as long as can be, none passes
-  pub rest-clear : (s : List ℕ) (run rest : List (List ℕ)) → p s ≡ true → every p run ≡ true → leads p rest ≡ false → sortedFrom s (run ++ rest) ≡ true
-      → never p rest ≡ true
-  unfolding sortedFrom leads every never
-  rest-clear s [] [] y e n h = refl
-  rest-clear s [] (t ∷ rest) y e n h =
-      let i = and-inv (notAbove (compare s t)) (sortedFrom t rest) h in
-      rw (n, ended s t rest y (i .0) n (i .1))
-  rest-clear s (t ∷ run) rest y e n h =
-      let i = and-inv (p t) (every p run) e in
-      let j = and-inv (notAbove (compare s t)) (sortedFrom t (run ++ rest)) h in
-      rest-clear t run rest (i .0) (i .1) n (j .1)
-
   -- where one that passes follows one that fails, none before passes
   pub done-clear : (a : List ℕ) (done : List (List ℕ)) (t : List ℕ) (ss : List (List ℕ)) → sortedFrom a (done ++ (t ∷ ss)) ≡ true
       → trails p done ≡ false → p t ≡ true → never p done ≡ true

@@ -6,7 +6,7 @@ use Prim.Native.Nat.{ℕ, zero, suc}
 use lib.ListN.{drop, length}
 use lib.Dec.{eqb}
 use Rattle.format.specs.Records.{Node, Forest, tree, Tree}
-use Rattle.format.specs.Layout.{okNodeName, Siblings, siblings-end, siblings-more}
+use Rattle.format.specs.Layout.{okNodeName}
 use Rattle.format.specs.Reading.{Read, bad, good, need, shift, bind}
 use Rattle.format.specs.Reader.{readNode, readSiblings, readForest, readNodes}
 use Rattle.tree_counts.specs.Judge.{plain}
@@ -14,11 +14,6 @@ use Rattle.tree_counts.specs.Judge.{plain}
 plain-tree : (n : Node) (kids after : Forest) → okNodeName (n .name) ≡ true → plain kids ≡ true → plain after ≡ true → plain (tree n kids after) ≡ true
 unfolding plain
 plain-tree n kids after h k l = rw (h, k, l)
-
-pub siblings-plain : {w levels : ℕ} {f : Forest} {a : List ℕ} → Siblings w levels f a → plain f ≡ true
-unfolding plain
-siblings-plain siblings-end = refl
-siblings-plain (siblings-more {n = n} {kids = f} {after = g} ok here kids after) = plain-tree n f g ok (siblings-plain kids) (siblings-plain after)
 
 -- what holds of an answer that is no refusal
 abbrev Holds : {A : Type 0} → (A → Type 0) → Read A → Type 0

@@ -1,6 +1,6 @@
 -- Runs of names under one component, in a directory whose names rise, and a walk from one to the next.
 use mathlib.Core.Path.{_≡_, refl, sym, ap, ap₂, subst, _∙_}
-use mathlib.Core.List.{List, [], _∷_, _++_, map, append-nil, append-assoc}
+use mathlib.Core.List.{List, [], _∷_, _++_, append-nil, append-assoc}
 use mathlib.Core.Bool.{Bool, true, false, _&&_}
 use mathlib.Core.Option.{some}
 use Prim.Native.Nat.{ℕ, _+_, _≤_}
@@ -10,41 +10,23 @@ use lib.Seq.{drop-drop}
 use Rattle.format.specs.Bytes.{eqList, lacks}
 use Rattle.format.specs.Names.{compare}
 use Rattle.format.specs.Records.{Forest, Tree}
-use Rattle.format.specs.Layout.{has, under, inside}
+use Rattle.format.specs.Layout.{has, under, inside, isValid}
 use Rattle.format_laws.proofs.Tests.{clash, by-test, and-inv}
 use Rattle.format_laws.proofs.Lists.{eqList-true}
-use Rattle.tree_counts.specs.Judge.{isValid, says, weight, child, reached, judge, matched, Sound}
-use Rattle.tree_counts.specs.Runs.{notAbove, sortedFrom, begins, leads, trails, every, never, span, beyond, Run, Boundary, within, enter, runIn, Passed}
+use Rattle.tree_counts.specs.Judge.{says, weight, child, reached, judge, matched, Sound}
+use Rattle.tree_counts.specs.Runs.{notAbove, sortedFrom, begins, leads, trails, every, span, beyond, Run, Boundary, within, enter, runIn, Passed}
 use Rattle.tree_counts.proofs.Names.{under-one}
-use Rattle.tree_counts.proofs.Walk.{inside-append, inside-never, inside-length, has-reached, child-some, judge-found, matched-found}
-use Rattle.tree_counts.proofs.Order.{under-begins, under-convex, sorted-at, rest-clear, done-clear}
+use Rattle.tree_counts.proofs.Walk.{inside-length, has-reached, child-some, judge-found, matched-found}
+use Rattle.tree_counts.proofs.Order.{under-begins, under-convex, done-clear}
 use Rattle.tree_counts.proofs.Directory.{begins-append, compare-cut, first-least}
 
 -- ---- a run
 
 module _ (p : List ℕ → Bool) where
-  pub span-beyond : (ss : List (List ℕ)) → span p ss ++ beyond p ss ≡ ss
-  unfolding span beyond
-  span-beyond [] = refl
-  span-beyond (s ∷ ss) = by-test (p s) (λ e. rw e (ap (λ (l : List (List ℕ)). s ∷ l) (span-beyond ss))) (λ e. rw e)
-
-  pub span-every : (ss : List (List ℕ)) → every p (span p ss) ≡ true
-  unfolding span every
-  span-every [] = refl
-  span-every (s ∷ ss) = by-test (p s) (λ e. rw (e, e) (span-every ss)) (λ e. rw e)
-
   pub beyond-leads : (ss : List (List ℕ)) → leads p (beyond p ss) ≡ false
   unfolding beyond leads
   beyond-leads [] = refl
   beyond-leads (s ∷ ss) = by-test (p s) (λ e. rw e (beyond-leads ss)) (λ e. rw e e)
-
--- what is left of the names of a run
-pub inside-run : (c : List ℕ) (run : List (List ℕ)) → every (under c) run ≡ true → inside c run ≡ map (λ (s : List ℕ). drop (length c + 1) s) run
-unfolding every inside
-inside-run c [] h = refl
-inside-run c (s ∷ run) h =
-    let i = and-inv (under c s) (every (under c) run) h in
-    rw (i .0) (ap (λ (l : List (List ℕ)). drop (length c + 1) s ∷ l) (inside-run c run (i .1)))
 
 -- ---- from one run to the next
 
@@ -96,22 +78,6 @@ run-at f c a done (t ∷ run) rest lc k sorted l all h = record {
   where
     first : under c t ≡ true
     first = and-inv (under c t) (every (under c) run) all .0
-
--- and where the run is as long as can be, no later name is under the component
-pub run-ends : (c a : List ℕ) (done run rest : List (List ℕ)) → sortedFrom a (done ++ (run ++ rest)) ≡ true → Run c done run → leads (under c) rest ≡ false
-    → never (under c) rest ≡ true
-unfolding every
-run-ends c a done [] rest sorted r n = absurd (omega (arith, r .some))
-run-ends c a done (t ∷ run) rest sorted r n =
-    let i = and-inv (under c t) (every (under c) run) (r .all) in
-    rest-clear (under c) (under-convex c) t run rest (i .0) (i .1) n (sorted-at a done t (run ++ rest) sorted .1)
-
--- all names under the component are then in the run
-pub inside-whole : (c : List ℕ) (done run rest : List (List ℕ)) → Run c done run → never (under c) rest ≡ true
-    → inside c (done ++ (run ++ rest)) ≡ inside c run
-inside-whole c done run rest r n =
-    inside-append c done (run ++ rest)
-    ∙ rw (inside-never c done (r .new), inside-append c run rest, inside-never c rest n) (append-nil (inside c run))
 
 -- ---- whole names
 

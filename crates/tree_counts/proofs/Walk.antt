@@ -10,10 +10,11 @@ use lib.ListN.{length}
 use borrow.Author.Tests.{not-true}
 use Rattle.format.specs.Bytes.{eqList, lacks}
 use Rattle.format.specs.Records.{Count, Node, Forest, nil, tree, Tree}
-use Rattle.format.specs.Layout.{has, under, inside}
+use Rattle.format.specs.Layout.{has, under, inside, isValid}
 use Rattle.format_laws.proofs.Tests.{false-true, clash, by-test, and-inv}
 use Rattle.format_laws.proofs.Lists.{eqList-true}
-use Rattle.tree_counts.specs.Judge.{isValid, says, weight, child, reached, covered, counted, hit, judgeEach, judge, matched, Sound}
+use Rattle.format_laws.proofs.Readings.{none-some}
+use Rattle.tree_counts.specs.Judge.{says, weight, child, reached, covered, counted, hit, judgeEach, judge, matched, Sound}
 use Rattle.tree_counts.specs.Runs.{every, never, Run}
 use Rattle.tree_counts.proofs.Tests.{or-false-inv}
 use Rattle.tree_counts.proofs.Names.{under-slash, under-one}
@@ -63,11 +64,8 @@ unfolding child has
 child-has c nil e = refl
 child-has c (tree n kids after) e =
     by-test (eqList c (n .name))
-    (λ q. absurd (some-none (rw q at e)))
+    (λ q. none-some (sym (rw q at e)))
     (λ q. rw q (child-has c after (rw q at e)))
-  where
-    some-none : {t : Tree} → some t ≡ none → ⊥
-    some-none e = let z : _≡_ {A = ℕ} 0 1 = cc in omega arith
 
 -- then a name under that component is under no sibling
 pub child-free : (c s : List ℕ) (f : Forest) → Sound f → lacks 47 c ≡ true → child c f ≡ none → under c s ≡ true → reached s f ≡ false
@@ -257,14 +255,6 @@ run-covered c (s ∷ ss) f t h e =
     let i = and-inv (under c s) (every (under c) ss) h in
     rw (under-slash c s (i .0), has-reached c s f (child-some c f t e) (i .0)) (run-covered c ss f t (i .1) e)
 
-run-uncovered : (c : List ℕ) (ss : List (List ℕ)) (f : Forest) → 1 ≤ length ss → every (under c) ss ≡ true → lacks 47 c ≡ true → Sound f → child c f ≡ none
-    → covered ss f ≡ false
-unfolding every covered
-run-uncovered c [] f l h lc d e = absurd (omega arith)
-run-uncovered c (s ∷ ss) f l h lc d e =
-    let u = and-inv (under c s) (every (under c) ss) h .0 in
-    rw (under-slash c s u, child-free c s f d lc e u)
-
 module _ (c : List ℕ) (done run : List (List ℕ)) (f : Forest) (r : Run c done run) (h : Sound f) where
   some-inside : 1 ≤ length (inside c run)
   some-inside = rw (inside-length c run (r .all)) (r .some)
@@ -278,12 +268,6 @@ module _ (c : List ℕ) (done run : List (List ℕ)) (f : Forest) (r : Run c don
       ∙ ap₂ _&&_ (sym (each-over done f))
       (judgeOne-some (t .root .count) (inside c run) (t .subtrees) some-inside ∙ rw (inside-length c run (r .all)))
 
-  each-absent : child c f ≡ none → judgeEach (done ++ run) f ≡ judgeEach done f
-  each-absent e =
-      each-over (done ++ run) f
-      ∙ over-absent _&&_ true judgeOne judgeOne-none (λ x. refl) and-comm and-assoc c done run r f h (child-has c f e)
-      ∙ sym (each-over done f)
-
   pub judge-found : (v : Bool) (t : Tree) → child c f ≡ some t
       → judge v (done ++ run) f
       ≡ (judge v done f && (says (t .root .count) (length run) && judge (isValid (t .root .count)) (inside c run) (t .subtrees)))
@@ -292,24 +276,9 @@ module _ (c : List ℕ) (done run : List (List ℕ)) (f : Forest) (r : Run c don
       rw (covered-append done run f, run-covered c run f t (r .all) e, and-true (covered done f), each-found t e)
       (sym (and-assoc (cond v (covered done f) true) (judgeEach done f) _))
 
-  pub judge-absent : (v : Bool) → child c f ≡ none → judge v (done ++ run) f ≡ (judge v done f && not v)
-  unfolding judge
-  judge-absent v e =
-      rw (covered-append done run f, run-uncovered c run f (r .some) (r .all) (r .component) h e, and-false (covered done f), each-absent e) (go v)
-    where
-      go : (v : Bool) → (cond v false true && judgeEach done f) ≡ ((cond v (covered done f) true && judgeEach done f) && not v)
-      go true = sym (and-false (covered done f && judgeEach done f))
-      go false = sym (and-true (judgeEach done f))
-
   pub matched-found : (t : Tree) → child c f ≡ some t
       → matched (done ++ run) f ≡ matched done f + (weight (t .root .count) + matched (inside c run) (t .subtrees))
   matched-found t e =
       matched-over (done ++ run) f
       ∙ over-found _+_ 0 matchedOne matchedOne-none zero-add add-comm add-assoc c done run r f t h e
       ∙ ap₂ _+_ (sym (matched-over done f)) (matchedOne-some (t .root .count) (inside c run) (t .subtrees) some-inside)
-
-  pub matched-absent : child c f ≡ none → matched (done ++ run) f ≡ matched done f
-  matched-absent e =
-      matched-over (done ++ run) f
-      ∙ over-absent _+_ 0 matchedOne matchedOne-none zero-add add-comm add-assoc c done run r f h (child-has c f e)
-      ∙ sym (matched-over done f)

@@ -8,13 +8,9 @@ use lib.ListN.{length}
 use lib.Dec.{eqb, leb}
 use Rattle.format.specs.Bytes.{eqList, lacks}
 use Rattle.format.specs.Records.{Count, valid, invalid, Forest, nil, tree, Tree}
-use Rattle.format.specs.Layout.{bit, okNodeName, distinct, under, inside, allValid}
+use Rattle.format.specs.Layout.{bit, okNodeName, distinct, under, inside, isValid, allValid}
 
 -- ---- one count
-
-abbrev pub isValid : Count → Bool
-isValid (valid c) = true
-isValid invalid = false
 
 -- whether a valid count is m
 abbrev pub says : Count → ℕ → Bool

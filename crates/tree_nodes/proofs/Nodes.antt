@@ -12,6 +12,7 @@ use lib.Dec.{leb}
 use borrow.Author.Tests.{eq-eqb, ne-eqb, le-leb, lt-leb}
 use Rattle.format.specs.Bytes.{before, decimal, value}
 use Rattle.format.specs.Records as Records
+use Rattle.format.specs.Layout.{isValid}
 use Rattle.format.specs.Reading.{Read, bad, good, need, shift, bind}
 use Rattle.format.specs.Reader.{readText, countIn, needSome, readCount, readSubtrees, readObject, Head, readNode}
 use Rattle.format_laws.proofs.Lists.{drop-to}
@@ -26,7 +27,7 @@ use Rattle.tree_nodes.specs.declared.node.Subtrees.the-variants as S
 use Rattle.tree_nodes.specs.declared.node.Node.{Node}
 use Rattle.tree_nodes.specs.declared.node.NodeRead.{NodeRead}
 use Rattle.tree_nodes.specs.declared.node.NodeRead.the-variants as R
-use Rattle.tree_nodes.specs.Answers.{numberIn, isValid, counted, objectLength, countTo, countAt, subtreesAt, nodeOf, nodeAt}
+use Rattle.tree_nodes.specs.Answers.{numberIn, counted, objectLength, countTo, countAt, subtreesAt, nodeOf, nodeAt}
 use Rattle.tree_nodes.proofs.Readings.{Took, count-took, subtrees-took, node-took}
 
 -- ---- entry counts

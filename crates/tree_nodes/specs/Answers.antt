@@ -1,12 +1,13 @@
 -- The format's readings as this crate's functions answer them. Every fault is 15, so an answer has no number.
 use mathlib.Core.List.{List}
-use mathlib.Core.Bool.{Bool, true, false, cond, _&&_}
+use mathlib.Core.Bool.{cond, _&&_}
 use mathlib.Core.Option.{Option, none, some}
 use Prim.Native.Nat.{ℕ, _+_, _-_}
 use lib.ListN.{length}
 use lib.Dec.{leb}
 use Rattle.format.specs.Bytes.{digits, decimal, valueFrom, value}
 use Rattle.format.specs.Records as Records
+use Rattle.format.specs.Layout.{isValid}
 use Rattle.format.specs.Reading.{Read, bad, good}
 use Rattle.format.specs.Reader.{Head}
 use Rattle.tree_nodes.specs.declared.number.Number.{Number}
@@ -31,11 +32,7 @@ numberFrom limit v t = cond (digits t && leb (valueFrom v t) limit) (N.Good (val
 
 -- ---- the parts of a node. next is the place after the part, at the place where it begins
 
-abbrev pub isValid : Records.Count → Bool
-isValid (Records.valid n) = true
-isValid Records.invalid = false
-
--- its number, 0 where it is invalid, and the length of the object name
+-- a count's number, 0 where it is invalid, and the length of the object name
 abbrev pub counted : Records.Count → ℕ
 counted (Records.valid n) = n
 counted Records.invalid = 0

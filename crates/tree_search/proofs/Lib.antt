@@ -1,4 +1,5 @@
 -- Laws that the functions' proofs cite.
 pub mod Siblings
+pub mod Trees
 pub mod Slots
 pub mod Notes

@@ -16,6 +16,7 @@ use Rattle.format.specs.Reader.{Head, readNode}
 use Rattle.tree_counts.specs.Judge.{child}
 use Rattle.format_laws.proofs.Tests.{clash, by-test, and-inv₃}
 use Rattle.format_laws.proofs.Lists.{eqList-true}
+use Rattle.format_laws.proofs.Readings.{none-some}
 use Rattle.tree_counts.proofs.Walk.{child-some}
 use Rattle.cache_tree.specs.Flat.{treesLength, nameOf, Reads, reads-none, reads-more}
 use Rattle.tree_nodes.proofs.Nodes.{node-named}
@@ -92,10 +93,7 @@ module _ (name : List ℕ) (n : Node) (kids after : Forest) where
   -- what the first alone is found by, all are
   child-one : (t : Tree) → child name (tree n kids nil) ≡ some t → child name (tree n kids after) ≡ some t
   unfolding child
-  child-one t e = by-test (eqList name (n .name)) (λ q. rw q (rw q at e)) (λ q. no-tree (rw q at e))
-    where
-      no-tree : {X : Type 0} → none ≡ some t → X
-      no-tree i = let z : _≡_ {A = ℕ} 0 1 = cc in absurd (omega arith)
+  child-one t e = by-test (eqList name (n .name)) (λ q. rw q (rw q at e)) (λ q. none-some (rw q at e))
 
   -- what is found after the first of siblings that differ is found from it on
   child-after : (t : Tree) → distinct (tree n kids after) ≡ true → child name after ≡ some t → child name (tree n kids after) ≡ some t

@@ -2,35 +2,33 @@
 use mathlib.Core.Path.{_≡_, refl, ap, subst, _∙_}
 use mathlib.Core.List.{List, [], _∷_}
 use mathlib.Core.Bool.{Bool, true, false, _&&_}
-use mathlib.Core.Option.{none, some}
+use mathlib.Core.Option.{some}
 use Prim.Native.Nat.{ℕ, _+_, _-_, _*_, _≤_, _<_}
 use native.Mathlib.Omega.{arith}
 use lib.ListN.{length, drop, length-drop}
 use lib.Dec.{leb, ltb}
 use Rattle.format.specs.Records.{Forest, nil}
 use Rattle.format.specs.Layout.{distinct}
+use Rattle.format_laws.proofs.Readings.{none-some}
 use Rattle.tree_nodes.proofs.Nodes.{node-is}
 use Rattle.cache_tree.specs.Flat.{Reads, reads-none}
 use Rattle.tree_counts.specs.Judge.{child, Sound}
 use Rattle.tree_counts.specs.Runs.{sortedFrom, begins}
 use Rattle.tree_counts.proofs.Directory.{first-least}
-use Rattle.tree_walk.specs.declared.front.Front.{Front}
+use Rattle.tree_lookup.specs.declared.front.Front.{Front}
 use Rattle.tree_walk.specs.declared.walk.Tally.{Tally}
 use Rattle.tree_walk.specs.declared.walk.Part.{Part}
 use Rattle.tree_walk.specs.declared.walk.Part.the-variants as P
 use Rattle.tree_search.specs.Siblings.{Last}
-use Rattle.tree_walk.specs.Ahead.{Ahead}
+use Rattle.tree_lookup.specs.Ahead.{Ahead}
 use Rattle.tree_walk.specs.Steps.{Ready, PartWalked, DirectoryWalked, Taken, BelowReady, Finished, roomBelow}
-use Rattle.tree_walk.proofs.Ahead.{stays-some, stays-long}
+use Rattle.tree_lookup.proofs.Ahead.{stays-some, stays-long}
 use Rattle.tree_walk.proofs.Steps.{reads-most, Joined, Walking, Standing, walk-start, walk-join, walk-on, walk-end}
 use Rattle.tree_walk.proofs.Parts.{part-found}
 
 last-none : (d : List ℕ) (f : Forest) (place : ℕ) → Last d f place 0
 unfolding distinct child
-last-none d f place = record { siblings = nil; taken = 0; reads = reads-none; differ = refl; part = λ name t e. some-none e }
-  where
-    some-none : {A : Type 0} {X : Type 0} {t : A} → none ≡ some t → X
-    some-none e = let z : _≡_ {A = ℕ} 0 1 = cc in absurd (omega arith)
+last-none d f place = record { siblings = nil; taken = 0; reads = reads-none; differ = refl; part = λ name t e. none-some e }
 
 sorted-all : (v : ℕ) (b work : List ℕ) (s : Front) (x : List ℕ) (xs : List (List ℕ)) → Ahead v b work s x xs → sortedFrom [] (x ∷ xs) ≡ true
 unfolding sortedFrom

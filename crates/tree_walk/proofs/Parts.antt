@@ -8,7 +8,7 @@ use native.Mathlib.Omega.{arith}
 use lib.ListN.{length, drop, length-append, length-drop}
 use Rattle.format.specs.Bytes.{lacks}
 use Rattle.format.specs.Records.{Forest}
-use Rattle.format.specs.Layout.{under}
+use Rattle.format.specs.Layout.{under, isValid}
 use Rattle.format.specs.Reader.{readNode}
 use Rattle.format_laws.proofs.Lists.{drop-to}
 use Rattle.tree_nodes.specs.declared.node.Node.{Node}
@@ -16,22 +16,21 @@ use Rattle.tree_nodes.specs.declared.node.NodeRead.the-variants as R
 use Rattle.tree_nodes.specs.Answers.{nodeAt}
 use Rattle.cache_tree.specs.Flat.{Reads}
 use Rattle.entries_run.specs.Steps.{nameAt}
-use Rattle.tree_counts.specs.Judge.{isValid, says, child, Sound}
+use Rattle.tree_counts.specs.Judge.{says, Sound}
 use Rattle.tree_counts.specs.Runs.{sortedFrom, begins, enter, Passed}
 use Rattle.tree_counts.proofs.Walk.{child-sound}
 use Rattle.tree_counts.proofs.Directory.{component-lacks, component-under}
-use Rattle.tree_walk.specs.declared.front.Front.{Front}
-use Rattle.tree_walk.specs.declared.front.Passage.{Passage}
-use Rattle.tree_walk.specs.declared.look.Look.{Look}
-use Rattle.tree_walk.specs.declared.look.Look.the-variants as L
+use Rattle.tree_lookup.specs.declared.front.Front.{Front}
+use Rattle.tree_lookup.specs.declared.front.Passage.{Passage}
+use Rattle.tree_lookup.specs.declared.look.Look.{Look}
+use Rattle.tree_lookup.specs.declared.look.Look.the-variants as L
 use Rattle.tree_walk.specs.declared.walk.Tally.{Tally}
-use Rattle.tree_walk.specs.declared.walk.Part.{Part}
 use Rattle.tree_search.specs.Siblings.{Last, FoundAt}
-use Rattle.tree_walk.specs.Ahead.{Ahead, Advanced, Went}
-use Rattle.tree_walk.specs.Components.{component, Component, Looked, LookedUp}
+use Rattle.tree_lookup.specs.Ahead.{Ahead, Advanced, Went}
+use Rattle.tree_lookup.specs.Components.{component, Component, Looked, LookedUp}
 use Rattle.tree_walk.specs.Steps.{NodeAdded, Moved, Tallied, Ready, PartWalked, DirectoryWalked}
-use Rattle.tree_walk.proofs.Trees.{NodeAt, node-at, no-bad, reads-at}
-use Rattle.tree_walk.proofs.Ahead.{fits-end}
+use Rattle.tree_search.proofs.Trees.{NodeAt, node-at, no-bad, reads-at}
+use Rattle.tree_lookup.proofs.Ahead.{fits-end}
 use Rattle.tree_walk.proofs.Steps.{moved-file, part-in, moved-missing, moved-found, reads-most}
 
 module _ (d : List ℕ) (at k : ℕ) (valid : Bool) (place left : ℕ) (b : List ℕ) (v : ℕ) (work : List ℕ) (q : ℕ) (s : Front) (work′ : List ℕ)

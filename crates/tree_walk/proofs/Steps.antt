@@ -9,9 +9,9 @@ use lib.ListN.{length, drop, length-append, length-drop}
 use Rattle.format.specs.Bytes.{lacks}
 use lib.Dec.{eqb, leb, ltb}
 use Rattle.format.specs.Records.{Count, valid, invalid, Forest, Tree}
-use Rattle.format.specs.Layout.{bit, under}
+use Rattle.format.specs.Layout.{bit, under, isValid}
 use Rattle.format_laws.proofs.Tests.{by-test, and-inv}
-use Rattle.tree_counts.specs.Judge.{isValid, says, weight, positive, child, reached, judge, matched, Sound}
+use Rattle.tree_counts.specs.Judge.{says, weight, positive, child, reached, judge, matched, Sound}
 use Rattle.tree_counts.specs.Runs.{sortedFrom, begins, leads, every, span, beyond, within, enter, runIn, Passed}
 use Rattle.tree_counts.proofs.Names.{under-slash}
 use Rattle.tree_counts.proofs.Siblings.{file-unreached}
@@ -22,8 +22,8 @@ use Rattle.tree_nodes.specs.declared.node.Node.{Node}
 use Rattle.tree_nodes.proofs.Readings.{node-took}
 use Rattle.cache_tree.specs.Flat.{Reads, reads-none, reads-more}
 use Rattle.tree_walk.specs.declared.walk.Tally.{Tally}
-use Rattle.tree_walk.specs.Ahead.{Ahead, After, Left}
-use Rattle.tree_walk.proofs.Ahead.{stays-is, stays-in}
+use Rattle.tree_lookup.specs.Ahead.{Ahead, After, Left}
+use Rattle.tree_lookup.proofs.Ahead.{stays-is, stays-in}
 use Rattle.tree_walk.specs.Steps.{NodeAdded, Moved, Tallied}
 
 -- ---- names under a component that no sibling has

@@ -8,37 +8,34 @@ use lib.ListN.{length, drop}
 use lib.Dec.{eqb}
 use Rattle.format.specs.Bytes.{Bytes}
 use Rattle.format.specs.Records.{Entry, start, Count, valid, invalid, Forest, Tree}
-use Rattle.format.specs.Layout.{distinct, allValid, okTreeCounts, names}
+use Rattle.format.specs.Layout.{distinct, isValid, allValid, okTreeCounts, names}
 use Rattle.format.specs.Reading.{good}
 use Rattle.format.specs.Reader.{readNode, readEntries, readNodes}
 use Rattle.format_laws.proofs.Tests.{by-test}
 use Rattle.format_laws.proofs.Lists.{drop-to}
 use Rattle.format_laws.proofs.Numbers.{bytes-drop}
-use Rattle.format_laws.proofs.Readings.{need-inv, bind-inv, good-inv}
 use Rattle.spelling_entries.proofs.Entries.{entries-read}
 use Rattle.tree_nodes.specs.declared.node.Node.{Node}
 use Rattle.tree_nodes.specs.declared.node.NodeRead.the-variants as R
 use Rattle.tree_nodes.specs.Answers.{nodeAt}
 use Rattle.cache_tree.specs.Flat.{Reads}
-use Rattle.cache_tree.proofs.Flat.{forest-reads}
 use Rattle.entries_run.specs.Steps.{nameAt, firstCursor, runFrom, Room}
 use Rattle.entries_run.proofs.Steps.{run-first, inside-first}
-use Rattle.tree_counts.specs.Judge.{isValid, says, tidy, positive, judge, matched, countsAll, Sound}
+use Rattle.tree_counts.specs.Judge.{says, tidy, positive, judge, matched, countsAll, Sound}
 use Rattle.tree_counts.specs.Runs.{begins}
 use Rattle.tree_counts.proofs.Readings.{nodes-plain}
 use Rattle.tree_counts.proofs.Counts.{counts-judged}
 use Rattle.tree_counts.proofs.Walk.{judge-start, matched-start}
 use Rattle.tree_counts.proofs.Directory.{entries-sorted}
 use Rattle.tree_counts.proofs.Runs.{within-top}
-use Rattle.tree_walk.specs.declared.front.Front.{Front}
-use Rattle.tree_walk.specs.declared.survey.Survey.{Survey}
-use Rattle.tree_walk.specs.declared.survey.Survey.the-variants as S
+use Rattle.tree_lookup.specs.declared.front.Front.{Front}
+use Rattle.tree_survey.specs.declared.Survey.{Survey}
+use Rattle.tree_survey.specs.declared.Survey.the-variants as S
 use Rattle.tree_walk.specs.declared.walk.Tally.{Tally}
-use Rattle.tree_search.specs.Siblings.{TreeAt}
-use Rattle.tree_walk.specs.Trees.{surveyOf}
-use Rattle.tree_walk.specs.Ahead.{Fits, Ahead, After, after-none, after-some}
+use Rattle.tree_survey.specs.Trees.{surveyOf}
+use Rattle.tree_lookup.specs.Ahead.{Fits, Ahead, After, after-none, after-some}
 use Rattle.tree_walk.specs.Steps.{DirectoryWalked}
-use Rattle.tree_walk.proofs.Trees.{NodeAt, node-at, no-bad, reads-at}
+use Rattle.tree_search.proofs.Trees.{reads-at, NodeAt, node-at, no-bad, tree-at}
 
 -- ---- the entries from the first on
 
@@ -81,17 +78,6 @@ module _ (d : List ℕ) (root : Node) (met v : ℕ) (b work : List ℕ) (f : For
       let u = walked .tallied f n sound reads [] x xs h (begins-all x) refl in
       let top = within-top (x ∷ xs) in
       both ∙ rw (agrees, whole, u .ok, u .met, u .count, top)
-
--- ---- the tree
-
-pub tree-at : (d : List ℕ) (t : Tree) (n : ℕ) → readNodes 20 0 d ≡ good t n → TreeAt d 0 t
-unfolding readNodes
-tree-at d t n e =
-    bind-inv _ _ _ _ e λ h a i q r is.
-    need-inv _ _ _ _ _ _ r λ named r₁.
-    bind-inv _ _ _ _ r₁ λ kids b j q₁ r₂ is₁.
-    good-inv _ _ _ _ r₂ λ same z.
-    rw (← same) (record { subtrees = h .subtrees; own = a; below = b; node = q; kids = forest-reads 127 (h .subtrees) (drop a d) kids b q₁ })
 
 -- ---- the parts of the test
 

@@ -16,14 +16,14 @@ use Rattle.cache_tree.specs.Flat.{Reads}
 use Rattle.entries_run.specs.Steps.{nameAt}
 use Rattle.tree_counts.specs.Judge.{judge, matched, Sound}
 use Rattle.tree_counts.specs.Runs.{sortedFrom, begins, within, Passed}
-use Rattle.tree_walk.specs.declared.front.Front.{Front}
-use Rattle.tree_walk.specs.declared.look.Look.the-variants as L
+use Rattle.tree_lookup.specs.declared.front.Front.{Front}
+use Rattle.tree_lookup.specs.declared.look.Look.the-variants as L
 use Rattle.tree_walk.specs.declared.walk.Tally.{Tally}
 use Rattle.tree_walk.specs.declared.walk.Part.{Part}
 use Rattle.tree_walk.specs.declared.walk.Part.the-variants as P
 use Rattle.tree_search.specs.Siblings.{Last}
-use Rattle.tree_walk.specs.Ahead.{Fits, Ahead, After, Left}
-use Rattle.tree_walk.specs.Components.{LookedUp}
+use Rattle.tree_lookup.specs.Ahead.{Fits, Ahead, After, Left}
+use Rattle.tree_lookup.specs.Components.{LookedUp}
 
 -- ---- one node
 

@@ -1,17 +1,17 @@
 // Whether the counts of a cache tree are right: refusal 16.
-use crate::front::Front;
-use crate::front::advance;
-use crate::survey::Survey;
-use crate::survey::survey_trees;
 use crate::walk::Tally;
 use crate::walk::agrees;
 use crate::walk::both;
 use crate::walk::walk_directory;
 use entries_run::first;
+use tree_lookup::front::Front;
+use tree_lookup::front::advance;
 use tree_nodes::node::Node;
 use tree_nodes::node::NodeRead;
 use tree_nodes::node::read_node;
 use tree_search::table::reset;
+use tree_survey::Survey;
+use tree_survey::survey_trees;
 ghost use Prim.Native.Nat.{_≤_};
 ghost use lib.ListN.{length};
 ghost use Rattle.entries_run.specs.Steps.{Room};

@@ -1,24 +1,24 @@
 // The walk over the entries: what it tests of the counts of a cache tree.
-use crate::front::Front;
-use crate::front::advance;
-use crate::front::pass;
-use crate::front::stays;
-use crate::look::Look;
-use crate::look::look_up;
-use crate::survey::weight;
+use tree_lookup::front::Front;
+use tree_lookup::front::advance;
+use tree_lookup::front::pass;
+use tree_lookup::front::stays;
+use tree_lookup::look::Look;
+use tree_lookup::look::look_up;
 use tree_nodes::node::Node;
 use tree_nodes::node::NodeRead;
 use tree_nodes::node::read_node;
 use tree_search::keys::Table;
+use tree_survey::weight;
 ghost use mathlib.Core.Path.{_≡_};
 ghost use mathlib.Core.Bool.{true, cond, _&&_};
-ghost use Prim.Native.Nat.{ℕ, _+_, _≤_, _<_};
+ghost use Prim.Native.Nat.{_+_, _≤_, _<_};
 ghost use lib.ListN.{length};
 ghost use lib.Dec.{eqb};
 ghost use Rattle.tree_search.specs.Table.{Known};
 ghost use Rattle.tree_walk.specs.Steps.{NodeAdded, Ready, Taken, BelowReady, Finished, DirectoryWalked};
 
-// Whether the tests pass, how many nodes with a count of at least 1 were met, a hint to find_child, how many entries were passed, and what is
+// Whether the tests pass, how many nodes with a count of at least 1 were met, a hint to look_up, how many entries were passed, and what is
 // ahead of them. There is one on the stack for each level, so places are held in 32 bits.
 pub struct Tally {
     pub ok: bool,

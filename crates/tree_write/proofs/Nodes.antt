@@ -8,7 +8,7 @@ use lib.ListN.{length, take, drop, length-append, length-drop, take-append-drop}
 use lib.Seq.{drop-drop, drop-append-seam, take-at, length-take-le}
 use Rattle.format.specs.Bytes.{before, decimal}
 use Rattle.format.specs.Records.{Count, valid, invalid}
-use Rattle.format.specs.Layout.{CountText, ObjectBytes}
+use Rattle.format.specs.Layout.{isValid, CountText, ObjectBytes}
 use Rattle.format.specs.Reading.{Read, bad, good}
 use Rattle.format.specs.Reader.{Head, readNode}
 use Rattle.format.specs.Writer.{decimalOf, writeCount, writeObject, writeNode}
@@ -21,7 +21,7 @@ use Rattle.writing.proofs.Decimals.{decimalOf-value}
 use Rattle.writing.proofs.Copies.{valid-copied}
 use Rattle.tree_nodes.specs.declared.node.Node as Code
 use Rattle.tree_nodes.specs.declared.node.NodeRead.the-variants as R
-use Rattle.tree_nodes.specs.Answers.{isValid, objectLength, nodeOf, nodeAt}
+use Rattle.tree_nodes.specs.Answers.{objectLength, nodeOf, nodeAt}
 use Rattle.format_laws.proofs.Lists.{drop-to}
 use Rattle.output.specs.Output.{Wrote}
 use Rattle.output.proofs.Laws.{wrote-then}

@@ -21,7 +21,7 @@ use Rattle.format_laws.proofs.Lists.{drop-to}
 use Rattle.tree_nodes.proofs.Nodes.{NodeIs, node-is}
 use Rattle.cache_tree.proofs.Flat.{reads-width, reads-length, trees-none}
 use Rattle.tree_search.proofs.Siblings.{First, reads-first, reads-empty, first-length}
-use Rattle.tree_walk.proofs.Trees.{chain, reads-chain, reads-at, NodeAt, node-at, no-bad}
+use Rattle.tree_search.proofs.Trees.{chain, reads-chain, reads-at, NodeAt, node-at, no-bad}
 use Rattle.output.specs.Output.{Wrote}
 use Rattle.output.proofs.Laws.{wrote-then}
 use Rattle.tree_write.specs.declared.Way.{Way}

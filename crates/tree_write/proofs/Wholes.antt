@@ -19,8 +19,7 @@ use Rattle.format_laws.proofs.Lists.{drop-to}
 use Rattle.cache_tree.specs.Flat.{reads-none, reads-more}
 use Rattle.cache_tree.proofs.Flat.{reads-width}
 use Rattle.tree_search.specs.Siblings.{TreeAt}
-use Rattle.tree_walk.proofs.Trees.{reads-at, NodeAt, node-at, no-bad}
-use Rattle.tree_walk.proofs.Wholes.{tree-at}
+use Rattle.tree_search.proofs.Trees.{reads-at, NodeAt, node-at, no-bad, tree-at}
 use Rattle.output.specs.Output.{Wrote}
 use Rattle.output.proofs.Laws.{wrote-then}
 use Rattle.tree_write.specs.declared.Passed.{Passed}

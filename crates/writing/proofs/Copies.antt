@@ -1,42 +1,20 @@
 -- What is written of records that were read is, as far as it can be, the very bytes that they were read from.
-use mathlib.Core.Path.{_≡_, refl, sym, ap, _∙_}
-use mathlib.Core.List.{List, [], _∷_, _++_, append-assoc}
-use mathlib.Core.Bool.{true, cond}
-use Prim.Native.Nat.{ℕ, suc, _+_, _-_, _≤_}
-use native.Mathlib.Omega.{arith}
-use lib.ListN.{length, take, drop, length-append, take-append-drop}
-use lib.Seq.{drop-drop, drop-append-seam, take-at, take-take, length-take-le}
+use mathlib.Core.Path.{_≡_, refl, sym, _∙_}
+use mathlib.Core.List.{List, [], _∷_, _++_}
+use mathlib.Core.Bool.{true}
+use Prim.Native.Nat.{ℕ, _+_, _-_}
+use lib.ListN.{length, take}
 use lib.Dec.{eqb}
-use Rattle.format.specs.Bytes.{Bytes, be32s, put16, put32s, before, decimal, value}
-use Rattle.format.specs.Records.{Entry, Key, Count, valid, invalid, Node, Stage, Undo}
-use Rattle.format.specs.Layout.{flagsOf, wordOf, CountText, ObjectBytes, IsNode, IsStage, IsUndo, Undos, undos-end, undos-more}
+use Rattle.format.specs.Bytes.{decimal, value}
+use Rattle.format.specs.Records.{Count, valid, invalid, Node, Stage, Undo}
+use Rattle.format.specs.Layout.{CountText, ObjectBytes, IsNode, IsStage, IsUndo, Undos, undos-end, undos-more}
 use Rattle.format.specs.Reading.{good}
-use Rattle.format.specs.Reader.{readEntry, Head, readNode, readUndos}
+use Rattle.format.specs.Reader.{Head, readNode, readUndos}
 use Rattle.format.specs.Writer.{decimalOf, writeCount, writeObject, writeNode, writeStage, writeUndo, writeUndos}
 use Rattle.format_laws.proofs.Tests.{by-test}
-use Rattle.format_laws.proofs.Texts.{before-at, after-text}
-use Rattle.spelling_entries.proofs.Bytes.{length-put32s, put32s-be32s}
-use Rattle.spelling_entries.proofs.Entries.{entry-read, entry-takes}
-use Rattle.spelling_extensions.proofs.Texts.{count-lacks}
 use Rattle.spelling_extensions.proofs.Tree.{node-read}
 use Rattle.spelling_extensions.proofs.Undo.{undos-read}
 use Rattle.writing.proofs.Decimals.{decimalOf-value}
-
--- ---- an entry: its ten numbers, and its object name after them
-
-pub numbers-copied : (s : List ℕ) → Bytes s → 40 ≤ length s → put32s (be32s s 0 10) ≡ take 40 s
-numbers-copied s bytes long = put32s-be32s s 0 10 bytes long
-
-pub front-copied : (w v : ℕ) (k : Key) (p : ℕ) (s : List ℕ) (e : Entry) (m : ℕ) → Bytes s → readEntry w v k p s ≡ good e m
-    → put32s (e .numbers) ++ e .object ≡ take (40 + w) s
-front-copied w v k p s e m bytes q =
-    let (within, h) = entry-read w v k p s e m bytes q in
-    let front : List ℕ = put32s (e .numbers) ++ e .object in
-    let rest : List ℕ = put16 (flagsOf (h .extended) e) ++ (cond (h .extended) (put16 (wordOf e)) [] ++ h .tail) in
-    let whole : take m s ≡ front ++ rest = h .bytes ∙ sym (append-assoc (put32s (e .numbers)) (e .object) rest) in
-    let size : length front ≡ 40 + w = length-append (put32s (e .numbers)) (e .object) ∙ omega (arith, length-put32s (e .numbers), h .ten, h .object) in
-    let long : 42 + w ≤ m = entry-takes w v k p s e m q in
-    sym (sym (take-take (40 + w) m s (omega arith)) ∙ ap (take (40 + w)) whole ∙ take-at front rest (40 + w) size)
 
 -- ---- resolve undo: the whole data
 
@@ -98,26 +76,3 @@ unfolding writeNode
 valid-copied w p s h m c q is =
     let k = node-read w p s h m q .1 in
     sym (node-is k ∙ rw (valid-text (h .node .count) c (k .countText) is (k .counted)) refl)
-
--- of an invalid one, the name, and what stands from the space after the count on
-pub invalid-copied : (w p : ℕ) (s : List ℕ) (h : Head) (m : ℕ) → readNode w p s ≡ good h m → h .node .count ≡ invalid
-    → let a : ℕ = length (h .node .name) + 1 in
-    let e : ℕ = a + before 32 (drop a s) in
-    writeNode (h .node) (h .subtrees) ≡ h .node .name ++ (0 ∷ 45 ∷ 49 ∷ take (m - e) (drop e s))
-unfolding writeNode writeCount
-invalid-copied w p s h m q is =
-    let (within, k) = node-read w p s h m q in
-    let name : List ℕ = h .node .name in
-    let text : List ℕ = k .countText in
-    let tail : List ℕ = fromSpace (h .node) (h .subtrees) in
-    let a : ℕ = length name + 1 in
-    let whole : s ≡ name ++ (0 ∷ (text ++ (tail ++ drop m s))) =
-    sym (take-append-drop m s) ∙ ap (λ (x : List ℕ). x ++ drop m s) (node-is k) ∙ simp append-assoc in
-    let after : drop a s ≡ text ++ (tail ++ drop m s) = ap (drop a) whole ∙ after-text name 0 (text ++ (tail ++ drop m s)) in
-    let at : before 32 (drop a s) ≡ length text =
-    rw after (before-at 32 text _ (count-lacks 32 (h .node .count) text (omega arith) (k .counted))) in
-    let rest : drop (a + length text) s ≡ tail ++ drop m s =
-    sym (drop-drop (length text) a s) ∙ rw after (drop-append-seam text (tail ++ drop m s)) in
-    let size : length (take m s) ≡ length name + suc (length text + length tail) = ap length (node-is k) ∙ simp length-append in
-    let left : m - (a + length text) ≡ length tail = omega (arith, length-take-le m s within) in
-    rw (at, rest, left, take-at tail (drop m s) (length tail) refl, is) refl

@@ -10,18 +10,11 @@ use borrow.Author.Tests.{eq-eqb}
 use Rattle.format.specs.Names.{common}
 use Rattle.format.specs.Layout.{when, Plain, Packed, NameBytes}
 use Rattle.format.specs.Writer.{writePlain, writePacked, writeName}
-use Rattle.format_laws.proofs.Names.{common-take}
-use Rattle.format_laws.proofs.Tests.{by-cond}
+use Rattle.format_laws.proofs.Names.{common-le, common-take}
 
 -- ---- the bytes that two names have in common
 
-pub common-le : (s t : List ℕ) → common s t ≤ length s
-unfolding common
-common-le [] t = omega arith
-common-le (x ∷ s) [] = omega arith
-common-le (x ∷ s) (y ∷ t) = by-cond (λ n. n ≤ suc (length s)) (eqb x y) (suc (common s t)) 0 (λ e. omega (arith, common-le s t)) (λ e. omega arith)
-
--- they are the most: whatever beginning of s begins t is no longer
+-- whatever beginning of s begins t is no longer
 pub common-most : (k : ℕ) (s t u : List ℕ) → k ≤ length s → t ≡ take k s ++ u → k ≤ common s t
 unfolding common
 common-most zero s t u h e = omega arith
@@ -39,7 +32,7 @@ packed-written : (previous name : List ℕ) → Packed previous name (writePacke
 unfolding writePacked
 packed-written previous name =
     let c : ℕ = common previous name in
-    let within : c ≤ length previous = common-le previous name in
+    let within : c ≤ length previous = common-le previous name .0 in
     let back : length previous - (length previous - c) ≡ c = omega arith in
     record {
       n = length previous - c;

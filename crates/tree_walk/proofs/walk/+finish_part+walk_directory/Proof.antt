@@ -19,7 +19,7 @@ use Rattle.tree_walk.proofs.walk.+finish_part+walk_directory.Lts-finish
 use Rattle.tree_walk.proofs.walk.walk_directory.Reads as walk-directory
 use Rattle.tree_walk.proofs.walk.walk_directory.Kinds as walk-directory-kinds
 use Rattle.tree_walk.proofs.walk.+finish_part+walk_directory.Lts-walk_directory as walk-directory-lts
-use Rattle.tree_walk.proofs.front.stays.Reads as stays-reads
+use Rattle.tree_lookup.proofs.front.stays.Reads as stays-reads
 use Rattle.tree_walk.proofs.walk.add_node.Reads as add-node-reads
 use Rattle.tree_walk.proofs.walk.both.Reads as both-reads
 use Rattle.tree_walk.proofs.walk.plus.Reads as plus-reads

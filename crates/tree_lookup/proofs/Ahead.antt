@@ -1,0 +1,143 @@
+-- Laws of the names that are ahead of a walk over the entries.
+use mathlib.Core.Path.{_≡_, refl, sym, ap, subst, _∙_}
+use mathlib.Core.List.{List, _∷_}
+use mathlib.Core.Bool.{true, false, _&&_}
+use Prim.Native.Nat.{ℕ, _+_, _-_, _≤_, _<_}
+use native.Mathlib.Omega.{arith}
+use lib.ListN.{length, length-take}
+use lib.Dec.{eqb, leb, ltb}
+use borrow.Author.Tests.{lt-ltb, ltb-true, leb-true}
+use Rattle.format.specs.Names.{common, compare}
+use Rattle.format.specs.Layout.{names}
+use Rattle.format.specs.Reader.{entryOf}
+use Rattle.format_laws.proofs.Tests.{false-true, by-test, and-inv}
+use Rattle.format_laws.proofs.Names.{common-le}
+use Rattle.format_laws.proofs.Readings.{bad-good, good-inv, front-inv}
+use Rattle.entries_run.specs.declared.Step.{Step}
+use Rattle.entries_run.specs.declared.Next.the-variants as N
+use Rattle.entries_run.specs.Steps.{nameAt, Found, Stepped, runFrom}
+use Rattle.entries_run.proofs.Steps.{entries-bad, entries-good, run-none}
+use Rattle.tree_counts.specs.Runs.{notAbove, sortedFrom, begins, leads, beyond, within}
+use Rattle.tree_counts.proofs.Order.{begins-common}
+use Rattle.tree_counts.proofs.Runs.{within-end, within-step, beyond-step, beyond-end}
+use Rattle.tree_lookup.specs.declared.front.Front.{Front}
+use Rattle.tree_lookup.specs.Ahead.{Fits, Ahead, After, after-none, after-some, Advanced, Left}
+
+-- ---- lengths
+
+pub nameAt-short : (v : ℕ) (b work : List ℕ) (start len : ℕ) → length (nameAt v b work start len) ≤ len
+unfolding nameAt
+nameAt-short v b work start len =
+    by-test (eqb v 4)
+    (λ e. rw (e, length-take) (omega arith))
+    (λ e. rw (e, length-take) (omega arith))
+
+-- ---- a step
+
+next-sorted : (x y : List ℕ) (ys : List (List ℕ)) → sortedFrom x (y ∷ ys) ≡ true → sortedFrom y ys ≡ true
+unfolding sortedFrom
+next-sorted x y ys e = and-inv (notAbove (compare x y)) (sortedFrom y ys) e .1
+
+pub fits-end : (b : List ℕ) (s : Front) → Fits b s → Fits b (record { cursor = s .cursor; ahead = 0; common = 0 })
+fits-end b s h = record { inside = h .inside; short = omega arith; few = omega arith }
+
+module _ (v : ℕ) (b work : List ℕ) (s : Front) (work′ : List ℕ) where
+  -- over the last name
+  pub step-end : (r : Front) → r .ahead ≡ 0 → s .ahead ≤ 1 → (x : List ℕ) (xs : List (List ℕ)) → Ahead v b work s x xs → After v b work′ r x xs
+  unfolding names
+  step-end r z few x xs h =
+      let e : s .ahead - 1 ≡ 0 = omega arith in
+      good-inv _ _ _ _ (sym (run-none v b work (s .cursor)) ∙ ap (λ (n : ℕ). runFrom v n b work (s .cursor)) (sym e) ∙ h .reads) λ q m.
+      subst (After v b work′ r x) (ap names q ∙ h .rest) (after-none z)
+
+  module _ (more : 1 < s .ahead) where
+    left-some : 0 < s .ahead - 1
+    left-some = omega arith
+
+    -- over a name that an entry follows which is refused
+    pub step-bad {ℓ} : {X : Type ℓ} (m : ℕ) → Stepped v b work (s .cursor) work′ (N.Bad m) → (x : List ℕ) (xs : List (List ℕ)) → Ahead v b work s x xs → X
+    step-bad m t x xs h = bad-good _ _ _ _ (sym (entries-bad v b work (s .cursor) work′ (s .ahead - 1) left-some m t) ∙ h .reads)
+
+    module _ (st : Step) (t : Stepped v b work (s .cursor) work′ (N.Good st)) where
+      pub step-fits : Fits b s → Fits b (record { cursor = st .next; ahead = s .ahead - 1; common = st .common })
+      step-fits h =
+          let f : Found v b work (s .cursor) work′ st = t .found st refl in
+          let x = nameAt v b work (s .cursor .start) (s .cursor .len) in
+          let y = nameAt v b work′ (st .next .start) (st .next .len) in
+          record { inside = f .next; short = omega (arith, f .common, common-le x y .1, nameAt-short v b work′ (st .next .start) (st .next .len)); few = omega (arith, h .few) }
+
+      pub step-on : (x : List ℕ) (xs : List (List ℕ)) → Ahead v b work s x xs → After v b work′ (record { cursor = st .next; ahead = s .ahead - 1; common = st .common }) x xs
+      unfolding names entryOf
+      step-on x xs h =
+          let f : Found v b work (s .cursor) work′ st = t .found st refl in
+          front-inv _ _ _ _ _ (sym (entries-good v b work (s .cursor) work′ (s .ahead - 1) left-some st t) ∙ h .reads) λ gs l q parts sum.
+          let y = nameAt v b work′ (st .next .start) (st .next .len) in
+          let is : (y ∷ names gs) ≡ xs = ap names parts ∙ h .rest in
+          subst (After v b work′ _ x) is
+          (after-some (record { some = left-some; name = refl; entries = gs; taken = l; reads = q; rest = refl; sorted = next-sorted x y (names gs) (ap (sortedFrom x) is ∙ h .sorted) }) (f .common ∙ ap (λ (z : List ℕ). common z y) (h .name)))
+
+-- ---- the first name ahead
+
+-- whether it is in a directory that the name before it is in
+pub stays-is : (v : ℕ) (b work : List ℕ) (s : Front) (last q : List ℕ) (xs : List (List ℕ)) → After v b work s last xs → begins q last ≡ true
+    → (ltb 0 (s .ahead) && leb (length q) (s .common)) ≡ leads (begins q) xs
+unfolding leads
+stays-is v b work s last q _ (after-none z) i = rw z
+stays-is v b work s last q _ (after-some {x} {xs} h e) i = rw (lt-ltb 0 (s .ahead) (h .some), e) (sym (begins-common q last x i))
+
+pub stays-some : (s : Front) (k : ℕ) → (ltb 0 (s .ahead) && leb k (s .common)) ≡ true → 1 ≤ s .ahead
+stays-some s k e = ltb-true 0 (s .ahead) (and-inv (ltb 0 (s .ahead)) (leb k (s .common)) e .0)
+
+pub stays-long : (b : List ℕ) (s : Front) (k : ℕ) → Fits b s → (ltb 0 (s .ahead) && leb k (s .common)) ≡ true → k ≤ s .cursor .len
+stays-long b s k fits e = omega (arith, fits .short, leb-true k (s .common) (and-inv (ltb 0 (s .ahead)) (leb k (s .common)) e .1))
+
+-- it is there, and in the directory
+pub stays-in {ℓ} : {X : Type ℓ} (v : ℕ) (b work : List ℕ) (s : Front) (last q : List ℕ) (xs : List (List ℕ)) → After v b work s last xs → begins q last ≡ true
+    → (ltb 0 (s .ahead) && leb (length q) (s .common)) ≡ true
+    → ((y : List ℕ) (ys : List (List ℕ)) → xs ≡ y ∷ ys → Ahead v b work s y ys → begins q y ≡ true → X) → X
+stays-in v b work s last q _ (after-none z) i e f = false-true (rw z at e)
+stays-in v b work s last q _ (after-some {x} {xs} h c) i e f =
+    f x xs refl h (begins-common q last x i ∙ ap (leb (length q)) (sym c) ∙ and-inv (ltb 0 (s .ahead)) (leb (length q) (s .common)) e .1)
+
+-- ---- past the names in a directory
+
+-- of the names xs those in the directory q have been passed in part: so many, with one before them
+pub record Passing (v : ℕ) (b work : List ℕ) (s : Front) (q : List ℕ) (xs : List (List ℕ)) (count : ℕ) : Type 0 where
+  pub rest : List (List ℕ)
+  pub last : List ℕ
+  pub in-it : begins q last ≡ true
+  pub after : After v b work s last rest
+  pub counted : count + length (within q rest) ≡ 1 + length (within q xs)
+  pub left : beyond (begins q) rest ≡ beyond (begins q) xs
+
+module _ (v : ℕ) (b : List ℕ) (q : List ℕ) (xs : List (List ℕ)) where
+  pub pass-start : (work : List ℕ) (s : Front) (last : List ℕ) → After v b work s last xs → begins q last ≡ true → Passing v b work s q xs 1
+  pass-start work s last h i = record { rest = xs; last = last; in-it = i; after = h; counted = refl; left = refl }
+
+  module _ (work : List ℕ) (s : Front) (count : ℕ) (h : Passing v b work s q xs count) where
+    pub pass-on : (work′ : List ℕ) (r : Front) → (ltb 0 (s .ahead) && leb (length q) (s .common)) ≡ true → Advanced v b work s work′ r → Passing v b work′ r q xs (count + 1)
+    pass-on work′ r e t =
+        stays-in v b work s (h .last) q (h .rest) (h .after) (h .in-it) e λ y ys is ahead i.
+        let n : length (within q (h .rest)) ≡ 1 + length (within q ys) = ap (λ (l : List (List ℕ)). length (within q l)) is ∙ ap length (within-step q y ys i) ∙ omega arith in
+        record {
+          rest = ys;
+          last = y;
+          in-it = i;
+          after = t .after y ys ahead;
+          counted = omega (arith, h .counted);
+          left = sym (beyond-step q y ys i) ∙ ap (beyond (begins q)) (sym is) ∙ h .left;
+        }
+
+    pub pass-end : (x : List ℕ) → begins q x ≡ true → (ltb 0 (s .ahead) && leb (length q) (s .common)) ≡ false
+        → (count ≡ length (within q (x ∷ xs))) × Left v b work s q (x ∷ xs)
+    pass-end x i e =
+        let out : leads (begins q) (h .rest) ≡ false = sym (stays-is v b work s (h .last) q (h .rest) (h .after) (h .in-it)) ∙ e in
+        let n : length (within q (h .rest)) ≡ 0 = ap length (within-end q (h .rest) out) in
+        let m : length (within q (x ∷ xs)) ≡ 1 + length (within q xs) = ap length (within-step q x xs i) ∙ omega arith in (
+          omega (arith, h .counted),
+          record {
+            last = h .last;
+            in-it = h .in-it;
+            after = subst (After v b work s (h .last)) (sym (beyond-end (begins q) (h .rest) out) ∙ h .left ∙ sym (beyond-step q x xs i)) (h .after);
+          },
+        )

@@ -1,0 +1,141 @@
+-- The proof that `look_up` meets its contract.
+use native.Mathlib.Omega.{arith}
+use Rattle.tree_lookup.proofs.Components.{fits-length, at-name, look-file, look-child}
+use borrow.Author.Needs.{needs}
+use Rattle.tree_lookup.proofs.look.look_up.Statement.{statement}
+use Rattle.tree_lookup.proofs.look.look_up.Tie as tie
+
+name-at-requires : tie.Need-name-at-requires
+name-at-requires c κs = search needs
+
+find-requires : tie.Need-find-requires
+find-requires c κs =
+    let st = c .before .before .before .before .before in
+    let n = fits-length (st .args .v) (st .args .b .now) (st .args .work .now) (st .args .s) (st .pre .3) (st .pre .4) _ (c .name-at .ensures) in
+    omega (arith, n, st .pre .5)
+
+returns : tie.Need-returns
+returns c =
+    let st = c .before .before .before .before .before .before .before in
+    let n = fits-length (st .args .v) (st .args .b .now) (st .args .work .now) (st .args .s) (st .pre .3) (st .pre .4) _ (c .before .before .name-at .ensures) in
+    (at-name _ _ _ _ _ _ _ _ _ _ _ _ _ (c .before .before .name-at .ensures) n (look-file _ _ _ (c .before .find .ensures .0) _ _ _ _ (st .pre .0) (st .pre .1) (omega (arith, n, st .pre .5)) _ (c .if1 .taken)), st .pre .6, st .pre .7)
+
+sub-find-soon : tie.Need-sub-find-soon
+sub-find-soon c = search needs
+
+part-find-soon-start : tie.Need-part-find-soon-start
+part-find-soon-start c = search needs
+
+part-find-soon-end : tie.Need-part-find-soon-end
+part-find-soon-end c = search needs
+
+find-soon-requires : tie.Need-find-soon-requires
+find-soon-requires c κs = search needs
+
+enum-known-soon : tie.Need-enum-known-soon
+enum-known-soon c = search needs
+
+add-look-of : tie.Need-add-look-of
+add-look-of c = search needs
+
+look-of-requires : tie.Need-look-of-requires
+look-of-requires c κs = search needs
+
+enum-told : tie.Need-enum-told
+enum-told c = search needs
+
+is-long-requires : tie.Need-is-long-requires
+is-long-requires c κs = search needs
+
+sub-find-by : tie.Need-sub-find-by
+sub-find-by c = search needs
+
+part-find-by-start : tie.Need-part-find-by-start
+part-find-by-start c = search needs
+
+part-find-by-end : tie.Need-part-find-by-end
+part-find-by-end c = search needs
+
+find-by-requires : tie.Need-find-by-requires
+find-by-requires c κs =
+    let st = c .before .before .before .before .before .before .before .before .before .before .before .before .before .before .before .before .before in
+    (omega (arith, st .pre .0, st .pre .1), st .pre .2, st .pre .3, st .pre .4, st .pre .5, st .pre .7)
+
+add-look-of-2 : tie.Need-add-look-of-2
+add-look-of-2 c = search needs
+
+look-of-requires-2 : tie.Need-look-of-requires-2
+look-of-requires-2 c κs = search needs
+
+returns-2 : tie.Need-returns-2
+returns-2 c =
+    let st = c .before .before .before .before .before .before .before .before .before .before .before .before .before .before .before .before .before .before .before in
+    let n = fits-length (st .args .v) (st .args .b .now) (st .args .work .now) (st .args .s) (st .pre .3) (st .pre .4) _ (c .before .before .before .before .before .before .before .before .before .before .before .before .before .before .name-at .ensures) in
+    let t = c .before .find-by .ensures in
+    (rw (c .look-of2 .ensures) (at-name _ _ _ _ _ _ _ _ _ _ _ _ _ (c .before .before .before .before .before .before .before .before .before .before .before .before .before .before .name-at .ensures) n (look-child _ _ _ (c .before .before .before .before .before .before .before .before .before .before .before .before .before .find .ensures .0) _ _ _ _ (st .pre .0) (st .pre .1) (omega (arith, n, st .pre .5)) _ (omega (arith, c .before .before .before .before .before .before .before .before .before .before .before .before .if1 .left, c .before .before .before .before .before .before .before .before .before .before .before .before .before .find .ensures .1)) (c .before .find-by .result) (t .1) (t .2) (λ f m differ r last. t .3 f m differ r))), st .pre .6, t .0)
+
+sub-find-by-2 : tie.Need-sub-find-by-2
+sub-find-by-2 c = search needs
+
+part-find-by-start-2 : tie.Need-part-find-by-start-2
+part-find-by-start-2 c = search needs
+
+part-find-by-end-2 : tie.Need-part-find-by-end-2
+part-find-by-end-2 c = search needs
+
+find-by-requires-2 : tie.Need-find-by-requires-2
+find-by-requires-2 c κs =
+    let st = c .before .before .before .before .before .before .before .before .before .before .before .before .before .before .before .before .before in
+    (omega (arith, st .pre .0, st .pre .1), st .pre .2, st .pre .3, st .pre .4, st .pre .5, st .pre .6)
+
+add-look-of-3 : tie.Need-add-look-of-3
+add-look-of-3 c = search needs
+
+look-of-requires-3 : tie.Need-look-of-requires-3
+look-of-requires-3 c κs = search needs
+
+returns-3 : tie.Need-returns-3
+returns-3 c =
+    let st = c .before .before .before .before .before .before .before .before .before .before .before .before .before .before .before in
+    let n = fits-length (st .args .v) (st .args .b .now) (st .args .work .now) (st .args .s) (st .pre .3) (st .pre .4) _ (c .before .before .before .before .before .before .before .before .before .before .name-at .ensures) in
+    let t = rw (c .before .before .soon .given .1) at (c .before .before .before .before .find-soon .ensures) in
+    (rw (c .look-of .ensures) (at-name _ _ _ _ _ _ _ _ _ _ _ _ _ (c .before .before .before .before .before .before .before .before .before .before .name-at .ensures) n (look-child _ _ _ (c .before .before .before .before .before .before .before .before .before .find .ensures .0) _ _ _ _ (st .pre .0) (st .pre .1) (omega (arith, n, st .pre .5)) _ (omega arith) (c .before .before .soon .given .0 .0) (t .0) (t .1) (t .2))), st .pre .6, st .pre .7)
+
+returns-4 : tie.Need-returns-4
+returns-4 c =
+    let st = c .before .before .before .before .before .before .before .before .before .before .before .before .before .before .before .before .before .before .before in
+    let n = fits-length (st .args .v) (st .args .b .now) (st .args .work .now) (st .args .s) (st .pre .3) (st .pre .4) _ (c .before .before .before .before .before .before .before .before .before .before .before .before .before .before .name-at .ensures) in
+    let t = c .before .find-by2 .ensures in
+    (rw (c .look-of3 .ensures) (at-name _ _ _ _ _ _ _ _ _ _ _ _ _ (c .before .before .before .before .before .before .before .before .before .before .before .before .before .before .name-at .ensures) n (look-child _ _ _ (c .before .before .before .before .before .before .before .before .before .before .before .before .before .find .ensures .0) _ _ _ _ (st .pre .0) (st .pre .1) (omega (arith, n, st .pre .5)) _ (omega (arith, c .before .before .before .before .before .before .before .before .before .before .before .before .if1 .left, c .before .before .before .before .before .before .before .before .before .before .before .before .before .find .ensures .1)) (c .before .find-by2 .result) (t .1) (t .2) (λ f m differ r last. t .3 f m differ r))), t .0, st .pre .7)
+
+pub look-up-spec : {M : Type 1} → statement M
+look-up-spec =
+    tie.close
+    (tie.spec
+    name-at-requires
+    find-requires
+    returns
+    sub-find-soon
+    part-find-soon-start
+    part-find-soon-end
+    find-soon-requires
+    enum-known-soon
+    add-look-of
+    look-of-requires
+    enum-told
+    is-long-requires
+    sub-find-by
+    part-find-by-start
+    part-find-by-end
+    find-by-requires
+    add-look-of-2
+    look-of-requires-2
+    returns-2
+    sub-find-by-2
+    part-find-by-start-2
+    part-find-by-end-2
+    find-by-requires-2
+    add-look-of-3
+    look-of-requires-3
+    returns-3
+    returns-4)

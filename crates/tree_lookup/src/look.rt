@@ -1,0 +1,105 @@
+// The first entry ahead in a directory: its next component, and the sibling of that name.
+use crate::front::Front;
+use crate::gather::gather;
+use entries_run::name_at;
+use fields::find;
+use tree_search::child::Answer;
+use tree_search::child::Child;
+use tree_search::child::is_long;
+use tree_search::keys::Table;
+use tree_search::table::find_late;
+use tree_search::table::find_soon;
+use tree_search::table::settle;
+ghost use mathlib.Core.Path.{_≡_};
+ghost use mathlib.Core.Bool.{true};
+ghost use Prim.Native.Nat.{ℕ, _≤_};
+ghost use lib.ListN.{length, drop};
+ghost use Rattle.format.specs.Records.{Forest};
+ghost use Rattle.format.specs.Layout.{distinct};
+ghost use Rattle.cache_tree.specs.Flat.{Reads};
+ghost use Rattle.entries_run.specs.Steps.{nameAt};
+ghost use Rattle.tree_search.specs.Siblings.{Sought, placeIn};
+ghost use Rattle.tree_search.specs.Table.{Known};
+ghost use Rattle.tree_lookup.specs.Ahead.{Fits};
+ghost use Rattle.tree_lookup.specs.Components.{lookOf, LookedUp};
+
+// The name has no further "/"; or the place in it after that "/", and no sibling has the component before; or one has it: where it is, and
+// how many there are from it on.
+pub enum Look {
+    File,
+    Missing(usize),
+    Found(usize, usize, u32),
+}
+
+// What was found of the component before a place of the name.
+fn look_of(child: Child, e: usize) -> Look
+    ensures { λ r. ⌜ r ≡ lookOf e child ⌝ }
+{
+    match child {
+        Child::Missing => Look::Missing(e),
+        Child::Found(p, l) => Look::Found(e, p, l),
+    }
+}
+
+// The one of k siblings at a place that has this name, by a table that is made for it and for the names ahead.
+fn find_by(
+    d: &[u8],
+    at: usize,
+    k: u32,
+    name: &[u8],
+    b: &[u8],
+    v: u32,
+    work: &[u8],
+    q: usize,
+    s: Front,
+    steps: u32,
+    t: &mut Table,
+) -> Child
+    requires { ⌜ (at ≤ length (now d)) × (length (now d) ≤ 16777216) × Fits (now b) s × (8192 ≤ length (now work)) × (q ≤ s .cursor .len) × Known (now d) (now t) ⌝ }
+    ensures { λ r. ⌜ Known (now (d .entry)) (now (t .exit)) × (at ≤ placeIn (length (now (d .entry))) r) × (placeIn (length (now (d .entry))) r ≤ length (now (d .entry))) × ((f : Forest) (m : ℕ) → distinct f ≡ true → Reads (drop at (now (d .entry))) f k m → Sought (now (d .entry)) f (now (name .entry)) r) ⌝ }
+{
+    gather(b, v, work, q, s, steps, t);
+    settle(d, at, k, t);
+    find_late(d, at, k, name, t)
+}
+
+// The component of the first name ahead after its first q bytes, among k siblings. The last so many of these stand at another place. What the two
+// tables hold is kept: the second is for long lists of siblings.
+pub fn look_up<'a>(
+    d: &[u8],
+    at: usize,
+    k: u32,
+    place: usize,
+    left: u32,
+    b: &'a [u8],
+    v: u32,
+    work: &'a [u8],
+    q: usize,
+    s: Front,
+    near: &mut Table,
+    far: &mut Table,
+) -> Look
+    requires { ⌜ (at ≤ place) × (place ≤ length (now d)) × (length (now d) ≤ 16777216) × Fits (now b) s × (8192 ≤ length (now work)) × (q ≤ s .cursor .len) × Known (now d) (now near) × Known (now d) (now far) ⌝ }
+    ensures { λ r. ⌜ LookedUp (now (d .entry)) at k place left (nameAt v (now (b .entry)) (now (work .entry)) (s .cursor .start) (s .cursor .len)) (s .cursor .len) q r × Known (now (d .entry)) (now (near .exit)) × Known (now (d .entry)) (now (far .exit)) ⌝ }
+{
+    let c = s.cursor;
+    let start = c.start;
+    let len = c.len;
+    let name = name_at(b, v, work, start, len);
+    let e = find(name, q, 47);
+    if e == name.len() {
+        return Look::File;
+    }
+    let soon = find_soon(d, at, k, &name[q..e], place, left, near, far);
+    match soon {
+        Answer::Known(child) => look_of(child, e + 1),
+        Answer::Unknown => {
+            if is_long(d, at, k, 131072) {
+                let child = find_by(d, at, k, &name[q..e], b, v, work, q, s, 4096, far);
+                return look_of(child, e + 1);
+            }
+            let child = find_by(d, at, k, &name[q..e], b, v, work, q, s, 256, near);
+            look_of(child, e + 1)
+        }
+    }
+}
