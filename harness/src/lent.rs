@@ -5,7 +5,7 @@
 //! each lending is an allocation of its own and of its exact size, as valgrind wants it.
 
 use std::ffi::{c_int, c_void};
-use std::ptr::{null_mut, NonNull};
+use std::ptr::null_mut;
 use std::slice::{from_raw_parts, from_raw_parts_mut};
 
 /// How many guard bytes stand at the edge that touches no page without access.
@@ -119,20 +119,22 @@ pub struct Lent {
 }
 
 impl Lent {
-    /// Memory for at most so many bytes, none of them lent yet.
+    /// Memory for at most so many bytes, of which none is lent yet.
     pub fn new(what: &'static str, place: Place, capacity: usize) -> Self {
         let memory = match place {
             Place::Pages => Memory::Pages(Pages::new(capacity + GUARD)),
             Place::Heap => Memory::Heap(Vec::new()),
         };
-        Self {
+        let mut lent = Self {
             what,
             memory,
             edge: Edge::Start,
-            first: NonNull::dangling().as_ptr(),
+            first: null_mut(),
             length: 0,
             pattern: Vec::new(),
-        }
+        };
+        lent.lend(0, Edge::Start);
+        lent
     }
 
     pub fn what(&self) -> &'static str {
@@ -247,6 +249,6 @@ impl Lent {
 }
 
 /// Byte k of what fills bytes that are lent to be written: one that a call is not likely to write by chance.
-pub fn pattern(k: usize) -> u8 {
+fn pattern(k: usize) -> u8 {
     (k * 7 + k / 256 + 0xa5) as u8
 }
