@@ -86,7 +86,8 @@ impl Pass<'_, '_> {
 
     /// Leaves the directories whose paths are longer than what is kept.
     fn leave(&mut self, kept: usize) {
-        while let Some(last) = self.directories.pop_if(|last| last.length > kept) {
+        while self.directories.last().map_or(0, |last| last.length) > kept {
+            let last = self.directories.pop().expect("it was there");
             if let Some(node) = last.node {
                 self.tallies[node].entries = self.passed - last.first;
             }
