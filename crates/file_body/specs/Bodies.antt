@@ -18,7 +18,7 @@ use Rattle.file.specs.declared.Fields.{Fields}
 use Rattle.file_contents.specs.declared.Parts.{Parts}
 use Rattle.entries_edit.specs.declared.Edit.{Edit}
 use Rattle.entries_edit.specs.declared.Edit.the-variants as E
-use Rattle.entries_edit.specs.declared.Laid.{Laid}
+use Rattle.entries_rest.specs.declared.Laid.{Laid}
 use Rattle.entries_edit.specs.Edits.{edited, passes, Replaces}
 
 -- ---- the records afterwards

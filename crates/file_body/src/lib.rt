@@ -14,7 +14,7 @@ ghost use Rattle.output.specs.Output.{Wrote};
 ghost use Rattle.entries_edit.specs.Edits.{passes};
 ghost use Rattle.file_body.specs.Bodies.{changes, treeAfter, countAfter, Differ, Ready, BodyWritten};
 use entries_edit::Edit;
-use entries_edit::Laid;
+use entries_rest::Laid;
 use extensions::TreePlace;
 use extensions::UndoPlace;
 use file::Fields;

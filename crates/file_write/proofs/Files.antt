@@ -20,7 +20,7 @@ use Rattle.output.proofs.Laws.{wrote-then}
 use Rattle.file.specs.declared.Written.the-variants as W
 use Rattle.file_contents.specs.declared.Parts.{Parts}
 use Rattle.entries_edit.specs.declared.Edit.{Edit}
-use Rattle.entries_edit.specs.declared.Laid.{Laid}
+use Rattle.entries_rest.specs.declared.Laid.{Laid}
 use Rattle.entries_edit.specs.Edits.{Replaces}
 use Rattle.file_body.specs.Bodies.{changed, Has, BodyWritten}
 use Rattle.file_body.proofs.Bodies.{body-like}

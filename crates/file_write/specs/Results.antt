@@ -14,7 +14,7 @@ use Rattle.file.specs.declared.Written.{Written}
 use Rattle.file.specs.Writing.{writtenOf, outputAfter}
 use Rattle.file_contents.specs.declared.Parts.{Parts}
 use Rattle.entries_edit.specs.declared.Edit.{Edit}
-use Rattle.entries_edit.specs.declared.Laid.{Laid}
+use Rattle.entries_rest.specs.declared.Laid.{Laid}
 use Rattle.entries_edit.specs.Edits.{Replaces}
 use Rattle.file_body.specs.Bodies.{changed, Has}
 

@@ -10,7 +10,7 @@ ghost use Rattle.hash.specs.Sha1.{sha1};
 ghost use Rattle.file_body.specs.Bodies.{Ready};
 ghost use Rattle.file_write.specs.Results.{versionOf, likeOf, Measured, FileWritten};
 use entries_edit::Edit;
-use entries_edit::Laid;
+use entries_rest::Laid;
 use file::Fields;
 use file::Written;
 use file_body::put_body;

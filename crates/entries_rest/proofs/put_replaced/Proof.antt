@@ -1,10 +1,11 @@
--- The proof that `put_removed` meets its contract.
+-- The proof that `put_replaced` meets its contract.
+use mathlib.Core.Bool.{true}
 use native.Mathlib.Omega.{arith}
 use borrow.Author.Needs.{needs}
-use Rattle.entries_edit.proofs.Ways.{removed-refused, removed-laid}
-use Rattle.entries_edit.proofs.put_removed.Statement.{statement}
-use Rattle.entries_edit.proofs.put_removed.Tie as tie
-use Rattle.entries_write.proofs.Stepping.{step-found, step-room, step-common}
+use Rattle.entries_rest.proofs.Ways.{others-refused, replaced-laid}
+use Rattle.entries_rest.proofs.put_replaced.Statement.{statement}
+use Rattle.entries_rest.proofs.put_replaced.Tie as tie
+use Rattle.entries_write.proofs.Stepping.{step-found, step-room}
 
 next-entry-requires : tie.Need-next-entry-requires
 next-entry-requires c κs = search needs
@@ -15,17 +16,16 @@ enum-told c = search needs
 enum-known-g : tie.Need-enum-known-g
 enum-known-g c = search needs
 
-sub-put-past : tie.Need-sub-put-past
-sub-put-past c = search needs
+sub-put-entries : tie.Need-sub-put-entries
+sub-put-entries c = search needs
 
-put-past-requires : tie.Need-put-past-requires
-put-past-requires c κs =
+put-entries-requires : tie.Need-put-entries-requires
+put-entries-requires c κs =
     let known = c .before .before .before in
     let read = known .before .before .before .before in
     let start = read .before .before .before .before .before in
     let t = rw (known .g .given .1) at (read .next-entry .ensures) in
-    let fits = step-common t (start .pre .2) (start .pre .1) .0 in
-    (omega arith, step-found t .next, step-room t (start .pre .2), start .pre .1 .short, fits)
+    (step-found t .next, step-room t (start .pre .2), omega arith)
 
 same-length : tie.Need-same-length
 same-length c = search needs
@@ -36,7 +36,7 @@ returns c =
     let start = read .before .before .before .before .before in
     let a = start .args in
     let t = rw (c .enum-told .given .1) at (read .next-entry .ensures) in
-    removed-refused (a .n) (a .version) (a .out .now) (a .at) (omega arith) t
+    others-refused (a .n) (a .version) (a .out .now) (a .at) (omega arith) t true
 
 same-length-2 : tie.Need-same-length-2
 same-length-2 c = search needs
@@ -52,17 +52,17 @@ returns-2 c =
     let start = read .before .before .before .before .before in
     let a = start .args in
     let t = rw (known .g .given .1) at (read .next-entry .ensures) in
-    removed-laid (a .n) (a .version) (a .out .now) (a .at) (omega arith) t (start .pre .2) (start .pre .1) (put .put-past .ensures)
+    replaced-laid (a .n) (a .version) (a .out .now) (a .at) (omega arith) t (put .put-entries .ensures)
 
-pub put-removed-spec : {M : Type 1} → statement M
-put-removed-spec =
+pub put-replaced-spec : {M : Type 1} → statement M
+put-replaced-spec =
     tie.close
     (tie.spec
     next-entry-requires
     enum-told
     enum-known-g
-    sub-put-past
-    put-past-requires
+    sub-put-entries
+    put-entries-requires
     same-length
     returns
     same-length-2

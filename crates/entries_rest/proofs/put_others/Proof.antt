@@ -1,7 +1,7 @@
 -- The proof that `put_others` meets its contract.
 use borrow.Author.Needs.{needs}
-use Rattle.entries_edit.proofs.put_others.Statement.{statement}
-use Rattle.entries_edit.proofs.put_others.Tie as tie
+use Rattle.entries_rest.proofs.put_others.Statement.{statement}
+use Rattle.entries_rest.proofs.put_others.Tie as tie
 
 put-replaced-requires : tie.Need-put-replaced-requires
 put-replaced-requires c κs =

@@ -2,9 +2,9 @@
 use Prim.Native.Nat.{_<_}
 use native.Mathlib.Omega.{arith}
 use borrow.Author.Needs.{needs}
-use Rattle.entries_edit.proofs.Ways.{past-none, past-refused, past-kept, past-laid}
-use Rattle.entries_edit.proofs.put_past.Statement.{statement}
-use Rattle.entries_edit.proofs.put_past.Tie as tie
+use Rattle.entries_rest.proofs.Ways.{past-none, past-refused, past-kept, past-laid}
+use Rattle.entries_rest.proofs.put_past.Statement.{statement}
+use Rattle.entries_rest.proofs.put_past.Tie as tie
 use Rattle.entries_write.proofs.Stepping.{step-found, step-placed, step-room}
 
 returns : tie.Need-returns

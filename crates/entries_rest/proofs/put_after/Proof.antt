@@ -3,9 +3,9 @@ use mathlib.Core.Bool.{false}
 use Prim.Native.Nat.{_<_}
 use native.Mathlib.Omega.{arith}
 use borrow.Author.Needs.{needs}
-use Rattle.entries_edit.proofs.Ways.{after-none, others-refused, after-kept, after-laid}
-use Rattle.entries_edit.proofs.put_after.Statement.{statement}
-use Rattle.entries_edit.proofs.put_after.Tie as tie
+use Rattle.entries_rest.proofs.Ways.{after-none, others-refused, after-kept, after-laid}
+use Rattle.entries_rest.proofs.put_after.Statement.{statement}
+use Rattle.entries_rest.proofs.put_after.Tie as tie
 use Rattle.entries_write.proofs.Stepping.{step-found, step-placed, step-room}
 
 returns : tie.Need-returns

@@ -1,7 +1,7 @@
 -- The proof that `common_at` meets its contract.
 use borrow.Author.Needs.{needs}
-use Rattle.entries_edit.proofs.common_at.Statement.{statement}
-use Rattle.entries_edit.proofs.common_at.Tie as tie
+use Rattle.entries_rest.proofs.common_at.Statement.{statement}
+use Rattle.entries_rest.proofs.common_at.Tie as tie
 
 name-at-requires : tie.Need-name-at-requires
 name-at-requires c κs = search needs

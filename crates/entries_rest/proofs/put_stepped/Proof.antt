@@ -1,9 +1,9 @@
 -- The proof that `put_stepped` meets its contract.
 use native.Mathlib.Omega.{arith}
 use borrow.Author.Needs.{needs}
-use Rattle.entries_edit.proofs.Ways.{step-laid}
-use Rattle.entries_edit.proofs.put_stepped.Statement.{statement}
-use Rattle.entries_edit.proofs.put_stepped.Tie as tie
+use Rattle.entries_rest.proofs.Ways.{step-laid}
+use Rattle.entries_rest.proofs.put_stepped.Statement.{statement}
+use Rattle.entries_rest.proofs.put_stepped.Tie as tie
 
 put-step-requires : tie.Need-put-step-requires
 put-step-requires c κs = search needs

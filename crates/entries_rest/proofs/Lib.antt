@@ -1,0 +1,2 @@
+-- Laws of entries that are edited.
+pub mod Ways

@@ -1,0 +1,2 @@
+-- What is changed among entries, and what their writing leaves behind.
+pub mod Rests
