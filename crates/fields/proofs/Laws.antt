@@ -8,13 +8,30 @@ use native.Mathlib.Numerals.{add-one}
 use native.Mathlib.Omega.{arith}
 use lib.ListN.{length, getD, take, drop, set, replicate, drop-of-length-le, length-replicate, getD-replicate}
 use lib.Seq.{drop-cons, take-all, take-length, paste, paste-zero, paste-suc}
-use lib.Dec.{leb}
-use borrow.Author.Tests.{eq-eqb, ne-eqb, leb-true, leb-false, le-leb, lt-ltb, le-ltb}
+use lib.Dec.{leb, ltb}
+use borrow.Author.Tests.{eq-eqb, ne-eqb, leb-true, leb-false, ltb-true, ltb-false, le-leb, lt-ltb, le-ltb}
 use Rattle.format.specs.declared.Order.the-variants.{Below, Same, Above}
 use Rattle.format.specs.Bytes.{eqList, before, lacks, zeros}
 use Rattle.format.specs.Names.{componentsFrom, components, okComponent, okComponents, okName, compare, common}
-use Rattle.format_laws.proofs.Tests.{and-left-comm}
-use Rattle.format_laws.proofs.Lists.{part-cons}
+use Rattle.format_laws.proofs.Tests.{by-test, and-left-comm}
+use Rattle.format_laws.proofs.Lists.{eqList-true, part-cons}
+
+-- ---- components
+
+-- a text differs from a shorter one
+longer-differs : (s t : List ℕ) → length t < length s → eqList s t ≡ false
+longer-differs s t h = by-test (eqList s t) (λ e. let q : length s ≡ length t = ap length (eqList-true s t e) in absurd (omega arith)) (λ e. e)
+
+-- none of those that may not stand is so long
+pub long-component : (c : List ℕ) → 4 < length c → okComponent c ≡ true
+unfolding okComponent
+long-component c h =
+    rw (
+      longer-differs c [] (omega arith),
+      longer-differs c (46 ∷ []) (omega arith),
+      longer-differs c (46 ∷ 46 ∷ []) (omega arith),
+      longer-differs c (46 ∷ 103 ∷ 105 ∷ 116 ∷ []) (omega arith),
+    )
 
 -- ---- texts, from a place on
 
@@ -80,6 +97,13 @@ module _ (s t : List ℕ) (i : ℕ) where
     pub compare-end : length t ≤ i → compare (drop i s) (drop i t) ≡ Same
     unfolding compare
     compare-end l = rw (drop-of-length-le s end, drop-of-length-le t l)
+
+  -- one of them has ended
+  pub common-out : (i < length s → length t ≤ i) → common (drop i s) (drop i t) ≡ 0
+  common-out h =
+      by-test (ltb i (length s))
+      (λ e. let more = ltb-true i (length s) e in common-short more (h more))
+      (λ e. common-end (ltb-false i (length s) e))
 
   module _ (more : i < length s) (also : i < length t) where
     pub eqList-step : getD s i 0 ≡ getD t i 0 → eqList (drop i s) (drop i t) ≡ eqList (drop (i + 1) s) (drop (i + 1) t)

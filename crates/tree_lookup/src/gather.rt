@@ -14,13 +14,17 @@ ghost use Prim.Native.Nat.{_+_, _≤_, _<_};
 ghost use lib.ListN.{length};
 ghost use Rattle.tree_lookup.specs.Ahead.{Fits};
 
-// The component of a name after its first q bytes is wanted, if a "/" ends it. How many keys were added.
-fn want_component(name: &[u8], q: usize, t: &mut Table) -> u32
+// The component of a name after its first q bytes is wanted, if a "/" ends it and the name before has not the same, with which it has so many bytes in
+// common. How many keys were added.
+fn want_component(name: &[u8], q: usize, common: usize, t: &mut Table) -> u32
     requires { ⌜ q ≤ length (now name) ⌝ }
     ensures { λ r. ⌜ (r < 2) × (length (now (t .exit)) ≡ length (now (t .entry))) ⌝ }
 {
     let e = find(name, q, 47);
     if e == name.len() {
+        return 0;
+    }
+    if e < common {
         return 0;
     }
     let key = key_of(&name[q..e], t[2050]);
@@ -36,7 +40,7 @@ fn want_first<'a>(b: &'a [u8], v: u32, work: &'a [u8], q: usize, s: Front, t: &m
     let start = c.start;
     let len = c.len;
     let name = name_at(b, v, work, start, len);
-    want_component(name, q, t)
+    want_component(name, q, s.common, t)
 }
 
 // Those of the names ahead that begin with the same q bytes, at most so many names and 768 keys. names is a workspace with the first name.

@@ -7,9 +7,12 @@ use tree_search::child::Answer;
 use tree_search::child::Child;
 use tree_search::child::is_long;
 use tree_search::keys::Table;
+use tree_search::table::clear;
 use tree_search::table::find_late;
 use tree_search::table::find_soon;
+use tree_search::table::is_of;
 use tree_search::table::settle;
+use tree_search::table::want_siblings;
 ghost use mathlib.Core.Path.{_≡_};
 ghost use mathlib.Core.Bool.{true};
 ghost use Prim.Native.Nat.{ℕ, _≤_};
@@ -41,7 +44,45 @@ fn look_of(child: Child, e: usize) -> Look
     }
 }
 
-// The one of k siblings at a place that has this name, by a table that is made for it and for the names ahead.
+// Whether all of k siblings at a place may be wanted in a table: they are few, do not take much, and it is not of them already, or the name that it
+// does not have would be missing among them. It only chooses how to search: nothing rests on the answer.
+fn are_few(d: &[u8], at: usize, k: u32, t: &Table) -> bool
+    requires { ⌜ (at ≤ length (now d)) × (length (now d) ≤ 16777216) ⌝ }
+{
+    if 512 < k {
+        return false;
+    }
+    if is_of(t, at, k) {
+        return false;
+    }
+    !is_long(d, at, k, 1048576)
+}
+
+// The keys of a table are those of all of k siblings at a place, where they are few, else those of the names ahead.
+fn want_keys(
+    d: &[u8],
+    at: usize,
+    k: u32,
+    b: &[u8],
+    v: u32,
+    work: &[u8],
+    q: usize,
+    s: Front,
+    steps: u32,
+    t: &mut Table,
+)
+    requires { ⌜ (at ≤ length (now d)) × (length (now d) ≤ 16777216) × Fits (now b) s × (8192 ≤ length (now work)) × (q ≤ s .cursor .len) × (length (now t) ≡ 2051) ⌝ }
+    ensures { λ _. ⌜ length (now (t .exit)) ≡ length (now (t .entry)) ⌝ }
+{
+    if are_few(d, at, k, t) {
+        clear(t, 0);
+        want_siblings(d, at, k, t);
+        return;
+    }
+    gather(b, v, work, q, s, steps, t);
+}
+
+// The one of k siblings at a place that has this name, by a table that is made for it.
 fn find_by(
     d: &[u8],
     at: usize,
@@ -58,7 +99,7 @@ fn find_by(
     requires { ⌜ (at ≤ length (now d)) × (length (now d) ≤ 16777216) × Fits (now b) s × (8192 ≤ length (now work)) × (q ≤ s .cursor .len) × Known (now d) (now t) ⌝ }
     ensures { λ r. ⌜ Known (now (d .entry)) (now (t .exit)) × (at ≤ placeIn (length (now (d .entry))) r) × (placeIn (length (now (d .entry))) r ≤ length (now (d .entry))) × ((f : Forest) (m : ℕ) → distinct f ≡ true → Reads (drop at (now (d .entry))) f k m → Sought (now (d .entry)) f (now (name .entry)) r) ⌝ }
 {
-    gather(b, v, work, q, s, steps, t);
+    want_keys(d, at, k, b, v, work, q, s, steps, t);
     settle(d, at, k, t);
     find_late(d, at, k, name, t)
 }

@@ -9,6 +9,7 @@ use crate::keys::SLOTS;
 use crate::keys::Table;
 use crate::keys::key_of;
 use crate::keys::slot_of;
+use crate::keys::want;
 use cache_tree::walk::after_tree;
 use fields::find;
 ghost use mathlib.Core.Path.{_≡_};
@@ -80,6 +81,21 @@ fn note(d: &[u8], place: usize, t: &mut Table)
     t[SLOTS + i] = 1;
 }
 
+// The keys of the k siblings at a place are wanted.
+pub fn want_siblings(d: &[u8], at: usize, k: u32, t: &mut Table)
+    requires { ⌜ (at ≤ length (now d)) × (length (now d) ≤ 16777216) × (length (now t) ≡ 2051) ⌝ }
+    ensures { λ _. ⌜ length (now (t .exit)) ≡ length (now (t .entry)) ⌝ }
+{
+    let mut place = at;
+    let mut left = k;
+    while 0 < left {
+        let key = key_at(d, place, t[2050]);
+        want(t, key);
+        place = after_tree(d, place);
+        left -= 1;
+    }
+}
+
 // The k siblings at a place are noted in a table with wanted keys.
 pub fn settle(d: &[u8], at: usize, k: u32, t: &mut Table)
     requires { ⌜ (at ≤ length (now d)) × (length (now d) ≤ 16777216) × (length (now t) ≡ 2051) ⌝ }
@@ -98,7 +114,7 @@ pub fn settle(d: &[u8], at: usize, k: u32, t: &mut Table)
 }
 
 // Whether a table is of the k siblings at a place.
-fn is_of(t: &Table, at: usize, k: u32) -> bool
+pub fn is_of(t: &Table, at: usize, k: u32) -> bool
     ensures { λ r. ⌜ r ≡ (eqb (getD (now (t .entry)) 2048 0) at && eqb (getD (now (t .entry)) 2049 0) k) ⌝ }
 {
     if place_of(t[2048]) == at {

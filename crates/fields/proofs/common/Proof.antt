@@ -1,40 +1,37 @@
 -- The proof that `common` meets its contract. The loop keeps the whole count.
 use mathlib.Core.Path.{_≡_}
-use Prim.Native.Nat.{_+_, _≤_, _-_}
+use Prim.Native.Nat.{_+_, _≤_, _-_, _<_}
 use native.Mathlib.Omega.{arith}
 use lib.ListN.{length, drop}
 use Rattle.format.specs.Names.{common}
-use Rattle.fields.proofs.Laws.{common-step, common-differ, common-short, common-end}
+use Rattle.fields.proofs.Laws.{common-step, common-differ, common-out}
+use borrow.Author.Needs.{needs}
 use Rattle.fields.proofs.common.Statement.{statement}
 use Rattle.fields.proofs.common.Tie as tie
 
 abbrev Inv-loop : tie.InvT-loop
-Inv-loop s t i₀ i = (i ≤ length s) × (i ≤ length t) × (common s t ≡ i + common (drop i s) (drop i t))
+Inv-loop s t n i₀ i = (i ≤ n) × (n ≤ length s) × (n ≤ length t) × (n < length s → length t ≤ n) × (common s t ≡ i + common (drop i s) (drop i t))
 
 abbrev μ-loop : tie.MeasureT-loop
-μ-loop s t i₀ i = length s - i
+μ-loop s t n i₀ i = n - i
+
+least-requires : tie.Need-least-requires Inv-loop μ-loop
+least-requires c κs = search needs
 
 loop-holds : tie.Need-loop-holds Inv-loop μ-loop
-loop-holds c = omega arith
+loop-holds c = let r = c .least .ensures in (omega arith, r .0, r .1, r .2, omega arith)
+
+shared-slice-read-if1 : tie.Need-shared-slice-read-if1 Inv-loop μ-loop
+shared-slice-read-if1 c = omega arith
+
+shared-slice-read-if1-2 : tie.Need-shared-slice-read-if1-2 Inv-loop μ-loop
+shared-slice-read-if1-2 c = omega arith
 
 returns : tie.Need-returns Inv-loop μ-loop
 returns c =
-    let l = c .before .before in
-    let a = l .before .args in
-    omega (arith, common-short (a .s .now) (a .t .now) (l .loop .i) (c .before .loop-test .taken) (c .if1 .taken))
-
-shared-slice-read-if2 : tie.Need-shared-slice-read-if2 Inv-loop μ-loop
-shared-slice-read-if2 c = omega arith
-
-shared-slice-read-if2-2 : tie.Need-shared-slice-read-if2-2 Inv-loop μ-loop
-shared-slice-read-if2-2 c = omega arith
-
-returns-2 : tie.Need-returns-2 Inv-loop μ-loop
-returns-2 c =
-    let m = c .before .before .before in
-    let l = m .before .before in
-    let a = l .before .args in
-    omega (arith, common-differ (a .s .now) (a .t .now) (l .loop .i) (m .before .loop-test .taken) (m .if1 .left) (c .if2 .taken))
+    let l = c .before .before .before .before .loop in
+    let a = c .before .before .before .before .before .before .before .before .args in
+    omega (arith, common-differ (a .s .now) (a .t .now) (l .i) (omega arith) (omega arith) (c .if1 .taken))
 
 add-i : tie.Need-add-i Inv-loop μ-loop
 add-i c = omega arith
@@ -44,15 +41,17 @@ loop-less c = omega arith
 
 loop-again : tie.Need-loop-again Inv-loop μ-loop
 loop-again c =
-    let m = c .before .before .before in
-    let l = m .before .before in
-    let a = l .before .args in
-    omega (arith, common-step (a .s .now) (a .t .now) (l .loop .i) (m .before .loop-test .taken) (m .if1 .left) (c .if2 .left))
+    let l = c .before .before .before .before .loop in
+    let a = c .before .before .before .before .before .before .before .before .args in
+    (omega arith, l .inv .1, l .inv .2, l .inv .3, omega (arith, common-step (a .s .now) (a .t .now) (l .i) (omega arith) (omega arith) (c .if1 .left)))
 
-returns-3 : tie.Need-returns-3 Inv-loop μ-loop
-returns-3 c =
-    let a = c .before .before .args in
-    omega (arith, common-end (a .s .now) (a .t .now) (c .before .loop .i) (c .loop-test .left))
+returns-2 : tie.Need-returns-2 Inv-loop μ-loop
+returns-2 c =
+    let l = c .before .loop in
+    let a = c .before .before .before .before .before .args in
+    let is : l .i ≡ c .before .before .least .result = omega arith in
+    let out : l .i < length (a .s .now) → length (a .t .now) ≤ l .i = rw is (l .inv .3) in
+    (omega (arith, common-out (a .s .now) (a .t .now) (l .i) out), omega arith, omega arith)
 
 pub common-spec : {M : Type 1} → statement M
 common-spec =
@@ -60,12 +59,12 @@ common-spec =
     (tie.spec
     Inv-loop
     μ-loop
+    least-requires
     loop-holds
+    shared-slice-read-if1
+    shared-slice-read-if1-2
     returns
-    shared-slice-read-if2
-    shared-slice-read-if2-2
-    returns-2
     add-i
     loop-less
     loop-again
-    returns-3)
+    returns-2)
