@@ -8,18 +8,18 @@ use lib.ListN.{length, drop}
 use lib.Dec.{eqb, leb}
 use borrow.Author.Tests.{eq-eqb, ne-eqb}
 use Rattle.format.specs.Bytes.{be16, be32}
-use Rattle.format.specs.Records.{Key}
+use Rattle.format.specs.Records.{Entry, Key}
 use Rattle.format.specs.Layout.{okMode, fixedLength}
 use Rattle.format.specs.Reading.{Read, bad, good, need, shift, bind}
 use Rattle.format.specs.Reader.{isSet, okWord, readEntry, readFixed, readTail}
 use Rattle.format_laws.proofs.Numbers.{be16-drop, be32-drop}
-use Rattle.format_laws.proofs.Tests.{cond-inv}
-use Rattle.format_laws.proofs.Readings.{good-inv, need-inv, bind-need, bind-cond}
+use Rattle.format_laws.proofs.Tests.{clash, cond-inv}
+use Rattle.format_laws.proofs.Readings.{good-inv, need-inv, bind-inv, bind-need, bind-cond}
 use Rattle.entries.specs.declared.Head.{Head}
 use Rattle.entries.specs.declared.Fixed.{Fixed}
 use Rattle.entries.specs.declared.Fixed.the-variants as F
-use Rattle.entries.specs.Answers.{readHead, fixedOf}
-use Rattle.entries.proofs.Reading.{Kept, kept-need, kept-cond, enough, cut}
+use Rattle.entries.specs.Answers.{readHead, fixedOf, Size, HeadPassed}
+use Rattle.entries.proofs.Reading.{Kept, kept-need, kept-cond, Alike, alike-need, alike-cond, enough, cut}
 
 -- an entry is what stands before its name, and the rest
 pub readEntry-head : (w v : ℕ) (k : Key) (p : ℕ) (s : List ℕ)
@@ -57,20 +57,23 @@ module _ (w v : ℕ) (k : Key) (p : ℕ) (s : List ℕ) where
   unfolding headRead bind
   readEntry-good h e = rw (readEntry-head w v k p s, head-kept w v p s .same, e)
 
+  -- what stands before the name of an entry that was read
+  pub entry-head : {X : Type 0} (e : Entry) (m : ℕ) → readEntry w v k p s ≡ good e m → ((h : Head) → fixedOf (readHead w v p s) ≡ F.Good h → X) → X
+  unfolding fixedOf
+  entry-head e m q f = bind-inv _ _ _ _ (sym (readEntry-head w v k p s) ∙ q) (λ h i j is rest sum. f h (ap fixedOf is))
+
 fixed-inv : {X : Type 0} (r : Read Head) (h : Head) → fixedOf r ≡ F.Good h → ((m : ℕ) → r ≡ good h m → X) → X
 unfolding fixedOf
 fixed-inv (bad n p) h e f = let z : _≡_ {A = ℕ} 0 1 = cc in absurd (omega arith)
 fixed-inv (good g m) h e f = f m (ap (λ (x : Head). good x m) (cc))
 
--- how long it is
-pub record Size (h : Head) : Type 0 where
-  pub is : h .length ≡ fixedLength 20 (isSet 16384 (h .flags))
-  pub least : 62 ≤ h .length
-  pub most : h .length ≤ 64
-
-pub head-size : (v p : ℕ) (s : List ℕ) (h : Head) → fixedOf (readHead 20 v p s) ≡ F.Good h → Size h
+-- what it is, with the extended word and without
+head-inv : {X : Type 0} (v p : ℕ) (s : List ℕ) (h : Head) → fixedOf (readHead 20 v p s) ≡ F.Good h
+    → (isSet 16384 (be16 s 60) ≡ true → leb 64 (length s) ≡ true → record { length = 64; flags = be16 s 60; word = be16 s 62 } ≡ h → X)
+    → (isSet 16384 (be16 s 60) ≡ false → record { length = 62; flags = be16 s 60; word = 0 } ≡ h → X)
+    → X
 unfolding readHead fixedLength
-head-size v p s h e =
+head-inv v p s h e f g =
     fixed-inv _ h e λ m q.
     need-inv _ _ _ _ _ _ q λ long q₁.
     need-inv _ _ _ _ _ _ q₁ λ mode q₂.
@@ -79,8 +82,36 @@ head-size v p s h e =
     (λ set q₄.
     need-inv _ _ _ _ _ _ q₄ λ longer q₅.
     need-inv _ _ _ _ _ _ q₅ λ word q₆.
-    good-inv _ _ _ _ q₆ λ h-is m-is. rw (← h-is) (record { is = rw set; least = omega arith; most = omega arith }))
-    (λ clear q₄. good-inv _ _ _ _ q₄ λ h-is m-is. rw (← h-is) (record { is = rw clear; least = omega arith; most = omega arith }))
+    good-inv _ _ _ _ q₆ λ h-is m-is. f set longer h-is)
+    (λ clear q₄. good-inv _ _ _ _ q₄ λ h-is m-is. g clear h-is)
+
+size-set : (x y : ℕ) → isSet 16384 x ≡ true → Size (record { length = 64; flags = x; word = y })
+unfolding fixedLength
+size-set x y e = record { is = rw e; least = omega arith; most = omega arith }
+
+size-clear : (x : ℕ) → isSet 16384 x ≡ false → Size (record { length = 62; flags = x; word = 0 })
+unfolding fixedLength
+size-clear x e = record { is = rw e; least = omega arith; most = omega arith }
+
+pub head-size : (v p : ℕ) (s : List ℕ) (h : Head) → fixedOf (readHead 20 v p s) ≡ F.Good h → Size h
+head-size v p s h e = head-inv v p s h e (λ set longer is. rw (← is) (size-set _ _ set)) (λ clear is. rw (← is) (size-clear _ clear))
+
+head-bads : (n p q : ℕ) → Alike fixedOf (bad n p) (bad n q)
+unfolding fixedOf
+head-bads n p q = record { same = refl }
+
+-- it is the same at each place that the reader is told
+pub head-place : (w v p q : ℕ) (s : List ℕ) → fixedOf (readHead w v p s) ≡ fixedOf (readHead w v q s)
+unfolding readHead
+head-place w v p q s =
+    let same : Alike fixedOf (readHead w v p s) (readHead w v q s) =
+    alike-need _ (head-bads 6 p q)
+    (alike-need _ (head-bads 7 p q)
+    (alike-need _ (head-bads 8 p q)
+    (alike-cond (isSet 16384 (be16 s (40 + w)))
+    (alike-need _ (head-bads 6 p q) (alike-need _ (head-bads 8 p q) (record { same = refl })))
+    (record { same = refl })))) in
+    same .same
 
 -- at a place of the body b: the fixed part is there, its mode m is right, its flags are x
 pub record Flagged (b : List ℕ) (at m x : ℕ) : Type 0 where
@@ -139,3 +170,55 @@ module _ (b : List ℕ) (at v p : ℕ) where
           pub fixed-bad-word : okWord y ≡ false → F.Bad 8 ≡ fixedOf (readHead 20 v p (drop at b))
           unfolding need isSet fixedOf
           fixed-bad-word e = rw (after-mode, eq-eqb _ _ extended, ne-eqb _ _ later, enough b at 64 longer, word-is, e)
+
+-- what the code answers that only passes it
+pub bad-head : {X : Type 0} {n : ℕ} {h : Head} → F.Bad n ≡ F.Good h → X
+bad-head e = let z : _≡_ {A = ℕ} 0 1 = cc in absurd (omega arith)
+
+module _ (b : List ℕ) (at : ℕ) where
+  pub passed-cut : at ≤ length b → length b - at < 62 → HeadPassed b at (F.Bad 6)
+  passed-cut inside short =
+      record {
+        same = λ v p h e. bad-head (fixed-cut b at v p short ∙ e);
+        sized = λ h e. bad-head e;
+        there = omega arith;
+      }
+
+  module _ (long : 62 ≤ length b - at) (x : ℕ) (is-x : x ≡ be16 b (at + 60)) where
+    flags-is : be16 (drop at b) 60 ≡ x
+    flags-is = be16-drop at b 60 ∙ sym is-x
+
+    pub passed-plain : (x / 16384 % 2 ≡ 1 → ⊥) → HeadPassed b at (F.Good (record { length = 62; flags = x; word = 0 }))
+    unfolding isSet
+    passed-plain clear =
+        record {
+          same = λ v p h e. head-inv v p (drop at b) h e
+              (λ set longer is. clash set (rw (flags-is, ne-eqb _ _ clear)))
+              (λ unset is. ap F.Good (rw flags-is at is));
+          sized = λ h e. let is : record { length = 62; flags = x; word = 0 } ≡ h = cc in rw (← is) (size-clear x (ne-eqb _ _ clear));
+          there = omega arith;
+        }
+
+    module _ (set : x / 16384 % 2 ≡ 1) where
+      pub passed-cut-word : at ≤ length b → length b - at < 64 → HeadPassed b at (F.Bad 6)
+      unfolding isSet
+      passed-cut-word inside short =
+          record {
+            same = λ v p h e. head-inv v p (drop at b) h e
+                (λ on longer is. clash longer (cut b at 64 short))
+                (λ unset is. clash (rw (flags-is, eq-eqb _ _ set)) unset);
+            sized = λ h e. bad-head e;
+            there = omega arith;
+          }
+
+      pub passed-word : (y : ℕ) → 64 ≤ length b - at → y ≡ be16 b (at + 62) → HeadPassed b at (F.Good (record { length = 64; flags = x; word = y }))
+      unfolding isSet
+      passed-word y longer is-y =
+          let word-is : be16 (drop at b) 62 ≡ y = be16-drop at b 62 ∙ sym is-y in
+          record {
+            same = λ v p h e. head-inv v p (drop at b) h e
+                (λ on enough is. ap F.Good (rw (flags-is, word-is) at is))
+                (λ unset is. clash (rw (flags-is, eq-eqb _ _ set)) unset);
+            sized = λ h e. let is : record { length = 64; flags = x; word = y } ≡ h = cc in rw (← is) (size-set x y (eq-eqb _ _ set));
+            there = omega arith;
+          }

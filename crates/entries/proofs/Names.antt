@@ -8,20 +8,22 @@ use native.Mathlib.Omega.{arith}
 use lib.ListN.{length, take, drop, getD, length-drop}
 use lib.Seq.{getD-drop, length-take-le}
 use lib.Dec.{eqb, leb, ltb}
-use borrow.Author.Tests.{eq-eqb, ne-eqb, lt-ltb, le-ltb, le-leb, lt-leb}
+use borrow.Author.Tests.{eq-eqb, ne-eqb, lt-ltb, le-ltb, le-leb, lt-leb, ltb-true, leb-true}
 use Rattle.format.specs.Bytes.{two, zeros}
 use Rattle.format.specs.Names.{okName, lengthField}
 use Rattle.format.specs.Layout.{entryLength}
 use Rattle.format.specs.Reading.{Read, bad, good, need}
 use Rattle.format.specs.Reader.{readN, plainLength, readPlain}
+use Rattle.format_laws.proofs.Tests.{and-inv}
+use Rattle.format_laws.proofs.Readings.{good-inv, need-inv}
 use Rattle.format_laws.proofs.Lists.{part-inside}
 use Rattle.format_laws.proofs.Names.{okName-length}
 use Rattle.entries.specs.declared.Text.{Text}
 use Rattle.entries.specs.declared.Text.the-variants as T
 use Rattle.entries.specs.declared.Number.{Number}
 use Rattle.entries.specs.declared.Number.the-variants as N
-use Rattle.entries.specs.Answers.{textOf, numberOf}
-use Rattle.entries.proofs.Reading.{Kept, kept-need, kept-cond, enough, cut}
+use Rattle.entries.specs.Answers.{textOf, NamePassed, numberOf}
+use Rattle.entries.proofs.Reading.{Kept, kept-need, kept-cond, Alike, alike-need, enough, cut}
 
 -- ---- the number N
 
@@ -228,3 +230,70 @@ module _ (b : List ℕ) (at f field p n : ℕ) where
       plain-good e =
           let l : n ≤ length (drop at b) = rw length-drop (omega (arith, q .here .long)) in
           rw (plain-named, whole, ← after, e, length-take-le n (drop at b) l)
+
+text-bads : (n p q : ℕ) → Alike textOf (bad n p) (bad n q)
+unfolding textOf
+text-bads n p q = record { same = refl }
+
+-- it is the same at each place that the reader is told
+pub plain-place : (f p q field : ℕ) (s : List ℕ) → textOf (readPlain f p field s) ≡ textOf (readPlain f q field s)
+unfolding readPlain
+plain-place f p q field s =
+    let same : Alike textOf (readPlain f p field s) (readPlain f q field s) =
+    alike-need _ (text-bads 6 p q)
+    (alike-need _ (text-bads 9 p q) (alike-need _ (text-bads 6 p q) (alike-need _ (text-bads 10 p q) (record { same = refl })))) in
+    same .same
+
+text-inv : {X : Type 0} (r : Read (List ℕ)) (n m : ℕ) → textOf r ≡ T.Good n m → ((name : List ℕ) → r ≡ good name m → length name ≡ n → X) → X
+unfolding textOf
+text-inv (bad k p) n m e f = let z : _≡_ {A = ℕ} 0 1 = cc in absurd (omega arith)
+text-inv (good name j) n m e f = f name (ap (λ (x : ℕ). good name x) (cc)) (cc)
+
+-- a name of k bytes that was read: it is within the limit, and its entry is there
+plain-inv : {X : Type 0} (b : List ℕ) (at f field p k n m : ℕ) → k ≡ plainLength field (drop at b) → textOf (readPlain f p field (drop at b)) ≡ T.Good n m
+    → (k ≤ 8192 → entryLength f k ≤ f + (length b - at) → T.Good k (entryLength f k - f) ≡ T.Good n m → X) → X
+plain-inv b at f field p k n m is-k e go =
+    text-inv _ n m e λ name q size.
+    need-inv _ _ _ _ _ _ (sym (plain-from b at f field p k is-k) ∙ q) λ long q₁.
+    need-inv _ _ _ _ _ _ q₁ λ ok q₂.
+    need-inv _ _ _ _ _ _ q₂ λ whole q₃.
+    need-inv _ _ _ _ _ _ q₃ λ filled q₄.
+    good-inv _ _ _ _ q₄ λ name-is m-is.
+    let l : k ≤ length (drop at b) = omega (arith, ltb-true k (length (drop at b)) long) in
+    let counted : length (take k (drop at b)) ≡ k = length-take-le k (drop at b) l in
+    let short = okName-length (take k (drop at b)) (and-inv (okName (take k (drop at b))) (eqb field (lengthField k)) ok .0) .1 in
+    let k-is : k ≡ n = sym counted ∙ ap length name-is ∙ size in
+    go (omega (arith, short, counted)) (omega (arith, leb-true (entryLength f k) (f + length (drop at b)) whole, length-drop at b)) (rw (m-is, k-is) refl)
+
+pub bad-text : {X : Type 0} {k n m : ℕ} → T.Bad k ≡ T.Good n m → X
+bad-text e = let z : _≡_ {A = ℕ} 0 1 = cc in absurd (omega arith)
+
+-- what the code answers that only passes it
+module _ (b : List ℕ) (at f field k : ℕ) (inside : at ≤ length b) (is-k : k ≡ plainLength field (drop at b)) where
+  pub passed-over : 8192 < k → NamePassed b at f field (T.Bad 9)
+  passed-over over =
+      record {
+        same = λ p n m e. plain-inv b at f field p k n m is-k e (λ short whole is. absurd (omega arith));
+        short = omega arith;
+        fits = omega arith;
+        there = omega arith;
+      }
+
+  module _ (l : ℕ) (is-l : l ≡ entryLength f k) (more : f + k < l) where
+    pub passed-short : length b - at < l - f → NamePassed b at f field (T.Bad 6)
+    passed-short cut =
+        record {
+          same = λ p n m e. plain-inv b at f field p k n m is-k e (λ short whole is. absurd (omega arith));
+          short = omega arith;
+          fits = omega arith;
+          there = omega arith;
+        }
+
+    pub passed-good : k ≤ 8192 → l - f ≤ length b - at → NamePassed b at f field (T.Good k (l - f))
+    passed-good short whole =
+        record {
+          same = λ p n m e. plain-inv b at f field p k n m is-k e (λ a b is. rw is-l is);
+          short = short;
+          fits = omega arith;
+          there = omega arith;
+        }

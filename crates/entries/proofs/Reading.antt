@@ -22,6 +22,20 @@ module _ {A X : Type 0} {say : Read A → X} {again : X → Read A} where
   kept-cond true e h = e
   kept-cond false e h = h
 
+-- two answers of which the code says the same
+pub record Alike {A X : Type 0} (say : Read A → X) (r q : Read A) : Type 0 where
+  pub same : say r ≡ say q
+
+module _ {A X : Type 0} {say : Read A → X} where
+  pub alike-need : (t : Bool) {n p m q : ℕ} {r s : Read A} → Alike say (bad n p) (bad m q) → Alike say r s → Alike say (need t n p r) (need t m q s)
+  unfolding need
+  alike-need true e h = h
+  alike-need false e h = e
+
+  pub alike-cond : (t : Bool) {r q r′ q′ : Read A} → Alike say r r′ → Alike say q q′ → Alike say (cond t r q) (cond t r′ q′)
+  alike-cond true e h = e
+  alike-cond false e h = h
+
 -- whether n bytes are there from the place at on
 module _ (b : List ℕ) (at n : ℕ) where
   pub enough : n ≤ length b - at → leb n (length (drop at b)) ≡ true

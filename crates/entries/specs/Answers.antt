@@ -1,13 +1,14 @@
 -- What stands before the name of an entry, and how answers of code stand to answers of readers.
 use mathlib.Core.List.{List}
 use mathlib.Core.Bool.{true, false, cond, not, _&&_}
-use Prim.Native.Nat.{ℕ, _+_}
-use lib.ListN.{length}
+use mathlib.Core.Path.{_≡_}
+use Prim.Native.Nat.{ℕ, _+_, _≤_}
+use lib.ListN.{length, drop}
 use lib.Dec.{eqb, leb}
 use Rattle.format.specs.Bytes.{be16, be32}
 use Rattle.format.specs.Layout.{okMode, fixedLength}
 use Rattle.format.specs.Reading.{Read, bad, good, need}
-use Rattle.format.specs.Reader.{isSet, okWord}
+use Rattle.format.specs.Reader.{isSet, okWord, readPlain}
 use Rattle.entries.specs.declared.Head.{Head}
 use Rattle.entries.specs.declared.Fixed.{Fixed}
 use Rattle.entries.specs.declared.Fixed.the-variants as F
@@ -37,6 +38,18 @@ abbrev pub headLength : Fixed → ℕ
 headLength (F.Bad n) = 0
 headLength (F.Good h) = h .length
 
+-- how long it is
+pub record Size (h : Head) : Type 0 where
+  pub is : h .length ≡ fixedLength 20 (isSet 16384 (h .flags))
+  pub least : 62 ≤ h .length
+  pub most : h .length ≤ 64
+
+-- at a place of the body b, where readHead reads it, the same without its tests
+pub record HeadPassed (b : List ℕ) (at : ℕ) (r : Fixed) : Type 0 where
+  pub same : (v p : ℕ) (h : Head) → fixedOf (readHead 20 v p (drop at b)) ≡ F.Good h → r ≡ F.Good h
+  pub sized : (h : Head) → r ≡ F.Good h → Size h
+  pub there : at + headLength r ≤ length b
+
 -- a name by its length, with the bytes taken
 unfoldable pub textOf : Read (List ℕ) → Text
 textOf (bad n p) = T.Bad n
@@ -49,6 +62,13 @@ textLength (T.Good n m) = n
 abbrev pub textTaken : Text → ℕ
 textTaken (T.Bad n) = 0
 textTaken (T.Good n m) = m
+
+-- at a place of the body b, where readPlain reads a name, the same without its tests
+pub record NamePassed (b : List ℕ) (at f field : ℕ) (r : Text) : Type 0 where
+  pub same : (p n m : ℕ) → textOf (readPlain f p field (drop at b)) ≡ T.Good n m → r ≡ T.Good n m
+  pub short : textLength r ≤ 8192
+  pub fits : textLength r ≤ textTaken r
+  pub there : at + textTaken r ≤ length b
 
 unfoldable pub numberOf : Read ℕ → Number
 numberOf (bad n p) = N.Bad n

@@ -4,7 +4,7 @@ ghost use Prim.Native.Nat.{ℕ, _+_, _<_, _≤_};
 ghost use lib.ListN.{length, drop, getD};
 ghost use Rattle.format.specs.Layout.{okMode, entryLength};
 ghost use Rattle.format.specs.Reader.{okWord, plainLength, readPlain, readN};
-ghost use Rattle.entries.specs.Answers.{readHead, fixedOf, headLength, textOf, textLength, textTaken, numberOf, numberValue, numberTaken};
+ghost use Rattle.entries.specs.Answers.{readHead, fixedOf, headLength, HeadPassed, textOf, textLength, textTaken, NamePassed, numberOf, numberValue, numberTaken};
 
 // The bytes before the name: how many, the flags, and the extended word or 0.
 pub struct Head {
@@ -94,6 +94,33 @@ pub fn read_fixed(b: &[u8], at: usize, v: u32) -> Fixed
     Fixed::Bad(7)
 }
 
+// The same where it was read before: nothing is tested but that it is there.
+pub fn pass_fixed(b: &[u8], at: usize) -> Fixed
+    requires { ⌜ at ≤ length (now b) ⌝ }
+    ensures { λ r. ⌜ HeadPassed (now (b .entry)) at r ⌝ }
+{
+    if b.len() - at < 62 {
+        return Fixed::Bad(6);
+    }
+    let x = fields::read16(b, at + 60);
+    if x / 16384 % 2 == 1 {
+        if b.len() - at < 64 {
+            return Fixed::Bad(6);
+        }
+        let y = fields::read16(b, at + 62);
+        return Fixed::Good(Head {
+            length: 64,
+            flags: x,
+            word: y,
+        });
+    }
+    Fixed::Good(Head {
+        length: 62,
+        flags: x,
+        word: 0,
+    })
+}
+
 fn byte_at(b: &[u8], at: usize) -> usize
     requires { ⌜ at < length (now b) ⌝ }
     ensures { λ r. ⌜ (r ≡ getD (now (b .entry)) at 0) × (r < 256) ⌝ }
@@ -173,4 +200,20 @@ pub fn read_plain(b: &[u8], at: usize, f: usize, field: u32) -> Text
         return Text::Bad(9);
     }
     Text::Bad(9)
+}
+
+// The same where it was read before: nothing is tested but that it is there and within the limit.
+pub fn pass_plain(b: &[u8], at: usize, f: usize, field: u32) -> Text
+    requires { ⌜ (at ≤ length (now b)) × (f ≤ 64) ⌝ }
+    ensures { λ r. ⌜ NamePassed (now (b .entry)) at f field r ⌝ }
+{
+    let n = plain_length(b, at, field);
+    if fields::LONGEST < n {
+        return Text::Bad(9);
+    }
+    let m = entry_length(f, n) - f;
+    if b.len() - at < m {
+        return Text::Bad(6);
+    }
+    Text::Good(n, m)
 }

@@ -4,13 +4,13 @@ use mathlib.Core.List.{List, _++_}
 use Prim.Native.Nat.{ℕ, _+_, _-_, _≤_}
 use native.Mathlib.Nat.{add-sub-cancel-left}
 use native.Mathlib.Omega.{arith}
-use lib.ListN.{length, take, drop, length-drop}
+use lib.ListN.{length, take, drop, length-take, length-drop}
 use lib.Seq.{length-take-le, take-add}
 use lib.Dec.{eqb}
 use borrow.Author.Tests.{eq-eqb, ne-eqb}
 use Rattle.format.specs.declared.Order.{Order}
 use Rattle.format.specs.Names.{compare, common, rises}
-use Rattle.format_laws.proofs.Tests.{by-cond}
+use Rattle.format_laws.proofs.Tests.{by-test, by-cond}
 use Rattle.format_laws.proofs.Names.{compare-append, common-append}
 use Rattle.entries_run.specs.declared.Cursor.{Cursor}
 use Rattle.entries_run.specs.declared.Standing.{Standing}
@@ -30,6 +30,13 @@ nameAt-length v b work c h room =
     (λ plain. let more : c .len ≤ length (drop (c .start) b) = simp length-drop (omega arith) in length-take-le (c .len) (drop (c .start) b) more)
 
 module _ (v : ℕ) (b work : List ℕ) (start len : ℕ) where
+  pub nameAt-short : length (nameAt v b work start len) ≤ len
+  unfolding nameAt
+  nameAt-short =
+      by-test (eqb v 4)
+      (λ e. rw (e, length-take) (omega arith))
+      (λ e. rw (e, length-take) (omega arith))
+
   pub nameAt-work : v ≡ 4 → take len work ≡ nameAt v b work start len
   unfolding nameAt
   nameAt-work e = rw (eq-eqb v 4 e) refl

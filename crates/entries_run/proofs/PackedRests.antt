@@ -7,14 +7,14 @@ use native.Mathlib.Omega.{arith}
 use lib.ListN.{length, take, drop, length-append, length-drop}
 use lib.Seq.{length-take-le, take-take, take-at, drop-append-add, drop-drop}
 use lib.Dec.{eqb}
-use borrow.Author.Tests.{eq-eqb, ne-eqb, lt-ltb, le-ltb}
+use borrow.Author.Tests.{eq-eqb, ne-eqb, eqb-true, lt-ltb, le-ltb}
 use Rattle.format.specs.Bytes.{before}
 use Rattle.format.specs.Names.{okName, lengthField, compare, rises}
 use Rattle.format.specs.Reading.{bad, good, need, shift, bind}
 use Rattle.format.specs.Reader.{readN, joined, readSuffix, readPacked, readName}
-use Rattle.format_laws.proofs.Tests.{false-true}
-use Rattle.format_laws.proofs.Names.{okName-over}
-use Rattle.format_laws.proofs.Readings.{shift-need}
+use Rattle.format_laws.proofs.Tests.{false-true, and-inv}
+use Rattle.format_laws.proofs.Names.{okName-over, common-le}
+use Rattle.format_laws.proofs.Readings.{good-inv, need-inv, shift-need}
 use Rattle.entries.specs.declared.Head.{Head}
 use Rattle.entries.specs.declared.Number.the-variants as M
 use Rattle.entries.specs.Answers.{numberOf}
@@ -22,8 +22,8 @@ use Rattle.entries.proofs.Names.{readN-bad, readN-good}
 use Rattle.entries_run.specs.declared.Cursor.{Cursor}
 use Rattle.entries_run.specs.declared.Next.the-variants as N
 use Rattle.entries_run.specs.declared.Standing.{Standing}
-use Rattle.entries_run.specs.Steps.{nameAt, Headed, Numbered, Rebuilt, Answered, readRest}
-use Rattle.entries_run.proofs.Rests.{answered-bad, answered-good, nameRead, rest-bad, rest-order, rest-good}
+use Rattle.entries_run.specs.Steps.{nameAt, Headed, Numbered, Rebuilt, stepOf, Answered, Tested, readRest}
+use Rattle.entries_run.proofs.Rests.{answered-bad, answered-good, repeated-good, nameRead, rest-bad, rest-order, rest-good, rest-inv}
 
 module _ (b w : List ℕ) (c : Cursor) (h : Head) (room : c .len ≤ length w) where
   name-packed : (p : ℕ)
@@ -174,13 +174,7 @@ module _ (b w : List ℕ) (c : Cursor) (h : Head) (n took z : ℕ) (w′ : List 
 
       pub suffix-good : d .rises ≡ true
           → Answered (readRest 4 b w c h) 4 b w c w′
-          (N.Good (record {
-            head = h .length;
-            flags = h .flags;
-            word = h .word;
-            common = d .common;
-            next = record { at = z + 1; start = 0; len = newLength c h n took z; stage = h .flags / 4096 % 4 };
-          }))
+          (N.Good (stepOf h (d .common) (z + 1) 0 (newLength c h n took z)))
       suffix-good e =
           let q : Headed b c h = r .ended .numbered .head in
           let taken : h .length + (z + 1 - (c .at + h .length) + 0) ≡ z + 1 - c .at = omega arith in
@@ -193,3 +187,25 @@ module _ (b w : List ℕ) (c : Cursor) (h : Head) (n took z : ℕ) (w′ : List 
             stage = refl;
             common = r .rebuilt .common ∙ unfold nameAt in rw shown;
           })
+
+  -- of an entry that was read before
+  pub suffix-passed : Tested true (readRest 4 b w c h) 4 b w c w′ (N.Good (stepOf h (d .common) (z + 1) 0 (newLength c h n took z)))
+  unfolding nameAt
+  suffix-passed =
+      let q : Headed b c h = r .ended .numbered .head in
+      let few = common-le (take (c .len) w) (new b w c h n took z) .1 in
+      record {
+        first = λ e. false-true (sym e);
+        later =
+            repeated-good _ 4 b w c w′ _
+            (λ p e m read.
+            rest-inv 4 b w c h p e m read λ name j named order.
+            need-inv _ _ _ _ _ _ (sym (name-from b w c h n took z (r .ended) (r .inside) p) ∙ named) λ tests made.
+            good-inv _ _ _ _ made λ is taken.
+            let (ok, counted) = and-inv (okName (new b w c h n took z)) (eqb (h .flags % 4096) (lengthField (newLength c h n took z))) tests in
+            suffix-good (ap okName shown ∙ ok) (eqb-true _ _ counted) (order-is ∙ rw is order))
+            (record { small = q .cursor .small; inside = omega (arith, r .inside); behind = omega arith; short = r .short })
+            (omega (arith, few, r .rebuilt .common, long-new))
+            long
+            past;
+      }

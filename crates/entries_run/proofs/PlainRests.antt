@@ -1,26 +1,28 @@
 -- What the code answers for the rest of an entry of version 2 or 3.
-use mathlib.Core.Path.{_≡_, refl, sym, _∙_}
+use mathlib.Core.Path.{_≡_, refl, sym, ap, _∙_}
 use mathlib.Core.List.{List}
 use mathlib.Core.Bool.{true, false}
 use Prim.Native.Nat.{ℕ, _+_, _-_, _/_, _%_, _≤_}
 use native.Mathlib.Omega.{arith}
-use lib.ListN.{length, take, drop, length-drop}
+use lib.ListN.{length, take, drop, length-take, length-drop}
 use lib.Seq.{length-take-le}
 use lib.Dec.{eqb}
-use Rattle.format.specs.Names.{compare, rises}
+use Rattle.format.specs.Names.{compare, common, rises}
+use Rattle.format.specs.Records.{Entry}
 use Rattle.format.specs.Reading.{good}
 use Rattle.format.specs.Reader.{readPlain, readName}
-use Rattle.format_laws.proofs.Names.{okName-length}
+use Rattle.format_laws.proofs.Names.{okName-length, common-le}
+use Rattle.format_laws.proofs.Readings.{good-inv}
 use Rattle.spelling_entries.proofs.Names.{name-read}
 use Rattle.entries.specs.declared.Head.{Head}
 use Rattle.entries.specs.declared.Text.the-variants as T
-use Rattle.entries.specs.Answers.{textOf}
-use Rattle.entries.proofs.Names.{readPlain-bad, readPlain-good}
+use Rattle.entries.specs.Answers.{textOf, NamePassed}
+use Rattle.entries.proofs.Names.{readPlain-bad, readPlain-good, plain-place, bad-text}
 use Rattle.entries_run.specs.declared.Cursor.{Cursor}
 use Rattle.entries_run.specs.declared.Next.the-variants as N
 use Rattle.entries_run.specs.declared.Standing.{Standing}
-use Rattle.entries_run.specs.Steps.{nameAt, Headed, Stands, Answered, readRest}
-use Rattle.entries_run.proofs.Rests.{answered-bad, answered-good, nameRead, rest-bad, rest-order, rest-good}
+use Rattle.entries_run.specs.Steps.{nameAt, Headed, Stands, stepOf, Answered, Repeated, readRest}
+use Rattle.entries_run.proofs.Rests.{answered-bad, answered-good, repeated-good, bad-next, nameRead, rest-bad, rest-order, rest-good, rest-inv}
 
 -- the name of n bytes, m with the NULs after it, is read, and compared with the one before
 pub record Compared (b : List ℕ) (c : Cursor) (h : Head) (n m : ℕ) (d : Standing) : Type 0 where
@@ -52,18 +54,18 @@ module _ (v : ℕ) (b w : List ℕ) (old : eqb v 4 ≡ false) where
         answered-bad _ v b w c w refl refl (λ q. refl) n λ p.
         rest-bad v b w c h p n (name-plain _ p _ _ _ ∙ readPlain-bad _ p _ _ n (sym (e p)))
 
+    before-is : take (c .start + c .len - c .start) (drop (c .start) b) ≡ nameAt v b w (c .start) (c .len)
+    before-is = let e : c .start + c .len - c .start ≡ c .len = omega arith in rw e (sym (nameAt-body (c .start) (c .len)))
+
+    after-is : (n : ℕ) → take (c .at + h .length + n - (c .at + h .length)) (drop (c .at + h .length) b) ≡ take n (drop (c .at + h .length) b)
+    after-is n = let e : c .at + h .length + n - (c .at + h .length) ≡ n = omega arith in rw e
+
     module _ (n m : ℕ) (d : Standing) (r : Compared b c h n m d) where
       named : (p : ℕ) → nameRead v b w c h p ≡ good (take n (drop (c .at + h .length) b)) m
       named p = name-plain _ p _ _ _ ∙ readPlain-good _ p _ _ n m (sym (r .text p))
 
-      before-is : take (c .start + c .len - c .start) (drop (c .start) b) ≡ nameAt v b w (c .start) (c .len)
-      before-is = let e : c .start + c .len - c .start ≡ c .len = omega arith in rw e (sym (nameAt-body (c .start) (c .len)))
-
-      after-is : take (c .at + h .length + n - (c .at + h .length)) (drop (c .at + h .length) b) ≡ take n (drop (c .at + h .length) b)
-      after-is = let e : c .at + h .length + n - (c .at + h .length) ≡ n = omega arith in rw e
-
       order-is : d .rises ≡ rises (compare (nameAt v b w (c .start) (c .len)) (take n (drop (c .at + h .length) b))) (c .stage) (h .flags / 4096 % 4)
-      order-is = rw (before-is, after-is) at (r .stands .rises)
+      order-is = rw (before-is, after-is n) at (r .stands .rises)
 
       sized : (1 ≤ n) × (n ≤ 8192)
       sized =
@@ -76,13 +78,7 @@ module _ (v : ℕ) (b w : List ℕ) (old : eqb v 4 ≡ false) where
 
       pub plain-good : d .rises ≡ true
           → Answered (readRest v b w c h) v b w c w
-          (N.Good (record {
-            head = h .length;
-            flags = h .flags;
-            word = h .word;
-            common = d .common;
-            next = record { at = c .at + h .length + m; start = c .at + h .length; len = n; stage = h .flags / 4096 % 4 };
-          }))
+          (N.Good (stepOf h (d .common) (c .at + h .length + m) (c .at + h .length) n))
       plain-good e =
           let q : Headed b c h = r .headed in
           let taken : h .length + (m + 0) ≡ c .at + h .length + m - c .at = omega arith in
@@ -94,5 +90,56 @@ module _ (v : ℕ) (b w : List ℕ) (old : eqb v 4 ≡ false) where
             least = q .least;
             ahead = omega (arith, sized .0);
             stage = refl;
-            common = r .stands .common ∙ rw (before-is, after-is, nameAt-body (c .at + h .length) n);
+            common = r .stands .common ∙ rw (before-is, after-is n, nameAt-body (c .at + h .length) n);
           })
+
+    -- of an entry that was read before
+    text-inv : {X : Type 0} (p : ℕ) (e : Entry) (m : ℕ) → readRest v b w c h p ≡ good e m
+        → ((name : List ℕ) (j : ℕ) → readPlain (h .length) p (h .flags % 4096) (drop (c .at + h .length) b) ≡ good name j
+        → rises (compare (nameAt v b w (c .start) (c .len)) name) (c .stage) (h .flags / 4096 % 4) ≡ true → X) → X
+    text-inv p e m q f = rest-inv v b w c h p e m q (λ name j named order. f name j (sym (name-plain _ p _ _ _) ∙ named) order)
+
+    pub plain-unread : (n : ℕ) → NamePassed b (c .at + h .length) (h .length) (h .flags % 4096) (T.Bad n) → Repeated (readRest v b w c h) v b w c w (N.Bad n)
+    unfolding textOf
+    plain-unread n t =
+        record {
+          same = λ p e m q. text-inv p e m q (λ name j plain order. bad-text (t .same p (length name) j (ap textOf plain)));
+          inside = λ st q. bad-next q;
+          common = λ st q. bad-next q;
+          long = refl;
+          past = refl;
+        }
+
+    -- the name of n bytes, m with the NULs after it, has k bytes in common with the one before
+    module _ (n m k : ℕ) (q : Headed b c h) (t : NamePassed b (c .at + h .length) (h .length) (h .flags % 4096) (T.Good n m))
+        (is-k : k ≡ common (take (c .start + c .len - c .start) (drop (c .start) b)) (take (c .at + h .length + n - (c .at + h .length)) (drop (c .at + h .length) b))) where
+      within : (k ≤ length (take (c .start + c .len - c .start) (drop (c .start) b))) × (k ≤ length (take (c .at + h .length + n - (c .at + h .length)) (drop (c .at + h .length) b)))
+      within = rw is-k (common-le _ _)
+
+      shorter : k ≤ n
+      shorter = let l = rw (after-is n, length-take) at (within .1) in omega arith
+
+      -- it was read, so it is compared with the one before as it was then
+      as-read : (p : ℕ) (name : List ℕ) (j : ℕ) → readPlain (h .length) p (h .flags % 4096) (drop (c .at + h .length) b) ≡ good name j
+          → rises (compare (nameAt v b w (c .start) (c .len)) name) (c .stage) (h .flags / 4096 % 4) ≡ true
+          → Compared b c h n m (record { rises = true; common = k })
+      unfolding textOf
+      as-read p name j plain order =
+          let told : T.Good n m ≡ textOf (readPlain (h .length) p (h .flags % 4096) (drop (c .at + h .length) b)) = t .same p (length name) j (ap textOf plain) ∙ sym (ap textOf plain) in
+          let is : take n (drop (c .at + h .length) b) ≡ name = good-inv _ _ _ _ (sym (readPlain-good _ p _ _ n m (sym told)) ∙ plain) (λ e l. e) in
+          record {
+            headed = q;
+            text = λ i. told ∙ plain-place (h .length) p i (h .flags % 4096) (drop (c .at + h .length) b);
+            fits = t .fits;
+            more = t .there;
+            stands = record { rises = rw (before-is, after-is n, is) (sym order); common = is-k; fits = within .0 };
+          }
+
+      pub plain-passed : Repeated (readRest v b w c h) v b w c w (N.Good (stepOf h k (c .at + h .length + m) (c .at + h .length) n))
+      plain-passed =
+          repeated-good _ v b w c w _
+          (λ p e i r. text-inv p e i r (λ name j plain order. plain-good n m _ (as-read p name j plain order) refl))
+          (record { small = q .cursor .small; inside = t .there; behind = omega (arith, t .fits); short = t .short })
+          shorter
+          refl
+          refl

@@ -1,7 +1,7 @@
 -- Laws of the rest of an entry after the bytes before its name, and of what answers say.
 use mathlib.Core.Path.{_≡_, refl, sym, subst, _∙_}
 use mathlib.Core.List.{List}
-use mathlib.Core.Bool.{true, false}
+use mathlib.Core.Bool.{Bool, true, false}
 use Prim.Native.Nat.{ℕ, _+_, _/_, _%_, _≤_}
 use native.Mathlib.Omega.{arith}
 use lib.ListN.{length, drop}
@@ -11,23 +11,28 @@ use Rattle.format.specs.Names.{compare, rises}
 use Rattle.format.specs.Records.{Entry}
 use Rattle.format.specs.Reading.{Read, bad, good, need, shift, bind}
 use Rattle.format.specs.Reader.{readName, entryOf, readTail}
+use Rattle.format_laws.proofs.Names.{common-le}
+use Rattle.format_laws.proofs.Readings.{need-inv, shift-inv, bind-inv}
 use Rattle.entries.specs.declared.Head.{Head}
 use Rattle.entries.specs.declared.Fixed.the-variants as F
-use Rattle.entries.specs.Answers.{readHead, fixedOf}
-use Rattle.entries.proofs.Before.{Size, head-size, readEntry-bad, readEntry-good}
+use Rattle.entries.specs.Answers.{readHead, fixedOf, Size, HeadPassed}
+use Rattle.entries.proofs.Before.{head-size, readEntry-bad, readEntry-good, entry-head, head-place, bad-head}
 use Rattle.entries_run.specs.declared.Cursor.{Cursor}
 use Rattle.entries_run.specs.declared.Step.{Step}
 use Rattle.entries_run.specs.declared.Next.{Next}
 use Rattle.entries_run.specs.declared.Next.the-variants as N
-use Rattle.entries_run.specs.Steps.{nameAt, keyAt, Inside, Headed, said, Found, Answered, readRest, Stepped}
+use Rattle.entries_run.specs.Steps.{nameAt, keyAt, Inside, Headed, said, Found, Answered, Repeated, Tested, readRest, Stepped, Passed}
+use Rattle.entries_run.proofs.Names.{nameAt-short}
 
 -- ---- what stands before the name
+
+pub headed-as : (b : List ℕ) (c : Cursor) (h : Head) → Inside b c → Size h → c .at + h .length ≤ length b → Headed b c h
+headed-as b c h inside size there = record { cursor = inside; is = size .is; least = size .least; most = size .most; there = there }
 
 pub headed : (b : List ℕ) (c : Cursor) (v : ℕ) (h : Head) → Inside b c → ((p : ℕ) → F.Good h ≡ fixedOf (readHead 20 v p (drop (c .at) b)))
     → c .at + h .length ≤ length b → Headed b c h
 headed b c v h inside e there =
-    let size : Size h = head-size v 0 (drop (c .at) b) h (sym (e 0)) in
-    record { cursor = inside; is = size .is; least = size .least; most = size .most; there = there }
+    headed-as b c h inside (head-size v 0 (drop (c .at) b) h (sym (e 0))) there
 
 -- ---- what answers say
 
@@ -53,6 +58,40 @@ module _ (read : ℕ → Read Entry) (v : ℕ) (b w : List ℕ) (c : Cursor) (w�
         plain = unwritten;
       }
 
+pub bad-next : {X : Type 0} {n : ℕ} {st : Step} → N.Bad n ≡ N.Good st → X
+bad-next e = let z : _≡_ {A = ℕ} 0 1 = cc in absurd (omega arith)
+
+-- a step that was not tested
+pub repeated-good : (read : ℕ → Read Entry) (v : ℕ) (b w : List ℕ) (c : Cursor) (w′ : List ℕ) (st : Step)
+    → ((p : ℕ) (e : Entry) (m : ℕ) → read p ≡ good e m → Answered read v b w c w′ (N.Good st))
+    → Inside b (st .next) → st .common ≤ st .next .len → length w′ ≡ length w → drop 8192 w′ ≡ drop 8192 w → Repeated read v b w c w′ (N.Good st)
+repeated-good read v b w c w′ st same inside common long past =
+    record {
+      same = same;
+      inside = λ other q. let is : st ≡ other = cc in subst (λ (x : Step). Inside b (x .next)) is inside;
+      common = λ other q. let is : st ≡ other = cc in subst (λ (x : Step). x .common ≤ x .next .len) is common;
+      long = long;
+      past = past;
+    }
+
+-- what is said with all tests holds without them
+module _ (read : ℕ → Read Entry) (v : ℕ) (b w : List ℕ) (c : Cursor) (w′ : List ℕ) (r : Next) (t : Answered read v b w c w′ r) where
+  repeated : Repeated read v b w c w′ r
+  repeated =
+      record {
+        same = λ p e m q. t;
+        inside = λ st q. t .found st q .next;
+        common = λ st q.
+            let x = nameAt v b w (c .start) (c .len) in
+            let y = nameAt v b w′ (st .next .start) (st .next .len) in
+            omega (arith, t .found st q .common, common-le x y .1, nameAt-short v b w′ (st .next .start) (st .next .len));
+        long = t .long;
+        past = t .past;
+      }
+
+  pub tested : (again : Bool) → Tested again read v b w c w′ r
+  tested again = record { first = λ e. t; later = repeated }
+
 -- of another reader that reads the same
 answered-as : (read other : ℕ → Read Entry) (v : ℕ) (b w : List ℕ) (c : Cursor) (w′ : List ℕ) (r : Next) → ((p : ℕ) → read p ≡ other p)
     → Answered other v b w c w′ r → Answered read v b w c w′ r
@@ -70,6 +109,34 @@ module _ (v : ℕ) (b w : List ℕ) (c : Cursor) where
   pub step-four : (h : Head) (w′ : List ℕ) (r : Next) → ((p : ℕ) → F.Good h ≡ fixedOf (readHead 20 v p (drop (c .at) b)))
       → v ≡ 4 → Answered (readRest 4 b w c h) 4 b w c w′ r → Stepped v b w c w′ r
   step-four h w′ r e four t = step-on h w′ r e (subst (λ (u : ℕ). Answered (readRest u b w c h) u b w c w′ r) (sym four) t)
+
+-- the same of an entry that was read before
+module _ (v : ℕ) (b w : List ℕ) (c : Cursor) where
+  pub pass-refused : (n : ℕ) → HeadPassed b (c .at) (F.Bad n) → Passed v b w c w (N.Bad n)
+  pass-refused n t =
+      record {
+        same = λ p e m q. entry-head 20 v _ p _ e m q (λ h is. bad-head (t .same v p h is));
+        inside = λ st q. bad-next q;
+        common = λ st q. bad-next q;
+        long = refl;
+        past = refl;
+      }
+
+  pub pass-on : (h : Head) (w′ : List ℕ) (r : Next) → HeadPassed b (c .at) (F.Good h) → Repeated (readRest v b w c h) v b w c w′ r → Passed v b w c w′ r
+  unfolding readRest
+  pass-on h w′ r t u =
+      record {
+        same = λ p e m q. entry-head 20 v _ p _ e m q λ g is.
+            let here : (j : ℕ) → F.Good h ≡ fixedOf (readHead 20 v j (drop (c .at) b)) = λ j. t .same v p g is ∙ sym is ∙ head-place 20 v p j (drop (c .at) b) in
+            step-on v b w c h w′ r here (u .same p e m (sym (readEntry-good 20 v (keyAt v b w c) p (drop (c .at) b) h (sym (here p))) ∙ q));
+        inside = u .inside;
+        common = u .common;
+        long = u .long;
+        past = u .past;
+      }
+
+  pub pass-four : (h : Head) (w′ : List ℕ) (r : Next) → HeadPassed b (c .at) (F.Good h) → v ≡ 4 → Repeated (readRest 4 b w c h) 4 b w c w′ r → Passed v b w c w′ r
+  pass-four h w′ r t four u = pass-on h w′ r t (subst (λ (n : ℕ). Repeated (readRest n b w c h) n b w c w′ r) (sym four) u)
 
 -- ---- the rest, from the name on
 
@@ -92,3 +159,12 @@ module _ (v : ℕ) (b w : List ℕ) (c : Cursor) (h : Head) (p : ℕ) where
       → readRest v b w c h p ≡ good (entryOf 20 (drop (c .at) b) (h .flags) (h .word) name) (h .length + (m + 0))
   unfolding readRest readTail bind shift need
   rest-good name m e o = rw (drop-drop (h .length) (c .at) b, e, o)
+
+  -- and back
+  pub rest-inv : {X : Type 0} (e : Entry) (m : ℕ) → readRest v b w c h p ≡ good e m
+      → ((name : List ℕ) (j : ℕ) → nameRead ≡ good name j → rises (compare (nameAt v b w (c .start) (c .len)) name) (c .stage) (h .flags / 4096 % 4) ≡ true → X) → X
+  unfolding readRest readTail
+  rest-inv e m q f =
+      shift-inv _ _ _ _ q λ i q₁ sum.
+      bind-inv _ _ _ _ q₁ λ name j k named q₂ sum₂.
+      need-inv _ _ _ _ _ _ q₂ λ order q₃. f name j (rw (drop-drop (h .length) (c .at) b) at named) order

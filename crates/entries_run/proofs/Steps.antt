@@ -12,13 +12,14 @@ use lib.Dec.{eqb}
 use Rattle.format.specs.Records.{Entry, Key, keyOf, start}
 use Rattle.format.specs.Reading.{Read, bad, good, bind}
 use Rattle.format.specs.Reader.{entryOf, readEntry, readEntries}
-use Rattle.format_laws.proofs.Readings.{bad-good, inFront, front-none, front-one, front-front, front-inv}
+use Rattle.format_laws.proofs.Readings.{bad-good, bind-inv, inFront, front-none, front-one, front-front, front-inv}
 use Rattle.entries_run.specs.declared.Cursor.{Cursor}
 use Rattle.entries_run.specs.declared.Step.{Step}
+use Rattle.entries_run.specs.declared.Next.{Next}
 use Rattle.entries_run.specs.declared.Next.the-variants as N
 use Rattle.entries_run.specs.declared.Run.the-variants as R
 use Rattle.entries_run.specs.declared.Sought.the-variants as S
-use Rattle.entries_run.specs.Steps.{nameAt, entryAt, Inside, Room, Found, Stepped, firstCursor, runFrom, runOf, Placed, Reaches}
+use Rattle.entries_run.specs.Steps.{nameAt, entryAt, Inside, Room, Found, Stepped, Passed, firstCursor, runFrom, runOf, Placed, Reaches}
 
 -- ---- one entry more
 
@@ -42,6 +43,10 @@ module _ (v n : ℕ) (k : Key) (p : ℕ) (s : List ℕ) (more : 0 < n) where
   unfolding bind
   run-on e m q = run-more ∙ rw q (front-one e m _)
 
+  -- the first of entries that were read
+  run-first-entry {ℓ} : {X : Type ℓ} (es : List Entry) (m : ℕ) → readEntries 20 v n k p s ≡ good es m → ((e : Entry) (j : ℕ) → readEntry 20 v k p s ≡ good e j → X) → X
+  run-first-entry es m q f = bind-inv _ _ _ _ (sym run-more ∙ q) (λ e i j is rest sum. f e i is)
+
 -- a step from the cursor c, of which n entries are left
 module _ (v : ℕ) (b w : List ℕ) (c : Cursor) (w′ : List ℕ) (n : ℕ) (more : 0 < n) where
   pub entries-bad : (m : ℕ) → Stepped v b w c w′ (N.Bad m) → runFrom v n b w c ≡ bad m (c .at)
@@ -54,6 +59,10 @@ module _ (v : ℕ) (b w : List ℕ) (c : Cursor) (w′ : List ℕ) (n : ℕ) (mo
       let f : Found v b w c w′ st = t .found st refl in
       let here : c .at + (st .next .at - c .at) ≡ st .next .at = omega arith in
       run-on v n _ (c .at) _ more _ _ (t .same (c .at)) ∙ rw (drop-drop (st .next .at - c .at) (c .at) b, here, ← (f .stage))
+
+  -- where the run was read, a step without tests is one with them
+  pub entries-again {ℓ} : {X : Type ℓ} (es : List Entry) (m : ℕ) (r : Next) → runFrom v n b w c ≡ good es m → Passed v b w c w′ r → (Stepped v b w c w′ r → X) → X
+  entries-again es m r q t f = run-first-entry v n _ (c .at) _ more es m q (λ e j is. f (t .same (c .at) e j is))
 
 -- the run from the start
 nameAt-none : (v : ℕ) (b w : List ℕ) (t : Bool) → cond t (take 0 w) (take 0 (drop 0 b)) ≡ []

@@ -1,7 +1,7 @@
 -- Where names stand, and what a step over an entry leaves behind.
 use mathlib.Core.Path.{_≡_}
 use mathlib.Core.List.{List, _++_}
-use mathlib.Core.Bool.{false, cond}
+use mathlib.Core.Bool.{Bool, false, cond}
 use mathlib.Core.Option.{Option, none, some}
 use Prim.Native.Nat.{ℕ, _+_, _-_, _/_, _%_, _≤_, _<_}
 use lib.ListN.{length, take, drop, getElem?}
@@ -81,6 +81,16 @@ pub record Rebuilt (work : List ℕ) (p n : ℕ) (s : List ℕ) (k l : ℕ) (wor
 
 -- ---- one step
 
+-- a step over an entry with the bytes h before its name
+abbrev pub stepOf : Head → ℕ → ℕ → ℕ → ℕ → Step
+stepOf h common at start len = record {
+  head = h .length;
+  flags = h .flags;
+  word = h .word;
+  common = common;
+  next = record { at = at; start = start; len = len; stage = h .flags / 4096 % 4 };
+}
+
 -- an answer as the reader gives it, for the entry at a place that the reader calls p
 abbrev pub said : ℕ → List ℕ → List ℕ → ℕ → ℕ → Next → Read Entry
 said v b work at p (N.Bad n) = bad n p
@@ -103,6 +113,20 @@ pub record Answered (read : ℕ → Read Entry) (v : ℕ) (b work : List ℕ) (c
   pub past : drop 8192 work′ ≡ drop 8192 work
   pub plain : eqb v 4 ≡ false → work′ ≡ work
 
+-- what a function leaves behind that passes an entry, which was read before, without its tests: where read reads one, what Answered says;
+-- in any case a place in the body
+pub record Repeated (read : ℕ → Read Entry) (v : ℕ) (b work : List ℕ) (c : Cursor) (work′ : List ℕ) (r : Next) : Type 0 where
+  pub same : (p : ℕ) (e : Entry) (m : ℕ) → read p ≡ good e m → Answered read v b work c work′ r
+  pub inside : (st : Step) → r ≡ N.Good st → Inside b (st .next)
+  pub common : (st : Step) → r ≡ N.Good st → st .common ≤ st .next .len
+  pub long : length work′ ≡ length work
+  pub past : drop 8192 work′ ≡ drop 8192 work
+
+-- the one or the other, whether the entry was read before or not
+pub record Tested (again : Bool) (read : ℕ → Read Entry) (v : ℕ) (b work : List ℕ) (c : Cursor) (work′ : List ℕ) (r : Next) : Type 0 where
+  pub first : again ≡ false → Answered read v b work c work′ r
+  pub later : Repeated read v b work c work′ r
+
 -- what readEntry reads after the bytes h
 unfoldable pub readRest : ℕ → List ℕ → List ℕ → Cursor → Head → ℕ → Read Entry
 readRest v b work c h p = shift (h .length) (readTail 20 v (keyAt v b work c) p (h .length) (h .flags) (h .word) (drop (c .at) b))
@@ -110,6 +134,10 @@ readRest v b work c h p = shift (h .length) (readTail 20 v (keyAt v b work c) p 
 -- a step over the entry at a cursor
 abbrev pub Stepped : ℕ → List ℕ → List ℕ → Cursor → List ℕ → Next → Type 0
 Stepped v b work c work′ r = Answered (λ p. readEntry 20 v (keyAt v b work c) p (drop (c .at) b)) v b work c work′ r
+
+-- the same over an entry that was read before
+abbrev pub Passed : ℕ → List ℕ → List ℕ → Cursor → List ℕ → Next → Type 0
+Passed v b work c work′ r = Repeated (λ p. readEntry 20 v (keyAt v b work c) p (drop (c .at) b)) v b work c work′ r
 
 -- ---- the run
 

@@ -5,7 +5,7 @@ ghost use mathlib.Core.List.{List};
 ghost use Prim.Native.Nat.{ℕ, _+_, _-_, _≤_};
 ghost use lib.ListN.{length};
 ghost use lib.Dec.{eqb};
-ghost use Rattle.entries_run.specs.Steps.{nameAt, Stands, Rebuilt, Room, Inside, Headed, Numbered, Answered, readRest, Stepped, firstCursor, Ran, Reaches};
+ghost use Rattle.entries_run.specs.Steps.{nameAt, Stands, Rebuilt, Room, Inside, Headed, Numbered, Answered, Repeated, Tested, stepOf, readRest, Stepped, Passed, firstCursor, Ran, Reaches};
 use entries::Fixed;
 use entries::Head;
 use entries::Number;
@@ -99,6 +99,24 @@ fn standing_of(previous: &[u8], name: &[u8], s: u32, t: u32) -> Standing
     }
 }
 
+// The entry with the bytes h before its name, which has len bytes and stands at start; the next entry is at a place.
+fn step_of(h: Head, common: usize, at: usize, start: usize, len: usize) -> Step
+    ensures { λ r. ⌜ r ≡ stepOf h common at start len ⌝ }
+{
+    Step {
+        head: h.length,
+        flags: h.flags,
+        word: h.word,
+        common: common,
+        next: Cursor {
+            at: at,
+            start: start,
+            len: len,
+            stage: h.flags / 4096 % 4,
+        },
+    }
+}
+
 // In the name in the first p bytes of the workspace, the last n are replaced by suffix. The two names are compared before the copy.
 fn rebuild(work: &mut [u8], p: usize, n: usize, suffix: &[u8], s: u32, t: u32) -> Standing
     requires { ⌜ (n ≤ p) × (p ≤ 8192) × (p - n + length (now suffix) ≤ 8192) × (8192 ≤ length (now work)) ⌝ }
@@ -113,10 +131,10 @@ fn rebuild(work: &mut [u8], p: usize, n: usize, suffix: &[u8], s: u32, t: u32) -
     }
 }
 
-// The rest of an entry of version 4 after the number N, which is n and took that many bytes.
-fn suffix(b: &[u8], work: &mut [u8], c: Cursor, h: Head, n: usize, took: usize) -> Next
+// The rest of an entry of version 4 after the number N, which is n and took that many bytes. One that was read before is not tested again.
+fn suffix(b: &[u8], work: &mut [u8], c: Cursor, h: Head, n: usize, took: usize, again: bool) -> Next
     requires { ⌜ Numbered (now b) (now work) c h n took ⌝ }
-    ensures { λ r. ⌜ Answered (readRest 4 (now (b .entry)) (now (work .entry)) c h) 4 (now (b .entry)) (now (work .entry)) c (now (work .exit)) r ⌝ }
+    ensures { λ r. ⌜ Tested again (readRest 4 (now (b .entry)) (now (work .entry)) c h) 4 (now (b .entry)) (now (work .entry)) c (now (work .exit)) r ⌝ }
 {
     let at = c.at + h.length + took;
     let z = fields::find(b, at, 0);
@@ -129,21 +147,13 @@ fn suffix(b: &[u8], work: &mut [u8], c: Cursor, h: Head, n: usize, took: usize) 
     }
     let stage = h.flags / 4096 % 4;
     let d = rebuild(&mut *work, c.len, n, &b[at..z], c.stage, stage);
+    if again {
+        return Next::Good(step_of(h, d.common, z + 1, 0, len));
+    }
     if fields::name_ok(&work[..len]) {
         if h.flags % 4096 == fields::length_field(len) {
             if d.rises {
-                return Next::Good(Step {
-                    head: h.length,
-                    flags: h.flags,
-                    word: h.word,
-                    common: d.common,
-                    next: Cursor {
-                        at: z + 1,
-                        start: 0,
-                        len: len,
-                        stage: stage,
-                    },
-                });
+                return Next::Good(step_of(h, d.common, z + 1, 0, len));
             }
             return Next::Bad(11);
         }
@@ -152,15 +162,15 @@ fn suffix(b: &[u8], work: &mut [u8], c: Cursor, h: Head, n: usize, took: usize) 
     Next::Bad(9)
 }
 
-// The rest of an entry of version 4 after the bytes h.
-fn packed(b: &[u8], work: &mut [u8], c: Cursor, h: Head) -> Next
+// The rest of an entry of version 4 after the bytes h. One that was read before is not tested again.
+fn packed(b: &[u8], work: &mut [u8], c: Cursor, h: Head, again: bool) -> Next
     requires { ⌜ Headed (now b) c h × (8192 ≤ length (now work)) ⌝ }
-    ensures { λ r. ⌜ Answered (readRest 4 (now (b .entry)) (now (work .entry)) c h) 4 (now (b .entry)) (now (work .entry)) c (now (work .exit)) r ⌝ }
+    ensures { λ r. ⌜ Tested again (readRest 4 (now (b .entry)) (now (work .entry)) c h) 4 (now (b .entry)) (now (work .entry)) c (now (work .exit)) r ⌝ }
 {
     let m = entries::read_n(b, c.at + h.length, c.len);
     match m {
         Number::Bad(n) => Next::Bad(n),
-        Number::Good(n, took) => suffix(b, work, c, h, n, took),
+        Number::Good(n, took) => suffix(b, work, c, h, n, took, again),
     }
 }
 
@@ -180,20 +190,28 @@ fn plain(b: &[u8], c: Cursor, h: Head) -> Next
             let stage = h.flags / 4096 % 4;
             let d = standing_of(&b[a..e], &b[at..z], c.stage, stage);
             if d.rises {
-                return Next::Good(Step {
-                    head: h.length,
-                    flags: h.flags,
-                    word: h.word,
-                    common: d.common,
-                    next: Cursor {
-                        at: at + m,
-                        start: at,
-                        len: n,
-                        stage: stage,
-                    },
-                });
+                return Next::Good(step_of(h, d.common, at + m, at, n));
             }
             Next::Bad(11)
+        }
+    }
+}
+
+// The same of an entry that was read before.
+fn pass_plain(b: &[u8], c: Cursor, h: Head) -> Next
+    requires { ⌜ Headed (now b) c h ⌝ }
+    ensures { λ r. ⌜ ((v : ℕ) (work : List ℕ) → eqb v 4 ≡ false → Repeated (readRest v (now (b .entry)) work c h) v (now (b .entry)) work c work r) ⌝ }
+{
+    let at = c.at + h.length;
+    let t = entries::pass_plain(b, at, h.length, h.flags % 4096);
+    match t {
+        Text::Bad(n) => Next::Bad(n),
+        Text::Good(n, m) => {
+            let a = c.start;
+            let e = a + c.len;
+            let z = at + n;
+            let k = fields::common(&b[a..e], &b[at..z]);
+            Next::Good(step_of(h, k, at + m, at, n))
         }
     }
 }
@@ -208,9 +226,26 @@ pub fn next_entry(b: &[u8], v: u32, work: &mut [u8], c: Cursor) -> Next
         Fixed::Bad(n) => Next::Bad(n),
         Fixed::Good(h) => {
             if v == 4 {
-                return packed(b, work, c, h);
+                return packed(b, work, c, h, false);
             }
             plain(b, c, h)
+        }
+    }
+}
+
+// The entry at a cursor, where one was read before. Its mode, its name, its order and the NULs after it are not tested again.
+pub fn pass_entry(b: &[u8], v: u32, work: &mut [u8], c: Cursor) -> Next
+    requires { ⌜ Inside (now b) c × (8192 ≤ length (now work)) ⌝ }
+    ensures { λ r. ⌜ Passed v (now (b .entry)) (now (work .entry)) c (now (work .exit)) r ⌝ }
+{
+    let f = entries::pass_fixed(b, c.at);
+    match f {
+        Fixed::Bad(n) => Next::Bad(n),
+        Fixed::Good(h) => {
+            if v == 4 {
+                return packed(b, work, c, h, true);
+            }
+            pass_plain(b, c, h)
         }
     }
 }

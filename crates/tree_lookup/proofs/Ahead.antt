@@ -4,33 +4,23 @@ use mathlib.Core.List.{List, _∷_}
 use mathlib.Core.Bool.{true, false, _&&_}
 use Prim.Native.Nat.{ℕ, _+_, _-_, _≤_, _<_}
 use native.Mathlib.Omega.{arith}
-use lib.ListN.{length, length-take}
-use lib.Dec.{eqb, leb, ltb}
+use lib.ListN.{length}
+use lib.Dec.{leb, ltb}
 use borrow.Author.Tests.{lt-ltb, ltb-true, leb-true}
 use Rattle.format.specs.Names.{common, compare}
 use Rattle.format.specs.Layout.{names}
 use Rattle.format.specs.Reader.{entryOf}
-use Rattle.format_laws.proofs.Tests.{false-true, by-test, and-inv}
-use Rattle.format_laws.proofs.Names.{common-le}
+use Rattle.format_laws.proofs.Tests.{false-true, and-inv}
 use Rattle.format_laws.proofs.Readings.{bad-good, good-inv, front-inv}
 use Rattle.entries_run.specs.declared.Step.{Step}
 use Rattle.entries_run.specs.declared.Next.the-variants as N
-use Rattle.entries_run.specs.Steps.{nameAt, Found, Stepped, runFrom}
-use Rattle.entries_run.proofs.Steps.{entries-bad, entries-good, run-none}
+use Rattle.entries_run.specs.Steps.{nameAt, Passed, runFrom}
+use Rattle.entries_run.proofs.Steps.{entries-bad, entries-good, entries-again, run-none}
 use Rattle.tree_counts.specs.Runs.{notAbove, sortedFrom, begins, leads, beyond, within}
 use Rattle.tree_counts.proofs.Order.{begins-common}
 use Rattle.tree_counts.proofs.Runs.{within-end, within-step, beyond-step, beyond-end}
 use Rattle.tree_lookup.specs.declared.front.Front.{Front}
 use Rattle.tree_lookup.specs.Ahead.{Fits, Ahead, After, after-none, after-some, Advanced, Left}
-
--- ---- lengths
-
-pub nameAt-short : (v : ℕ) (b work : List ℕ) (start len : ℕ) → length (nameAt v b work start len) ≤ len
-unfolding nameAt
-nameAt-short v b work start len =
-    by-test (eqb v 4)
-    (λ e. rw (e, length-take) (omega arith))
-    (λ e. rw (e, length-take) (omega arith))
 
 -- ---- a step
 
@@ -55,26 +45,24 @@ module _ (v : ℕ) (b work : List ℕ) (s : Front) (work′ : List ℕ) where
     left-some = omega arith
 
     -- over a name that an entry follows which is refused
-    pub step-bad {ℓ} : {X : Type ℓ} (m : ℕ) → Stepped v b work (s .cursor) work′ (N.Bad m) → (x : List ℕ) (xs : List (List ℕ)) → Ahead v b work s x xs → X
-    step-bad m t x xs h = bad-good _ _ _ _ (sym (entries-bad v b work (s .cursor) work′ (s .ahead - 1) left-some m t) ∙ h .reads)
+    pub step-bad {ℓ} : {X : Type ℓ} (m : ℕ) → Passed v b work (s .cursor) work′ (N.Bad m) → (x : List ℕ) (xs : List (List ℕ)) → Ahead v b work s x xs → X
+    step-bad m t x xs h =
+        entries-again v b work (s .cursor) work′ (s .ahead - 1) left-some _ _ _ (h .reads) t λ u.
+        bad-good _ _ _ _ (sym (entries-bad v b work (s .cursor) work′ (s .ahead - 1) left-some m u) ∙ h .reads)
 
-    module _ (st : Step) (t : Stepped v b work (s .cursor) work′ (N.Good st)) where
+    module _ (st : Step) (t : Passed v b work (s .cursor) work′ (N.Good st)) where
       pub step-fits : Fits b s → Fits b (record { cursor = st .next; ahead = s .ahead - 1; common = st .common })
-      step-fits h =
-          let f : Found v b work (s .cursor) work′ st = t .found st refl in
-          let x = nameAt v b work (s .cursor .start) (s .cursor .len) in
-          let y = nameAt v b work′ (st .next .start) (st .next .len) in
-          record { inside = f .next; short = omega (arith, f .common, common-le x y .1, nameAt-short v b work′ (st .next .start) (st .next .len)); few = omega (arith, h .few) }
+      step-fits h = record { inside = t .inside st refl; short = t .common st refl; few = omega (arith, h .few) }
 
       pub step-on : (x : List ℕ) (xs : List (List ℕ)) → Ahead v b work s x xs → After v b work′ (record { cursor = st .next; ahead = s .ahead - 1; common = st .common }) x xs
       unfolding names entryOf
       step-on x xs h =
-          let f : Found v b work (s .cursor) work′ st = t .found st refl in
-          front-inv _ _ _ _ _ (sym (entries-good v b work (s .cursor) work′ (s .ahead - 1) left-some st t) ∙ h .reads) λ gs l q parts sum.
+          entries-again v b work (s .cursor) work′ (s .ahead - 1) left-some _ _ _ (h .reads) t λ u.
+          front-inv _ _ _ _ _ (sym (entries-good v b work (s .cursor) work′ (s .ahead - 1) left-some st u) ∙ h .reads) λ gs l q parts sum.
           let y = nameAt v b work′ (st .next .start) (st .next .len) in
           let is : (y ∷ names gs) ≡ xs = ap names parts ∙ h .rest in
           subst (After v b work′ _ x) is
-          (after-some (record { some = left-some; name = refl; entries = gs; taken = l; reads = q; rest = refl; sorted = next-sorted x y (names gs) (ap (sortedFrom x) is ∙ h .sorted) }) (f .common ∙ ap (λ (z : List ℕ). common z y) (h .name)))
+          (after-some (record { some = left-some; name = refl; entries = gs; taken = l; reads = q; rest = refl; sorted = next-sorted x y (names gs) (ap (sortedFrom x) is ∙ h .sorted) }) (u .found st refl .common ∙ ap (λ (z : List ℕ). common z y) (h .name)))
 
 -- ---- the first name ahead
 

@@ -1,7 +1,7 @@
 // The entries that are still ahead of a walk over them, and the steps of such a walk.
 use entries_run::Cursor;
 use entries_run::Next;
-use entries_run::next_entry;
+use entries_run::pass_entry;
 ghost use mathlib.Core.Path.{_≡_};
 ghost use mathlib.Core.Bool.{_&&_};
 ghost use Prim.Native.Nat.{_+_, _≤_, _<_};
@@ -22,7 +22,7 @@ pub struct Passage {
     pub front: Front,
 }
 
-// The next entry. One that is refused ends the walk.
+// The next entry. All entries were read before the walk, so that nothing is tested again. One that is not there ends the walk.
 pub fn advance(b: &[u8], v: u32, work: &mut [u8], s: Front) -> Front
     requires { ⌜ Fits (now b) s × (8192 ≤ length (now work)) ⌝ }
     ensures { λ r. ⌜ Advanced v (now (b .entry)) (now (work .entry)) s (now (work .exit)) r ⌝ }
@@ -35,7 +35,7 @@ pub fn advance(b: &[u8], v: u32, work: &mut [u8], s: Front) -> Front
             common: 0,
         };
     }
-    let g = next_entry(b, v, work, c);
+    let g = pass_entry(b, v, work, c);
     match g {
         Next::Bad(_) => Front {
             cursor: c,

@@ -1,5 +1,5 @@
 -- The proof that `next_entry` meets its contract.
-use mathlib.Core.Path.{sym, _∙_}
+use mathlib.Core.Path.{refl, sym, _∙_}
 use borrow.Author.Needs.{needs}
 use borrow.Author.Tests.{ne-eqb}
 use Rattle.entries_run.specs.Steps.{Headed}
@@ -40,7 +40,7 @@ returns c =
     let t = i .before .before in
     let f = t .before .before in
     let a = f .before .before .before .args in
-    step-four (a .v) (a .b .now) (a .work .now) (a .c) _ _ _ (λ p. sym (t .f2 .given .1) ∙ f .read-fixed .ensures .0 p) (i .if1 .taken) (k .packed .ensures)
+    step-four (a .v) (a .b .now) (a .work .now) (a .c) _ _ _ (λ p. sym (t .f2 .given .1) ∙ f .read-fixed .ensures .0 p) (i .if1 .taken) (k .packed .ensures .first refl)
 
 plain-requires : tie.Need-plain-requires
 plain-requires c κs = there (c .before .before)

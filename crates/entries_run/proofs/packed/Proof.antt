@@ -4,6 +4,7 @@ use Prim.Native.Nat.{_≤_}
 use native.Mathlib.Omega.{arith}
 use lib.ListN.{length}
 use borrow.Author.Needs.{needs}
+use Rattle.entries_run.proofs.Rests.{tested}
 use Rattle.entries_run.proofs.PackedRests.{packed-bad, numbered}
 use Rattle.entries_run.proofs.packed.Statement.{statement}
 use Rattle.entries_run.proofs.packed.Tie as tie
@@ -36,7 +37,7 @@ returns c =
     let st = m .before .before .before .before .before in
     let a = st .args in
     let room : a .c .len ≤ length (a .work .now) = omega (arith, st .pre) in
-    packed-bad (a .b .now) (a .work .now) (a .c) (a .h) room _ (λ p. sym (c .before .m .given .1) ∙ m .read-n .ensures .0 p)
+    tested _ 4 (a .b .now) _ _ _ _ (packed-bad (a .b .now) (a .work .now) (a .c) (a .h) room _ (λ p. sym (c .before .m .given .1) ∙ m .read-n .ensures .0 p)) _
 
 same-length : tie.Need-same-length
 same-length c = search needs

@@ -70,15 +70,18 @@ part-standing-of-end-2 c =
 standing-of-requires : tie.Need-standing-of-requires
 standing-of-requires c κs = search needs
 
-add-t26 : tie.Need-add-t26
-add-t26 c =
+add-step-of : tie.Need-add-step-of
+add-step-of c =
     let t = c .before .before .before .before .before .before .before in
     let n = ap textLength (t .t2 .given .1) in
     let m = ap textTaken (t .t2 .given .1) in
     omega (arith, t .before .before .before .before .before .before .before)
 
+step-of-requires : tie.Need-step-of-requires
+step-of-requires c κs = search needs
+
 returns : tie.Need-returns
-returns c = λ v work old. plain-good v _ work old _ _ _ _ _ (compared (c .before)) (c .if1 .taken)
+returns c = λ v work old. rw (c .step-of .ensures) (plain-good v _ work old _ _ _ _ _ (compared (c .before .before)) (c .before .if1 .taken))
 
 returns-2 : tie.Need-returns-2
 returns-2 c =
@@ -106,7 +109,8 @@ plain-spec =
     part-standing-of-start-2
     part-standing-of-end-2
     standing-of-requires
-    add-t26
+    add-step-of
+    step-of-requires
     returns
     returns-2
     returns-3)

@@ -3,7 +3,8 @@ use mathlib.Core.Path.{sym, _∙_}
 use native.Mathlib.Omega.{arith}
 use lib.Seq.{length-take-le}
 use borrow.Author.Needs.{needs}
-use Rattle.entries_run.proofs.PackedRests.{Ended, Copied, suffix-cut, suffix-long, suffix-name, suffix-field, suffix-order, suffix-good}
+use Rattle.entries_run.proofs.Rests.{tested}
+use Rattle.entries_run.proofs.PackedRests.{Ended, Copied, suffix-cut, suffix-long, suffix-name, suffix-field, suffix-order, suffix-good, suffix-passed}
 use Rattle.entries_run.proofs.suffix.Statement.{statement}
 use Rattle.entries_run.proofs.suffix.Tie as tie
 
@@ -33,7 +34,7 @@ find-requires : tie.Need-find-requires
 find-requires c κs = search needs
 
 returns : tie.Need-returns
-returns c = suffix-cut _ _ _ _ _ _ _ (ended (c .before)) (c .if1 .taken)
+returns c = tested _ _ _ _ _ _ _ (suffix-cut _ _ _ _ _ _ _ (ended (c .before)) (c .if1 .taken)) _
 
 sub-len : tie.Need-sub-len
 sub-len c = search needs
@@ -45,7 +46,7 @@ add-len : tie.Need-add-len
 add-len c = search needs
 
 returns-2 : tie.Need-returns-2
-returns-2 c = suffix-long _ _ _ _ _ _ _ (ended (c .before .before .before)) (c .before .before .if1 .left) (c .if2 .taken)
+returns-2 c = tested _ _ _ _ _ _ _ (suffix-long _ _ _ _ _ _ _ (ended (c .before .before .before)) (c .before .before .if1 .left) (c .if2 .taken)) _
 
 sub-rebuild : tie.Need-sub-rebuild
 sub-rebuild c = search needs
@@ -59,12 +60,24 @@ part-rebuild-end c = search needs
 rebuild-requires : tie.Need-rebuild-requires
 rebuild-requires c κs = search needs
 
+add-step-of : tie.Need-add-step-of
+add-step-of c = search needs
+
+step-of-requires : tie.Need-step-of-requires
+step-of-requires c κs = search needs
+
+same-length : tie.Need-same-length
+same-length c = search needs
+
+returns-3 : tie.Need-returns-3
+returns-3 c = rw (c .step-of .ensures, c .before .if3 .taken) (suffix-passed _ _ _ _ _ _ _ _ _ (copied (c .before .before .before .before)))
+
 slice-reshare-prefix-name-ok : tie.Need-slice-reshare-prefix-name-ok
 slice-reshare-prefix-name-ok c = search needs
 
 slice-aggregate-name-ok : tie.Need-slice-aggregate-name-ok
 slice-aggregate-name-ok c =
-    let g = c .before .before .before in
+    let g = c .before .before .before .before in
     let e = g .before .before .before .before in
     sym (length-take-le _ (g .rebuild .last .0) (omega (arith, e .if2 .left, e .before .before .before .before .before .before .before .before .pre .room)))
 
@@ -74,47 +87,57 @@ name-ok-requires c κs = search needs
 length-field-requires : tie.Need-length-field-requires
 length-field-requires c κs = search needs
 
-add-t28 : tie.Need-add-t28
-add-t28 c = search needs
+add-step-of-2 : tie.Need-add-step-of-2
+add-step-of-2 c = search needs
 
-same-length : tie.Need-same-length
-same-length c = search needs
-
-returns-3 : tie.Need-returns-3
-returns-3 c =
-    let f = c .before .before in
-    let o = f .before .before .before in
-    let g = o .before .before .before .before in
-    suffix-good _ _ _ _ _ _ _ _ _ (copied g) (sym (o .name-ok .ensures) ∙ f .before .before .if3 .taken) (c .before .if4 .taken ∙ f .length-field .ensures) (c .if5 .taken)
+step-of-requires-2 : tie.Need-step-of-requires-2
+step-of-requires-2 c κs = search needs
 
 same-length-2 : tie.Need-same-length-2
 same-length-2 c = search needs
 
 returns-4 : tie.Need-returns-4
 returns-4 c =
-    let f = c .before .before in
+    let f = c .before .before .before in
     let o = f .before .before .before in
-    let g = o .before .before .before .before in
-    suffix-order _ _ _ _ _ _ _ _ _ (copied g) (sym (o .name-ok .ensures) ∙ f .before .before .if3 .taken) (c .before .if4 .taken ∙ f .length-field .ensures) (c .if5 .left)
+    let g = o .before .before .before .before .before in
+    rw (c .step-of2 .ensures)
+    (tested _ _ _ _ _ _ _
+    (suffix-good _ _ _ _ _ _ _ _ _ (copied g) (sym (o .name-ok .ensures) ∙ f .before .before .if4 .taken) (c .before .before .if5 .taken ∙ f .length-field .ensures) (c .before .if6 .taken))
+    _)
 
 same-length-3 : tie.Need-same-length-3
 same-length-3 c = search needs
 
 returns-5 : tie.Need-returns-5
 returns-5 c =
-    let f = c .before in
+    let f = c .before .before in
     let o = f .before .before .before in
-    let g = o .before .before .before .before in
-    suffix-field _ _ _ _ _ _ _ _ _ (copied g) (sym (o .name-ok .ensures) ∙ f .before .before .if3 .taken) (λ q. c .if4 .left (q ∙ sym (f .length-field .ensures)))
+    let g = o .before .before .before .before .before in
+    tested _ _ _ _ _ _ _
+    (suffix-order _ _ _ _ _ _ _ _ _ (copied g) (sym (o .name-ok .ensures) ∙ f .before .before .if4 .taken) (c .before .if5 .taken ∙ f .length-field .ensures) (c .if6 .left))
+    _
 
 same-length-4 : tie.Need-same-length-4
 same-length-4 c = search needs
 
 returns-6 : tie.Need-returns-6
 returns-6 c =
+    let f = c .before in
+    let o = f .before .before .before in
+    let g = o .before .before .before .before .before in
+    tested _ _ _ _ _ _ _
+    (suffix-field _ _ _ _ _ _ _ _ _ (copied g) (sym (o .name-ok .ensures) ∙ f .before .before .if4 .taken) (λ q. c .if5 .left (q ∙ sym (f .length-field .ensures))))
+    _
+
+same-length-5 : tie.Need-same-length-5
+same-length-5 c = search needs
+
+returns-7 : tie.Need-returns-7
+returns-7 c =
     let o = c .before in
-    let g = o .before .before .before .before in
-    suffix-name _ _ _ _ _ _ _ _ _ (copied g) (sym (o .name-ok .ensures) ∙ c .if3 .left)
+    let g = o .before .before .before .before .before in
+    tested _ _ _ _ _ _ _ (suffix-name _ _ _ _ _ _ _ _ _ (copied g) (sym (o .name-ok .ensures) ∙ c .if4 .left)) _
 
 pub suffix-spec : {M : Type 1} → statement M
 suffix-spec =
@@ -132,16 +155,21 @@ suffix-spec =
     part-rebuild-start
     part-rebuild-end
     rebuild-requires
+    add-step-of
+    step-of-requires
+    same-length
+    returns-3
     slice-reshare-prefix-name-ok
     slice-aggregate-name-ok
     name-ok-requires
     length-field-requires
-    add-t28
-    same-length
-    returns-3
+    add-step-of-2
+    step-of-requires-2
     same-length-2
     returns-4
     same-length-3
     returns-5
     same-length-4
-    returns-6)
+    returns-6
+    same-length-5
+    returns-7)

@@ -15,8 +15,8 @@ returns c = record {
   after = step-end _ _ _ _ _ _ refl (c .if1 .taken);
 }
 
-next-entry-requires : tie.Need-next-entry-requires
-next-entry-requires c κs = search needs
+pass-entry-requires : tie.Need-pass-entry-requires
+pass-entry-requires c κs = search needs
 
 enum-told : tie.Need-enum-told
 enum-told c = search needs
@@ -33,7 +33,7 @@ same-length c = search needs
 returns-2 : tie.Need-returns-2
 returns-2 c =
     let e = c .before .before .before .before in
-    let t = rw (c .enum-told .given .1) at (e .next-entry .ensures) in
+    let t = rw (c .enum-told .given .1) at (e .pass-entry .ensures) in
     record {
       fits = fits-end _ _ (e .before .before .before .before .before .before .before .pre .0);
       fewer = omega arith;
@@ -49,7 +49,7 @@ returns-3 : tie.Need-returns-3
 returns-3 c =
     let g = c .before .before .before in
     let e = g .before .before .before .before in
-    let t = rw (g .g .given .1) at (e .next-entry .ensures) in
+    let t = rw (g .g .given .1) at (e .pass-entry .ensures) in
     record {
       fits = step-fits _ _ _ (e .before .before .before .before .before .before .before .args .s) _ (e .before .before .if1 .left) _ t (e .before .before .before .before .before .before .before .pre .0);
       fewer = omega arith;
@@ -63,7 +63,7 @@ advance-spec =
     tie.close
     (tie.spec
     returns
-    next-entry-requires
+    pass-entry-requires
     enum-told
     enum-known-g
     sub-t13
