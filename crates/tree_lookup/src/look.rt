@@ -58,6 +58,17 @@ fn are_few(d: &[u8], at: usize, k: u32, t: &Table) -> bool
     !is_long(d, at, k, 1048576)
 }
 
+// How many names ahead are looked at for k siblings, at least so many: two for each, since a pass over them follows.
+fn steps_for(k: u32, least: u32) -> u32 {
+    if 8192 < k {
+        return 16384;
+    }
+    if k * 2 < least {
+        return least;
+    }
+    k * 2
+}
+
 // The keys of a table are those of all of k siblings at a place, where they are few, else those of the names ahead.
 fn want_keys(
     d: &[u8],
@@ -79,7 +90,8 @@ fn want_keys(
         want_siblings(d, at, k, t);
         return;
     }
-    gather(b, v, work, q, s, steps, t);
+    let n = steps_for(k, steps);
+    gather(b, v, work, q, s, n, t);
 }
 
 // The one of k siblings at a place that has this name, by a table that is made for it.
