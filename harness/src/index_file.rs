@@ -211,8 +211,8 @@ fn full_tree(data: &mut Vec<u8>, name: &[u8], names: &[&[u8]], order: Order) {
     }
 }
 
-/// The subdirectories in rising names, each with the names below it.
-fn subdirectories<'a>(names: &[&'a [u8]]) -> Vec<(&'a [u8], Vec<&'a [u8]>)> {
+/// The subdirectories in rising names, each with the names below it, without its path.
+pub fn subdirectories<'a>(names: &[&'a [u8]]) -> Vec<(&'a [u8], Vec<&'a [u8]>)> {
     let mut found: Vec<(&[u8], Vec<&[u8]>)> = Vec::new();
     for name in names {
         let Some(slash) = name.iter().position(|&byte| byte == b'/') else {

@@ -1,6 +1,7 @@
 //! Records of a sound file, drawn by chance, with what their spelling leaves open.
 
 use super::names;
+use crate::index_file::subdirectories;
 use crate::random::Random;
 use std::collections::BTreeSet;
 
@@ -180,22 +181,6 @@ fn node(random: &mut Random, name: &[u8], count: i64, subtrees: usize) -> Node {
         subtrees,
         object: random.array(),
     }
-}
-
-/// The subdirectories that the names show, each with the names in it, without its path.
-fn subdirectories<'a>(names: &[&'a [u8]]) -> Vec<(&'a [u8], Vec<&'a [u8]>)> {
-    let mut found: Vec<(&[u8], Vec<&[u8]>)> = Vec::new();
-    for name in names {
-        let Some(slash) = name.iter().position(|&byte| byte == b'/') else {
-            continue;
-        };
-        let (component, rest) = (&name[..slash], &name[slash + 1..]);
-        match found.last_mut() {
-            Some((last, names)) if *last == component => names.push(rest),
-            _ => found.push((component, vec![rest])),
-        }
-    }
-    found
 }
 
 /// Adds nodes of directories that no entry is in.
