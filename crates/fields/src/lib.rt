@@ -5,6 +5,7 @@ ghost use Prim.Native.Nat.{_+_, _-_, _≤_, _<_};
 ghost use lib.ListN.{length, take, drop, replicate};
 ghost use Rattle.format.specs.Bytes.{be16, be32, eqList, before, zeros};
 ghost use Rattle.format.specs.Names as Names;
+ghost use Rattle.fields.specs.Begun.{Begun};
 use format::Order;
 
 // The most bytes that a name has.
@@ -183,6 +184,14 @@ pub fn name_ok(s: &[u8]) -> bool
         }
     }
     false
+}
+
+// Whether s is a name, where its first kept bytes begin one that is.
+pub fn name_ok_after(s: &[u8], kept: usize) -> bool
+    requires { ⌜ (kept ≤ length (now s)) × Begun (take kept (now s)) ⌝ }
+    ensures { λ r. ⌜ r ≡ Names.okName (now (s .entry)) ⌝ }
+{
+    name_ok(s)
 }
 
 // The length field of a name of n bytes.
