@@ -6,7 +6,7 @@ use Prim.Native.Nat.{ℕ, zero, suc, _+_, _-_, _*_, _≤_, _<_}
 use native.Mathlib.Nat.{add-zero, add-sub-cancel-left}
 use native.Mathlib.Omega.{arith}
 use lib.ListN.{length, take, drop, getD, length-drop}
-use lib.Seq.{getD-drop, length-take-le}
+use lib.Seq.{getD-drop, length-take-le, take-take}
 use lib.Dec.{eqb, leb, ltb}
 use borrow.Author.Tests.{eq-eqb, ne-eqb, lt-ltb, le-ltb, le-leb, lt-leb, ltb-true, leb-true}
 use Rattle.format.specs.Bytes.{two, zeros}
@@ -18,6 +18,7 @@ use Rattle.format_laws.proofs.Tests.{and-inv}
 use Rattle.format_laws.proofs.Readings.{good-inv, need-inv}
 use Rattle.format_laws.proofs.Lists.{part-inside}
 use Rattle.format_laws.proofs.Names.{okName-length}
+use Rattle.fields.specs.Begun.{Begun}
 use Rattle.entries.specs.declared.Text.{Text}
 use Rattle.entries.specs.declared.Text.the-variants as T
 use Rattle.entries.specs.declared.Number.{Number}
@@ -166,6 +167,14 @@ pub named-short : (b : List ℕ) (at field n : ℕ) → Named b at field n → n
 named-short b at field n q =
     let l : at + n - at ≤ length (drop at b) = rw length-drop (omega (arith, q .here .long)) in
     omega (arith, okName-length _ (q .name) .1, length-take-le (at + n - at) (drop at b) l)
+
+-- what is known of its beginning, of the name by itself
+pub part-begun : (b : List ℕ) (at n kept : ℕ) → n < length b - at → kept ≤ n → Begun (take kept (drop at b))
+    → (kept ≤ length (take (at + n - at) (drop at b))) × Begun (take kept (take (at + n - at) (drop at b)))
+part-begun b at n kept h fits begun =
+    let l : at + n - at ≤ length (drop at b) = rw length-drop (omega arith) in
+    let k : kept ≤ at + n - at = omega arith in
+    (rw (length-take-le (at + n - at) (drop at b) l) k, rw (take-take kept (at + n - at) (drop at b) k) begun)
 
 -- what the code answers there
 module _ (b : List ℕ) (at f field p n : ℕ) where

@@ -63,6 +63,11 @@ abbrev pub textTaken : Text → ℕ
 textTaken (T.Bad n) = 0
 textTaken (T.Good n m) = m
 
+-- a name that was read has n bytes
+abbrev pub HasLength : ℕ → Text → Type 0
+HasLength n (T.Bad k) = Unit {0}
+HasLength n (T.Good k m) = k ≡ n
+
 -- at a place of the body b, where readPlain reads a name, the same without its tests
 pub record NamePassed (b : List ℕ) (at f field : ℕ) (r : Text) : Type 0 where
   pub same : (p n m : ℕ) → textOf (readPlain f p field (drop at b)) ≡ T.Good n m → r ≡ T.Good n m

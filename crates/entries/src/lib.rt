@@ -1,10 +1,11 @@
 // The entries of a body, read.
 ghost use mathlib.Core.Path.{_≡_};
-ghost use Prim.Native.Nat.{ℕ, _+_, _<_, _≤_};
-ghost use lib.ListN.{length, drop, getD};
+ghost use Prim.Native.Nat.{ℕ, _+_, _-_, _<_, _≤_};
+ghost use lib.ListN.{length, take, drop, getD};
 ghost use Rattle.format.specs.Layout.{okMode, entryLength};
 ghost use Rattle.format.specs.Reader.{okWord, plainLength, readPlain, readN};
-ghost use Rattle.entries.specs.Answers.{readHead, fixedOf, headLength, HeadPassed, textOf, textLength, textTaken, NamePassed, numberOf, numberValue, numberTaken};
+ghost use Rattle.fields.specs.Begun.{Begun};
+ghost use Rattle.entries.specs.Answers.{readHead, fixedOf, headLength, HeadPassed, textOf, textLength, textTaken, HasLength, NamePassed, numberOf, numberValue, numberTaken};
 
 // The bytes before the name: how many, the flags, and the extended word or 0.
 pub struct Head {
@@ -158,7 +159,7 @@ pub fn read_n(b: &[u8], at: usize, most: usize) -> Number
 }
 
 // The length of the name at a place, as the length field says it.
-fn plain_length(b: &[u8], at: usize, field: u32) -> usize
+pub fn plain_length(b: &[u8], at: usize, field: u32) -> usize
     requires { ⌜ at ≤ length (now b) ⌝ }
     ensures { λ r. ⌜ (r ≡ plainLength field (drop at (now (b .entry)))) × (r < length (now (b .entry)) + 4095) ⌝ }
 {
@@ -176,17 +177,14 @@ pub fn entry_length(f: usize, n: usize) -> usize
     8 * ((f + n) / 8) + 8
 }
 
-// The name of versions 2 and 3 at a place, with the NULs after it; f bytes of its entry stand before it.
-pub fn read_plain(b: &[u8], at: usize, f: usize, field: u32) -> Text
-    requires { ⌜ (at ≤ length (now b)) × (f ≤ 64) ⌝ }
-    ensures { λ r. ⌜ ((p : ℕ) → r ≡ textOf (readPlain f p field (drop at (now (b .entry))))) × (textLength r ≤ textTaken r) × (at + textTaken r ≤ length (now (b .entry))) ⌝ }
+// The name of versions 2 and 3 at a place, which has n bytes by its length field, with the NULs after it; f bytes of its entry stand before it. Its
+// first kept bytes begin a sound name.
+pub fn read_named(b: &[u8], at: usize, n: usize, f: usize, field: u32, kept: usize) -> Text
+    requires { ⌜ (at ≤ length (now b)) × (n < length (now b) - at) × (n ≡ plainLength field (drop at (now b))) × (f ≤ 64) × (kept ≤ n) × Begun (take kept (drop at (now b))) ⌝ }
+    ensures { λ r. ⌜ ((p : ℕ) → r ≡ textOf (readPlain f p field (drop at (now (b .entry))))) × (textLength r ≤ textTaken r) × (at + textTaken r ≤ length (now (b .entry))) × HasLength n r ⌝ }
 {
-    let n = plain_length(b, at, field);
-    if b.len() - at <= n {
-        return Text::Bad(6);
-    }
     let e = at + n;
-    if fields::name_ok(&b[at..e]) {
+    if fields::name_ok_after(&b[at..e], kept) {
         if field == fields::length_field(n) {
             let m = entry_length(f, n) - f;
             if b.len() - at < m {
@@ -200,6 +198,18 @@ pub fn read_plain(b: &[u8], at: usize, f: usize, field: u32) -> Text
         return Text::Bad(9);
     }
     Text::Bad(9)
+}
+
+// The same of a name of which nothing is known.
+pub fn read_plain(b: &[u8], at: usize, f: usize, field: u32) -> Text
+    requires { ⌜ (at ≤ length (now b)) × (f ≤ 64) ⌝ }
+    ensures { λ r. ⌜ ((p : ℕ) → r ≡ textOf (readPlain f p field (drop at (now (b .entry))))) × (textLength r ≤ textTaken r) × (at + textTaken r ≤ length (now (b .entry))) ⌝ }
+{
+    let n = plain_length(b, at, field);
+    if b.len() - at <= n {
+        return Text::Bad(6);
+    }
+    read_named(b, at, n, f, field, 0)
 }
 
 // The same where it was read before: nothing is tested but that it is there and within the limit.
