@@ -2,19 +2,20 @@
 use mathlib.Core.Path.{_≡_, refl, sym, ap, _∙_}
 use mathlib.Core.List.{List, [], _∷_, _++_, append-assoc}
 use mathlib.Core.Bool.{Bool, true, false, _&&_, and-true}
-use Prim.Native.Nat.{ℕ, suc, _+_, _-_, _≤_, _<_}
-use native.Mathlib.Nat.{sub-self}
-use native.Mathlib.Numerals.{add-one}
+use Prim.Native.Nat.{ℕ, zero, suc, _+_, _-_, _*_, _≤_, _<_}
+use native.Mathlib.Nat.{sub-self, add-assoc}
+use native.Mathlib.Numerals.{add-one, unary-clauses}
 use native.Mathlib.Omega.{arith}
 use lib.ListN.{length, getD, take, drop, set, replicate, drop-of-length-le, length-replicate, getD-replicate}
 use lib.Seq.{drop-cons, take-all, take-length, paste, paste-zero, paste-suc}
 use lib.Dec.{leb, ltb}
 use borrow.Author.Tests.{eq-eqb, ne-eqb, leb-true, leb-false, ltb-true, ltb-false, le-leb, lt-ltb, le-ltb}
 use Rattle.format.specs.declared.Order.the-variants.{Below, Same, Above}
-use Rattle.format.specs.Bytes.{eqList, before, lacks, zeros}
+use Rattle.format.specs.Bytes.{Bytes, eqList, before, lacks, zeros}
 use Rattle.format.specs.Names.{componentsFrom, components, okComponent, okComponents, okName, compare, common}
 use Rattle.format_laws.proofs.Tests.{by-test, and-left-comm}
 use Rattle.format_laws.proofs.Lists.{eqList-true, part-cons}
+use Rattle.fields.specs.Words.{little}
 
 -- ---- components
 
@@ -138,6 +139,29 @@ module _ (s t : List ℕ) (i : ℕ) where
 
   pub eqList-tail : length s ≤ i → leb (length t) i ≡ eqList (drop i s) (drop i t)
   eqList-tail h = eqList-by (leb (length t) i) refl h
+
+-- ---- numbers of several bytes
+
+-- four bytes, and the number of those after them
+pub little-four : (n : ℕ) (s : List ℕ) (a : ℕ)
+    → little (suc (suc (suc (suc n)))) s a ≡ getD s a 0 + 256 * getD s (a + 1) 0 + 65536 * getD s (a + 2) 0 + 16777216 * getD s (a + 3) 0 + 4294967296 * little n s (a + 4)
+unfolding little
+little-four n s a = simp add-assoc (omega arith)
+
+-- a number shows its low byte and what stands above it
+low-byte : (a b x y : ℕ) → a < 256 → b < 256 → a + 256 * x ≡ b + 256 * y → (a ≡ b) × (x ≡ y)
+low-byte a b x y h l e = (omega arith, omega arith)
+
+-- n bytes that make the same number are the same
+pub common-many : (n : ℕ) (s t : List ℕ) (i : ℕ) → Bytes s → Bytes t → i + n ≤ length s → i + n ≤ length t → little n s i ≡ little n t i
+    → common (drop i s) (drop i t) ≡ n + common (drop (i + n) s) (drop (i + n) t)
+unfolding little
+common-many zero s t i p q h l e = simp unary-clauses (omega arith)
+common-many (suc n) s t i p q h l e =
+    let (low, high) = low-byte (getD s i 0) (getD t i 0) _ _ (p i) (q i) e in
+    let at : i + 1 + n ≡ i + suc n = omega arith in
+    let more : common (drop (i + 1) s) (drop (i + 1) t) ≡ n + common (drop (i + 1 + n) s) (drop (i + 1 + n) t) = common-many n s t (i + 1) p q (omega arith) (omega arith) high in
+    omega (arith, common-step s t i (omega arith) (omega arith) low, rw at at more)
 
 -- ---- the workspace
 
