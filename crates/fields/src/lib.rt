@@ -227,12 +227,37 @@ pub fn name_ok(s: &[u8]) -> bool
     false
 }
 
+// Where the look at a name begins whose first kept bytes begin a sound one: after the last "/" among the last five of these, else at the first
+// of the five. A component of which five bytes are there is a good one, whatever follows.
+fn look_from(s: &[u8], kept: usize) -> usize
+    requires { ⌜ (kept ≤ length (now s)) × (length (now s) ≤ 8192) × Begun (take kept (now s)) ⌝ }
+    ensures { λ r. ⌜ (r ≤ kept) × (Names.okName (drop r (now (s .entry))) ≡ Names.okName (now (s .entry))) ⌝ }
+{
+    let mut i = kept;
+    let mut left: u32 = 5;
+    while 0 < left {
+        if i == 0 {
+            return 0;
+        }
+        if s[i - 1] == 47 {
+            return i;
+        }
+        i -= 1;
+        left -= 1;
+    }
+    i
+}
+
 // Whether s is a name, where its first kept bytes begin one that is.
 pub fn name_ok_after(s: &[u8], kept: usize) -> bool
     requires { ⌜ (kept ≤ length (now s)) × Begun (take kept (now s)) ⌝ }
     ensures { λ r. ⌜ r ≡ Names.okName (now (s .entry)) ⌝ }
 {
-    name_ok(s)
+    if s.len() <= LONGEST {
+        let from = look_from(s, kept);
+        return name_ok(&s[from..]);
+    }
+    false
 }
 
 // The length field of a name of n bytes.
