@@ -1,2 +1,3 @@
 -- What the crate's contracts cite.
 pub mod Begun
+pub mod Words

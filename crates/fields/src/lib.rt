@@ -6,6 +6,7 @@ ghost use lib.ListN.{length, take, drop, replicate};
 ghost use Rattle.format.specs.Bytes.{be16, be32, eqList, before, zeros};
 ghost use Rattle.format.specs.Names as Names;
 ghost use Rattle.fields.specs.Begun.{Begun};
+ghost use Rattle.fields.specs.Words.{little};
 use format::Order;
 
 // The most bytes that a name has.
@@ -75,12 +76,52 @@ fn least(a: usize, b: usize) -> usize
     b
 }
 
-// How many bytes two texts have in common at their beginning.
+fn wide64(x: u8) -> u64
+    ensures { λ r. ⌜ (r ≡ x) × (r < 256) ⌝ }
+{
+    x as u64
+}
+
+// Four bytes at a place as one number, the low byte first.
+fn half(s: &[u8], at: usize) -> u64
+    requires { ⌜ at + 4 ≤ length (now s) ⌝ }
+    ensures { λ r. ⌜ (r ≡ little 4 (now (s .entry)) at) × (r < 4294967296) ⌝ }
+{
+    wide64(s[at])
+        + wide64(s[at + 1]) * 256
+        + wide64(s[at + 2]) * 65536
+        + wide64(s[at + 3]) * 16777216
+}
+
+// Eight bytes at a place as one number, the low byte first.
+fn word(s: &[u8], at: usize) -> u64
+    requires { ⌜ at + 8 ≤ length (now s) ⌝ }
+    ensures { λ r. ⌜ r ≡ little 8 (now (s .entry)) at ⌝ }
+{
+    half(s, at) + half(s, at + 4) * 4294967296
+}
+
+// How many bytes two texts of at least n bytes have in common at their beginning, as far as whole words of eight tell.
+fn common_words(s: &[u8], t: &[u8], n: usize) -> usize
+    requires { ⌜ (n ≤ length (now s)) × (n ≤ length (now t)) ⌝ }
+    ensures { λ r. ⌜ (r ≤ n) × (Names.common (now (s .entry)) (now (t .entry)) ≡ r + Names.common (drop r (now (s .entry))) (drop r (now (t .entry)))) ⌝ }
+{
+    let mut i = 0;
+    while 8 <= n - i {
+        if word(s, i) != word(t, i) {
+            return i;
+        }
+        i += 8;
+    }
+    i
+}
+
+// How many bytes two texts have in common at their beginning: by words, then by bytes.
 pub fn common(s: &[u8], t: &[u8]) -> usize
     ensures { λ r. ⌜ (r ≡ Names.common (now (s .entry)) (now (t .entry))) × (r ≤ length (now (s .entry))) × (r ≤ length (now (t .entry))) ⌝ }
 {
     let n = least(s.len(), t.len());
-    let mut i = 0;
+    let mut i = common_words(s, t, n);
     while i < n {
         if s[i] != t[i] {
             return i;
@@ -186,12 +227,37 @@ pub fn name_ok(s: &[u8]) -> bool
     false
 }
 
+// Where the look at a name begins whose first kept bytes begin a sound one: after the last "/" among the last five of these, else at the first
+// of the five. A component of which five bytes are there is a good one, whatever follows.
+fn look_from(s: &[u8], kept: usize) -> usize
+    requires { ⌜ (kept ≤ length (now s)) × (length (now s) ≤ 8192) × Begun (take kept (now s)) ⌝ }
+    ensures { λ r. ⌜ (r ≤ kept) × (Names.okName (drop r (now (s .entry))) ≡ Names.okName (now (s .entry))) ⌝ }
+{
+    let mut i = kept;
+    let mut left: u32 = 5;
+    while 0 < left {
+        if i == 0 {
+            return 0;
+        }
+        if s[i - 1] == 47 {
+            return i;
+        }
+        i -= 1;
+        left -= 1;
+    }
+    i
+}
+
 // Whether s is a name, where its first kept bytes begin one that is.
 pub fn name_ok_after(s: &[u8], kept: usize) -> bool
     requires { ⌜ (kept ≤ length (now s)) × Begun (take kept (now s)) ⌝ }
     ensures { λ r. ⌜ r ≡ Names.okName (now (s .entry)) ⌝ }
 {
-    name_ok(s)
+    if s.len() <= LONGEST {
+        let from = look_from(s, kept);
+        return name_ok(&s[from..]);
+    }
+    false
 }
 
 // The length field of a name of n bytes.
