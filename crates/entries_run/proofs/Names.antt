@@ -1,6 +1,7 @@
 -- Laws of a name at its place, of two names after each other, and of the name that version 4 rebuilds in the workspace.
 use mathlib.Core.Path.{_≡_, refl, sym, ap, _∙_}
 use mathlib.Core.List.{List, _++_}
+use mathlib.Core.Bool.{false}
 use Prim.Native.Nat.{ℕ, _+_, _-_, _≤_}
 use native.Mathlib.Nat.{add-sub-cancel-left}
 use native.Mathlib.Omega.{arith}
@@ -44,6 +45,10 @@ module _ (v : ℕ) (b work : List ℕ) (start len : ℕ) where
   pub nameAt-body : (v ≡ 4 → ⊥) → take (start + len - start) (drop start b) ≡ nameAt v b work start len
   unfolding nameAt
   nameAt-body e = rw (ne-eqb v 4 e, add-sub-cancel-left) refl
+
+  pub nameAt-plain : eqb v 4 ≡ false → nameAt v b work start len ≡ take len (drop start b)
+  unfolding nameAt
+  nameAt-plain e = rw e
 
 -- ---- two names
 

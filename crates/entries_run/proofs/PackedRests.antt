@@ -1,7 +1,7 @@
 -- What the code answers for the rest of an entry of version 4.
 use mathlib.Core.Path.{_≡_, refl, sym, ap, _∙_}
 use mathlib.Core.List.{List, _++_, append-assoc}
-use mathlib.Core.Bool.{true, false, _&&_}
+use mathlib.Core.Bool.{Bool, true, false, cond, _&&_}
 use Prim.Native.Nat.{ℕ, _+_, _-_, _/_, _%_, _≤_, _<_}
 use native.Mathlib.Omega.{arith}
 use lib.ListN.{length, take, drop, length-append, length-drop}
@@ -15,6 +15,8 @@ use Rattle.format.specs.Reader.{readN, joined, readSuffix, readPacked, readName
 use Rattle.format_laws.proofs.Tests.{false-true, and-inv}
 use Rattle.format_laws.proofs.Names.{okName-over, common-le}
 use Rattle.format_laws.proofs.Readings.{good-inv, need-inv, shift-need}
+use Rattle.fields.specs.Begun.{Begun}
+use Rattle.fields.proofs.Beginnings.{begun-take, begun-kept}
 use Rattle.entries.specs.declared.Head.{Head}
 use Rattle.entries.specs.declared.Number.the-variants as M
 use Rattle.entries.specs.Answers.{numberOf}
@@ -22,7 +24,7 @@ use Rattle.entries.proofs.Names.{readN-bad, readN-good}
 use Rattle.entries_run.specs.declared.Cursor.{Cursor}
 use Rattle.entries_run.specs.declared.Next.the-variants as N
 use Rattle.entries_run.specs.declared.Standing.{Standing}
-use Rattle.entries_run.specs.Steps.{nameAt, Headed, Numbered, Rebuilt, stepOf, Answered, Tested, readRest}
+use Rattle.entries_run.specs.Steps.{nameAt, Sound, Headed, Numbered, Rebuilt, stepOf, Answered, Tested, readRest}
 use Rattle.entries_run.proofs.Rests.{answered-bad, answered-good, repeated-good, nameRead, rest-bad, rest-order, rest-good, rest-inv}
 
 module _ (b w : List ℕ) (c : Cursor) (h : Head) (room : c .len ≤ length w) where
@@ -143,6 +145,16 @@ module _ (b w : List ℕ) (c : Cursor) (h : Head) (n took z : ℕ) (w′ : List 
       rw held
       (ap (λ (k : ℕ). drop k (s ++ drop (length s) w)) e ∙ drop-append-add s (drop (length s) w) (8192 - length s) ∙ drop-drop (8192 - length s) (length s) w
       ∙ ap (λ (k : ℕ). drop k w) (sym e))
+
+  -- what is kept of a sound name begins a sound one
+  pub kept-begun : (known : Bool) → Sound known (take (c .len) w)
+      → (cond known (c .len - n) 0 ≤ length (take (newLength c h n took z) w′)) × Begun (take (cond known (c .len - n) 0) (take (newLength c h n took z) w′))
+  unfolding nameAt
+  kept-begun known sound =
+      let size : length (take (c .len - n) w) ≡ c .len - n = length-take-le (c .len - n) w (omega arith) in
+      let same : take (c .len - n) (take (newLength c h n took z) w′) ≡ take (c .len - n) (take (c .len) w) =
+      ap (take (c .len - n)) shown ∙ take-at (take (c .len - n) w) _ _ size ∙ sym (take-take (c .len - n) (c .len) w (omega arith)) in
+      begun-kept known _ _ (omega (arith, ap length shown, long-new)) (λ e. rw same (begun-take (c .len - n) (take (c .len) w) (sound e)))
 
   refused : (m : ℕ) → ((p : ℕ) → readRest 4 b w c h p ≡ bad m p) → Answered (readRest 4 b w c h) 4 b w c w′ (N.Bad m)
   refused m e = answered-bad _ 4 b w c w′ long past (λ v. false-true (sym v)) m e

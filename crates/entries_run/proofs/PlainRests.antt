@@ -1,11 +1,11 @@
 -- What the code answers for the rest of an entry of version 2 or 3.
 use mathlib.Core.Path.{_≡_, refl, sym, ap, _∙_}
 use mathlib.Core.List.{List}
-use mathlib.Core.Bool.{true, false}
-use Prim.Native.Nat.{ℕ, _+_, _-_, _/_, _%_, _≤_}
+use mathlib.Core.Bool.{Bool, true, false, cond}
+use Prim.Native.Nat.{ℕ, _+_, _-_, _/_, _%_, _≤_, _<_}
 use native.Mathlib.Omega.{arith}
 use lib.ListN.{length, take, drop, length-take, length-drop}
-use lib.Seq.{length-take-le}
+use lib.Seq.{length-take-le, take-take}
 use lib.Dec.{eqb}
 use Rattle.format.specs.Names.{compare, common, rises}
 use Rattle.format.specs.Records.{Entry}
@@ -14,6 +14,8 @@ use Rattle.format.specs.Reader.{readPlain, readName}
 use Rattle.format_laws.proofs.Names.{okName-length, common-le}
 use Rattle.format_laws.proofs.Readings.{good-inv}
 use Rattle.spelling_entries.proofs.Names.{name-read}
+use Rattle.fields.specs.Begun.{Begun}
+use Rattle.fields.proofs.Beginnings.{begun-common, begun-kept}
 use Rattle.entries.specs.declared.Head.{Head}
 use Rattle.entries.specs.declared.Text.the-variants as T
 use Rattle.entries.specs.Answers.{textOf, NamePassed}
@@ -21,8 +23,22 @@ use Rattle.entries.proofs.Names.{readPlain-bad, readPlain-good, plain-place, ba
 use Rattle.entries_run.specs.declared.Cursor.{Cursor}
 use Rattle.entries_run.specs.declared.Next.the-variants as N
 use Rattle.entries_run.specs.declared.Standing.{Standing}
-use Rattle.entries_run.specs.Steps.{nameAt, Headed, Stands, stepOf, Answered, Repeated, readRest}
+use Rattle.entries_run.specs.Steps.{nameAt, Sound, Headed, Stands, stepOf, Answered, Repeated, readRest}
+use Rattle.entries_run.proofs.Names.{nameAt-plain}
 use Rattle.entries_run.proofs.Rests.{answered-bad, answered-good, repeated-good, bad-next, nameRead, rest-bad, rest-order, rest-good, rest-inv}
+
+-- what the name of n bytes at a place has in common with the one before it, where that is sound, begins a sound one
+pub named-begun : (b : List ℕ) (a len at n : ℕ) (known : Bool) (i j : ℕ) (d : Standing) → n < length b - at
+    → Stands (take (a + len - a) (drop a b)) (take (at + n - at) (drop at b)) i j d → Sound known (take len (drop a b))
+    → (cond known (d .common) 0 ≤ n) × Begun (take (cond known (d .common) 0) (drop at b))
+named-begun b a len at n known i j d inside stands sound =
+    let before : a + len - a ≡ len = omega arith in
+    let name : at + n - at ≡ n = omega arith in
+    let is : d .common ≡ common (take len (drop a b)) (take n (drop at b)) = rw (before, name) at (stands .common) in
+    let size : length (take n (drop at b)) ≡ n = length-take-le n (drop at b) (rw (length-drop at b) (omega arith)) in
+    let (fits, begun) = begun-kept known (d .common) (take n (drop at b)) (rw is (common-le _ _ .1)) (λ e. rw is (begun-common _ _ (sound e))) in
+    let within : cond known (d .common) 0 ≤ n = omega (arith, fits, size) in
+    (within, rw (take-take (cond known (d .common) 0) n (drop at b) within) at begun)
 
 -- the name of n bytes, m with the NULs after it, is read, and compared with the one before
 pub record Compared (b : List ℕ) (c : Cursor) (h : Head) (n m : ℕ) (d : Standing) : Type 0 where
@@ -39,10 +55,6 @@ pub record Compared (b : List ℕ) (c : Cursor) (h : Head) (n m : ℕ) (d : Stan
       d
 
 module _ (v : ℕ) (b w : List ℕ) (old : eqb v 4 ≡ false) where
-  nameAt-body : (a n : ℕ) → nameAt v b w a n ≡ take n (drop a b)
-  unfolding nameAt
-  nameAt-body a n = rw old
-
   name-plain : (f p field : ℕ) (previous s : List ℕ) → readName v f p previous field s ≡ readPlain f p field s
   unfolding readName
   name-plain f p field previous s = rw old
@@ -55,7 +67,7 @@ module _ (v : ℕ) (b w : List ℕ) (old : eqb v 4 ≡ false) where
         rest-bad v b w c h p n (name-plain _ p _ _ _ ∙ readPlain-bad _ p _ _ n (sym (e p)))
 
     before-is : take (c .start + c .len - c .start) (drop (c .start) b) ≡ nameAt v b w (c .start) (c .len)
-    before-is = let e : c .start + c .len - c .start ≡ c .len = omega arith in rw e (sym (nameAt-body (c .start) (c .len)))
+    before-is = let e : c .start + c .len - c .start ≡ c .len = omega arith in rw e (sym (nameAt-plain v b w (c .start) (c .len) old))
 
     after-is : (n : ℕ) → take (c .at + h .length + n - (c .at + h .length)) (drop (c .at + h .length) b) ≡ take n (drop (c .at + h .length) b)
     after-is n = let e : c .at + h .length + n - (c .at + h .length) ≡ n = omega arith in rw e
@@ -83,14 +95,14 @@ module _ (v : ℕ) (b w : List ℕ) (old : eqb v 4 ≡ false) where
           let q : Headed b c h = r .headed in
           let taken : h .length + (m + 0) ≡ c .at + h .length + m - c .at = omega arith in
           answered-good _ v b w c w refl refl (λ u. refl) _
-          (λ p. rest-good v b w c h p _ m (named p) (sym order-is ∙ e) ∙ rw (nameAt-body (c .at + h .length) n, taken))
+          (λ p. rest-good v b w c h p _ m (named p) (sym order-is ∙ e) ∙ rw (nameAt-plain v b w (c .at + h .length) n old, taken))
           (record {
             next = record { small = q .cursor .small; inside = r .more; behind = omega arith; short = sized .1 };
             head = q .is;
             least = q .least;
             ahead = omega (arith, sized .0);
             stage = refl;
-            common = r .stands .common ∙ rw (before-is, after-is n, nameAt-body (c .at + h .length) n);
+            common = r .stands .common ∙ rw (before-is, after-is n, nameAt-plain v b w (c .at + h .length) n old);
           })
 
     -- of an entry that was read before

@@ -11,6 +11,7 @@ use Rattle.format.specs.Names.{compare, rises}
 use Rattle.format.specs.Records.{Entry}
 use Rattle.format.specs.Reading.{Read, bad, good, need, shift, bind}
 use Rattle.format.specs.Reader.{readName, entryOf, readTail}
+use Rattle.format_laws.proofs.Tests.{false-true}
 use Rattle.format_laws.proofs.Names.{common-le}
 use Rattle.format_laws.proofs.Readings.{need-inv, shift-inv, bind-inv}
 use Rattle.entries.specs.declared.Head.{Head}
@@ -28,11 +29,6 @@ use Rattle.entries_run.proofs.Names.{nameAt-short}
 
 pub headed-as : (b : List ℕ) (c : Cursor) (h : Head) → Inside b c → Size h → c .at + h .length ≤ length b → Headed b c h
 headed-as b c h inside size there = record { cursor = inside; is = size .is; least = size .least; most = size .most; there = there }
-
-pub headed : (b : List ℕ) (c : Cursor) (v : ℕ) (h : Head) → Inside b c → ((p : ℕ) → F.Good h ≡ fixedOf (readHead 20 v p (drop (c .at) b)))
-    → c .at + h .length ≤ length b → Headed b c h
-headed b c v h inside e there =
-    headed-as b c h inside (head-size v 0 (drop (c .at) b) h (sym (e 0))) there
 
 -- ---- what answers say
 
@@ -91,6 +87,12 @@ module _ (read : ℕ → Read Entry) (v : ℕ) (b w : List ℕ) (c : Cursor) (w�
 
   pub tested : (again : Bool) → Tested again read v b w c w′ r
   tested again = record { first = λ e. t; later = repeated }
+
+-- by whether it was read before
+pub tested-by : (again : Bool) (read : ℕ → Read Entry) (v : ℕ) (b w : List ℕ) (c : Cursor) (w′ : List ℕ) (r : Next)
+    → (again ≡ false → Answered read v b w c w′ r) → (again ≡ true → Repeated read v b w c w′ r) → Tested again read v b w c w′ r
+tested-by true read v b w c w′ r first later = record { first = λ e. false-true (sym e); later = later refl }
+tested-by false read v b w c w′ r first later = tested read v b w c w′ r (first refl) false
 
 -- of another reader that reads the same
 answered-as : (read other : ℕ → Read Entry) (v : ℕ) (b w : List ℕ) (c : Cursor) (w′ : List ℕ) (r : Next) → ((p : ℕ) → read p ≡ other p)

@@ -13,6 +13,9 @@ use Rattle.format.specs.Records.{Entry, Key, keyOf, start}
 use Rattle.format.specs.Reading.{Read, bad, good, bind}
 use Rattle.format.specs.Reader.{entryOf, readEntry, readEntries}
 use Rattle.format_laws.proofs.Readings.{bad-good, bind-inv, inFront, front-none, front-one, front-front, front-inv}
+use Rattle.spelling_entries.proofs.Entries.{entry-named}
+use Rattle.fields.specs.Begun.{Begun}
+use Rattle.fields.proofs.Beginnings.{begun-none, begun-name}
 use Rattle.entries_run.specs.declared.Cursor.{Cursor}
 use Rattle.entries_run.specs.declared.Step.{Step}
 use Rattle.entries_run.specs.declared.Next.{Next}
@@ -72,6 +75,15 @@ nameAt-none v b w false = refl
 pub run-first : (v n : ℕ) (b w : List ℕ) → runFrom v n b w firstCursor ≡ readEntries 20 v n start 12 (drop 12 b)
 unfolding nameAt
 run-first v n b w = ap (λ (s : List ℕ). readEntries 20 v n (record { name = s; stage = 0 }) 12 (drop 12 b)) (nameAt-none v b w (eqb v 4))
+
+-- before the first entry nothing is known to be unsound, and after one its name is sound
+pub begun-first : (v : ℕ) (b w : List ℕ) → Begun (nameAt v b w 0 0)
+unfolding nameAt
+begun-first v b w = rw (nameAt-none v b w (eqb v 4)) begun-none
+
+pub begun-next : (v : ℕ) (b w : List ℕ) (c : Cursor) (w′ : List ℕ) (st : Step) → Stepped v b w c w′ (N.Good st) → Begun (nameAt v b w′ (st .next .start) (st .next .len))
+unfolding entryOf
+begun-next v b w c w′ st t = begun-name _ (entry-named 20 v _ (c .at) _ _ _ (t .same (c .at)))
 
 pub run-none : (v : ℕ) (b w : List ℕ) (c : Cursor) → runFrom v 0 b w c ≡ good [] 0
 unfolding readEntries

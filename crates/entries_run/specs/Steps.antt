@@ -1,7 +1,7 @@
 -- Where names stand, and what a step over an entry leaves behind.
 use mathlib.Core.Path.{_≡_}
 use mathlib.Core.List.{List, _++_}
-use mathlib.Core.Bool.{Bool, false, cond}
+use mathlib.Core.Bool.{Bool, true, false, cond}
 use mathlib.Core.Option.{Option, none, some}
 use Prim.Native.Nat.{ℕ, _+_, _-_, _/_, _%_, _≤_, _<_}
 use lib.ListN.{length, take, drop, getElem?}
@@ -11,7 +11,11 @@ use Rattle.format.specs.Records.{Entry, Key, start}
 use Rattle.format.specs.Layout.{fixedLength}
 use Rattle.format.specs.Reading.{Read, bad, good, shift}
 use Rattle.format.specs.Reader.{isSet, readN, entryOf, readTail, readEntry, readEntries}
+use Rattle.fields.specs.Begun.{Begun}
 use Rattle.entries.specs.declared.Head.{Head}
+use Rattle.entries.specs.declared.Fixed.{Fixed}
+use Rattle.entries.specs.declared.Fixed.the-variants as F
+use Rattle.entries.specs.Answers.{readHead, fixedOf, headLength, Size, HeadPassed}
 use Rattle.entries_run.specs.declared.Cursor.{Cursor}
 use Rattle.entries_run.specs.declared.Step.{Step}
 use Rattle.entries_run.specs.declared.Next.{Next}
@@ -27,6 +31,14 @@ use Rattle.entries_run.specs.declared.Standing.{Standing}
 -- a name of len bytes: first in the workspace in version 4, at its start in the body b in versions 2 and 3
 unfoldable pub nameAt : ℕ → List ℕ → List ℕ → ℕ → ℕ → List ℕ
 nameAt v b work start len = cond (eqb v 4) (take len work) (take len (drop start b))
+
+-- a cursor by its parts
+abbrev pub cursorOf : ℕ → ℕ → ℕ → ℕ → Cursor
+cursorOf at start len stage = record { at = at; start = start; len = len; stage = stage }
+
+-- where it is known, the name before a cursor begins a sound one
+abbrev pub Sound : Bool → List ℕ → Type 0
+Sound known name = known ≡ true → Begun name
 
 -- the name and the stage before a cursor
 abbrev pub keyAt : ℕ → List ℕ → List ℕ → Cursor → Key
@@ -50,6 +62,13 @@ pub record Headed (b : List ℕ) (c : Cursor) (h : Head) : Type 0 where
   pub least : 62 ≤ h .length
   pub most : h .length ≤ 64
   pub there : c .at + h .length ≤ length b
+
+-- what a function answers that reads these bytes at a place, whether they were read before or not
+pub record HeadRead (again : Bool) (v : ℕ) (b : List ℕ) (at : ℕ) (r : Fixed) : Type 0 where
+  pub first : again ≡ false → (p : ℕ) → r ≡ fixedOf (readHead 20 v p (drop at b))
+  pub later : again ≡ true → HeadPassed b at r
+  pub sized : (h : Head) → r ≡ F.Good h → Size h
+  pub there : at + headLength r ≤ length b
 
 -- and the number N after them, in version 4
 pub record Numbered (b work : List ℕ) (c : Cursor) (h : Head) (n took : ℕ) : Type 0 where
@@ -143,7 +162,7 @@ Passed v b work c work′ r = Repeated (λ p. readEntry 20 v (keyAt v b work c) 
 
 -- before the first entry stands the empty name
 abbrev pub firstCursor : Cursor
-firstCursor = record { at = 12; start = 0; len = 0; stage = 0 }
+firstCursor = cursorOf 12 0 0 0
 
 -- n entries of the body b, from a cursor on
 abbrev pub runFrom : ℕ → ℕ → List ℕ → List ℕ → Cursor → Read (List Entry)

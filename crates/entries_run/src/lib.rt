@@ -1,11 +1,12 @@
 // One entry of any version after another, the run of all entries, and entry number k.
 ghost use mathlib.Core.Path.{_≡_};
-ghost use mathlib.Core.Bool.{false};
+ghost use mathlib.Core.Bool.{false, cond};
 ghost use mathlib.Core.List.{List};
 ghost use Prim.Native.Nat.{ℕ, _+_, _-_, _≤_};
-ghost use lib.ListN.{length};
+ghost use lib.ListN.{length, take, drop};
 ghost use lib.Dec.{eqb};
-ghost use Rattle.entries_run.specs.Steps.{nameAt, Stands, Rebuilt, Room, Inside, Headed, Numbered, Answered, Repeated, Tested, stepOf, readRest, Stepped, Passed, firstCursor, Ran, Reaches};
+ghost use Rattle.format.specs.Reader.{readEntry};
+ghost use Rattle.entries_run.specs.Steps.{nameAt, keyAt, cursorOf, Stands, Rebuilt, Room, Inside, Headed, HeadRead, Numbered, Sound, Answered, Repeated, Tested, stepOf, readRest, Stepped, Passed, firstCursor, Ran, Reaches};
 use entries::Fixed;
 use entries::Head;
 use entries::Number;
@@ -131,9 +132,28 @@ fn rebuild(work: &mut [u8], p: usize, n: usize, suffix: &[u8], s: u32, t: u32) -
     }
 }
 
+// How many bytes of a name begin a sound one, of n that it has from the one before: none where nothing is known of that.
+fn kept_of(known: bool, n: usize) -> usize
+    ensures { λ r. ⌜ r ≡ cond known n 0 ⌝ }
+{
+    if known {
+        return n;
+    }
+    0
+}
+
 // The rest of an entry of version 4 after the number N, which is n and took that many bytes. One that was read before is not tested again.
-fn suffix(b: &[u8], work: &mut [u8], c: Cursor, h: Head, n: usize, took: usize, again: bool) -> Next
-    requires { ⌜ Numbered (now b) (now work) c h n took ⌝ }
+fn suffix(
+    b: &[u8],
+    work: &mut [u8],
+    c: Cursor,
+    h: Head,
+    n: usize,
+    took: usize,
+    again: bool,
+    known: bool,
+) -> Next
+    requires { ⌜ Numbered (now b) (now work) c h n took × Sound known (take (c .len) (now work)) ⌝ }
     ensures { λ r. ⌜ Tested again (readRest 4 (now (b .entry)) (now (work .entry)) c h) 4 (now (b .entry)) (now (work .entry)) c (now (work .exit)) r ⌝ }
 {
     let at = c.at + h.length + took;
@@ -150,7 +170,8 @@ fn suffix(b: &[u8], work: &mut [u8], c: Cursor, h: Head, n: usize, took: usize, 
     if again {
         return Next::Good(step_of(h, d.common, z + 1, 0, len));
     }
-    if fields::name_ok(&work[..len]) {
+    let kept = kept_of(known, c.len - n);
+    if fields::name_ok_after(&work[..len], kept) {
         if h.flags % 4096 == fields::length_field(len) {
             if d.rises {
                 return Next::Good(step_of(h, d.common, z + 1, 0, len));
@@ -163,34 +184,40 @@ fn suffix(b: &[u8], work: &mut [u8], c: Cursor, h: Head, n: usize, took: usize, 
 }
 
 // The rest of an entry of version 4 after the bytes h. One that was read before is not tested again.
-fn packed(b: &[u8], work: &mut [u8], c: Cursor, h: Head, again: bool) -> Next
-    requires { ⌜ Headed (now b) c h × (8192 ≤ length (now work)) ⌝ }
+fn packed(b: &[u8], work: &mut [u8], c: Cursor, h: Head, again: bool, known: bool) -> Next
+    requires { ⌜ Headed (now b) c h × (8192 ≤ length (now work)) × Sound known (take (c .len) (now work)) ⌝ }
     ensures { λ r. ⌜ Tested again (readRest 4 (now (b .entry)) (now (work .entry)) c h) 4 (now (b .entry)) (now (work .entry)) c (now (work .exit)) r ⌝ }
 {
     let m = entries::read_n(b, c.at + h.length, c.len);
     match m {
         Number::Bad(n) => Next::Bad(n),
-        Number::Good(n, took) => suffix(b, work, c, h, n, took, again),
+        Number::Good(n, took) => suffix(b, work, c, h, n, took, again, known),
     }
 }
 
 // The rest of an entry of version 2 or 3 after the bytes h.
-fn plain(b: &[u8], c: Cursor, h: Head) -> Next
-    requires { ⌜ Headed (now b) c h ⌝ }
+fn plain(b: &[u8], c: Cursor, h: Head, known: bool) -> Next
+    requires { ⌜ Headed (now b) c h × Sound known (take (c .len) (drop (c .start) (now b))) ⌝ }
     ensures { λ r. ⌜ ((v : ℕ) (work : List ℕ) → eqb v 4 ≡ false → Answered (readRest v (now (b .entry)) work c h) v (now (b .entry)) work c work r) ⌝ }
 {
     let at = c.at + h.length;
-    let t = entries::read_plain(b, at, h.length, h.flags % 4096);
+    let field = h.flags % 4096;
+    let n = entries::plain_length(b, at, field);
+    if b.len() - at <= n {
+        return Next::Bad(6);
+    }
+    let a = c.start;
+    let e = a + c.len;
+    let z = at + n;
+    let stage = h.flags / 4096 % 4;
+    let d = standing_of(&b[a..e], &b[at..z], c.stage, stage);
+    let kept = kept_of(known, d.common);
+    let t = entries::read_named(b, at, n, h.length, field, kept);
     match t {
-        Text::Bad(n) => Next::Bad(n),
-        Text::Good(n, m) => {
-            let a = c.start;
-            let e = a + c.len;
-            let z = at + n;
-            let stage = h.flags / 4096 % 4;
-            let d = standing_of(&b[a..e], &b[at..z], c.stage, stage);
+        Text::Bad(k) => Next::Bad(k),
+        Text::Good(k, m) => {
             if d.rises {
-                return Next::Good(step_of(h, d.common, at + m, at, n));
+                return Next::Good(step_of(h, d.common, at + m, at, k));
             }
             Next::Bad(11)
         }
@@ -216,38 +243,68 @@ fn pass_plain(b: &[u8], c: Cursor, h: Head) -> Next
     }
 }
 
+// The bytes before the name of the entry at a place. Those that were read before are not tested again.
+fn head_at(b: &[u8], at: usize, v: u32, again: bool) -> Fixed
+    requires { ⌜ at ≤ length (now b) ⌝ }
+    ensures { λ r. ⌜ HeadRead again v (now (b .entry)) at r ⌝ }
+{
+    if again {
+        return entries::pass_fixed(b, at);
+    }
+    entries::read_fixed(b, at, v)
+}
+
+// The entry at the cursor that these numbers make. The mode, the name, the order and the NULs after the name of one that was read before are not tested
+// again; known says that the name before the cursor is sound. Numbers are handed on here, and not a struct, because this is called for every entry.
+fn entry_at(
+    b: &[u8],
+    v: u32,
+    work: &mut [u8],
+    at: usize,
+    start: usize,
+    len: usize,
+    stage: u32,
+    again: bool,
+    known: bool,
+) -> Next
+    requires { ⌜ Inside (now b) (cursorOf at start len stage) × (8192 ≤ length (now work)) × Sound known (nameAt v (now b) (now work) start len) ⌝ }
+    ensures { λ r. ⌜ Tested again (λ p. readEntry 20 v (keyAt v (now (b .entry)) (now (work .entry)) (cursorOf at start len stage)) p (drop at (now (b .entry)))) v (now (b .entry)) (now (work .entry)) (cursorOf at start len stage) (now (work .exit)) r ⌝ }
+{
+    let f = head_at(b, at, v, again);
+    match f {
+        Fixed::Bad(n) => Next::Bad(n),
+        Fixed::Good(h) => {
+            let c = Cursor {
+                at: at,
+                start: start,
+                len: len,
+                stage: stage,
+            };
+            if v == 4 {
+                return packed(b, work, c, h, again, known);
+            }
+            if again {
+                return pass_plain(b, c, h);
+            }
+            plain(b, c, h, known)
+        }
+    }
+}
+
 // The entry at a cursor.
 pub fn next_entry(b: &[u8], v: u32, work: &mut [u8], c: Cursor) -> Next
     requires { ⌜ Inside (now b) c × (8192 ≤ length (now work)) ⌝ }
     ensures { λ r. ⌜ Stepped v (now (b .entry)) (now (work .entry)) c (now (work .exit)) r ⌝ }
 {
-    let f = entries::read_fixed(b, c.at, v);
-    match f {
-        Fixed::Bad(n) => Next::Bad(n),
-        Fixed::Good(h) => {
-            if v == 4 {
-                return packed(b, work, c, h, false);
-            }
-            plain(b, c, h)
-        }
-    }
+    entry_at(b, v, work, c.at, c.start, c.len, c.stage, false, false)
 }
 
-// The entry at a cursor, where one was read before. Its mode, its name, its order and the NULs after it are not tested again.
+// The entry at a cursor, where one was read before.
 pub fn pass_entry(b: &[u8], v: u32, work: &mut [u8], c: Cursor) -> Next
     requires { ⌜ Inside (now b) c × (8192 ≤ length (now work)) ⌝ }
     ensures { λ r. ⌜ Passed v (now (b .entry)) (now (work .entry)) c (now (work .exit)) r ⌝ }
 {
-    let f = entries::pass_fixed(b, c.at);
-    match f {
-        Fixed::Bad(n) => Next::Bad(n),
-        Fixed::Good(h) => {
-            if v == 4 {
-                return packed(b, work, c, h, true);
-            }
-            pass_plain(b, c, h)
-        }
-    }
+    entry_at(b, v, work, c.at, c.start, c.len, c.stage, true, false)
 }
 
 // The run of entries of a body: count of them, from its 12th byte on.
@@ -255,21 +312,27 @@ pub fn run_entries(b: &[u8], v: u32, work: &mut [u8], count: u32) -> Run
     requires { ⌜ Room (now b) (now work) ⌝ }
     ensures { λ r. ⌜ Ran v (now (b .entry)) (now (work .entry)) count (now (work .exit)) r ⌝ }
 {
-    let mut c = first();
+    let mut at: usize = 12;
+    let mut start: usize = 0;
+    let mut len: usize = 0;
+    let mut stage: u32 = 0;
     let mut left = count;
     while 0 < left {
-        let g = next_entry(b, v, &mut *work, c);
+        let g = entry_at(b, v, &mut *work, at, start, len, stage, false, true);
         match g {
             Next::Bad(n) => {
-                return Run::Bad(n, c.at);
+                return Run::Bad(n, at);
             }
             Next::Good(st) => {
-                c = st.next;
+                at = st.next.at;
+                start = st.next.start;
+                len = st.next.len;
+                stage = st.next.stage;
             }
         }
         left -= 1;
     }
-    Run::Good(c.at)
+    Run::Good(at)
 }
 
 // Entry number k of a body. Every entry before it is read: an entry's place and, in version 4, its name depend on them.

@@ -2,8 +2,8 @@
 use mathlib.Core.Path.{_≡_, refl, sym, ap, _∙_}
 use mathlib.Core.List.{List, [], _∷_, _++_, append-assoc, append-nil}
 use mathlib.Core.Bool.{Bool, true, false, cond}
-use Prim.Native.Nat.{ℕ}
-use lib.ListN.{take, drop, take-append-drop}
+use Prim.Native.Nat.{ℕ, _≤_, zero-le}
+use lib.ListN.{length, take, drop, take-append-drop}
 use Rattle.format.specs.Bytes.{eqList, lacks}
 use Rattle.format.specs.Names.{componentsFrom, components, okComponent, okComponents, okName, common}
 use Rattle.format_laws.proofs.Names.{common-take}
@@ -27,6 +27,6 @@ pub begun-common : (s t : List ℕ) → Begun s → Begun (take (common s t) t)
 begun-common s t h = rw (common-take s t) at (begun-take (common s t) s h)
 
 -- as many bytes as are kept, none where nothing is known of them
-pub begun-kept : (known : Bool) (k : ℕ) (s : List ℕ) → (known ≡ true → Begun (take k s)) → Begun (take (cond known k 0) s)
-begun-kept true k s h = h refl
-begun-kept false k s h = begun-none
+pub begun-kept : (known : Bool) (k : ℕ) (s : List ℕ) → k ≤ length s → (known ≡ true → Begun (take k s)) → (cond known k 0 ≤ length s) × Begun (take (cond known k 0) s)
+begun-kept true k s fits h = (fits, h refl)
+begun-kept false k s fits h = (zero-le, begun-none)

@@ -9,7 +9,7 @@ use lib.Seq.{drop-drop, drop-append-seam, take-at, drop-at, take-add, length-tak
 use lib.Dec.{eqb, leb}
 use borrow.Author.Tests.{leb-true, le-leb, not-true}
 use Rattle.format.specs.Bytes.{Bytes, be16, be32, be32s, put16, put32s, fit32}
-use Rattle.format.specs.Names.{lengthField, compare, rises}
+use Rattle.format.specs.Names.{okName, lengthField, compare, rises}
 use Rattle.format.specs.Records.{Entry, modeOf, Key, keyOf}
 use Rattle.format.specs.Layout.{okMode, fixedLength, flagsOf, wordOf, okExtended, IsEntry, Entries, entries-end, entries-more}
 use Rattle.format.specs.Reading.{good}
@@ -362,6 +362,15 @@ unfolding entryOf
 entry-rises w v k p s e m q =
     let h : Passes w v k p s e m = read-passes w v k p s e m q in
     rw (← (h .entry-is)) (h .order)
+
+-- and has a sound name
+pub entry-named : (w v : ℕ) (k : Key) (p : ℕ) (s : List ℕ) (e : Entry) (m : ℕ) → readEntry w v k p s ≡ good e m → okName (e .name) ≡ true
+unfolding entryOf
+entry-named w v k p s e m q =
+    let h : Passes w v k p s e m = read-passes w v k p s e m q in
+    let f : ℕ = fixedLength w (h .extended) in
+    let (short, named, ok, field) = name-read v f p (k .name) (be16 s (40 + w) % 4096) (drop f s) (h .name) (h .taken) (h .named) in
+    rw (← (h .entry-is)) ok
 
 -- ---- a run of entries
 

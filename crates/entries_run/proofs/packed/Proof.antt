@@ -29,7 +29,7 @@ suffix-requires c κs =
     let a = st .args in
     let fits = rw (t .m2 .given .1) at (m .read-n .ensures .1) in
     let more = rw (t .m2 .given .1) at (m .read-n .ensures .2) in
-    numbered (a .b .now) _ (a .c) (a .h) _ _ (st .pre .0) (λ p. sym (t .m2 .given .1) ∙ m .read-n .ensures .0 p) fits more (st .pre .1)
+    (numbered (a .b .now) _ (a .c) (a .h) _ _ (st .pre .0) (λ p. sym (t .m2 .given .1) ∙ m .read-n .ensures .0 p) fits more (st .pre .1), st .pre .2)
 
 returns : tie.Need-returns
 returns c =

@@ -6,30 +6,34 @@ use native.Mathlib.Omega.{arith}
 use borrow.Author.Needs.{needs}
 use lib.ListN.{length, drop, length-append}
 use Rattle.format.specs.Records.{Entry}
+use Rattle.fields.specs.Begun.{Begun}
 use Rattle.entries_run.specs.declared.Run.the-variants as R
-use Rattle.entries_run.specs.Steps.{Inside, runOf}
-use Rattle.entries_run.proofs.Steps.{inside-first, Walked, walked-first, walked-end, walked-bad, walked-more}
+use Rattle.entries_run.specs.Steps.{nameAt, cursorOf, Inside, runOf}
+use Rattle.entries_run.proofs.Steps.{inside-first, begun-first, begun-next, Walked, walked-first, walked-end, walked-bad, walked-more}
 use Rattle.entries_run.proofs.run_entries.Statement.{statement}
 use Rattle.entries_run.proofs.run_entries.Tie as tie
 
 abbrev Inv-loop : tie.InvT-loop
-Inv-loop b v work₀ count c₀ left₀ work c left =
-    Inside b c × (length work ≡ length work₀) × (drop 8192 work ≡ drop 8192 work₀) × ((es : List Entry) × Walked v b es work c × (length es + left ≡ count))
+Inv-loop b v work₀ count at₀ start₀ len₀ stage₀ left₀ work at start len stage left =
+    Inside b (cursorOf at start len stage) × (length work ≡ length work₀) × (drop 8192 work ≡ drop 8192 work₀)
+    × ((es : List Entry) × Walked v b es work (cursorOf at start len stage) × (length es + left ≡ count)) × Begun (nameAt v b work start len)
 
 abbrev μ-loop : tie.MeasureT-loop
-μ-loop b v work₀ count c₀ left₀ work c left = left
-
-first-requires : tie.Need-first-requires Inv-loop μ-loop
-first-requires c κs = search needs
+μ-loop b v work₀ count at₀ start₀ len₀ stage₀ left₀ work at start len stage left = left
 
 loop-holds : tie.Need-loop-holds Inv-loop μ-loop
 loop-holds c =
-    let st = c .before .before .before in
-    let a = st .args in
-    rw (c .first .ensures) (inside-first (a .b .now) (a .work .now) (st .pre), refl, refl, ([], walked-first (a .v) (a .b .now) (a .work .now), omega arith))
+    let st = c .before .before in
+    let a = st .args in (
+      inside-first (a .b .now) (a .work .now) (st .pre),
+      refl,
+      refl,
+      ([], walked-first (a .v) (a .b .now) (a .work .now), omega arith),
+      begun-first (a .v) (a .b .now) (a .work .now),
+    )
 
-next-entry-requires : tie.Need-next-entry-requires Inv-loop μ-loop
-next-entry-requires c κs = (c .before .before .loop .inv .0, omega arith)
+entry-at-requires : tie.Need-entry-at-requires Inv-loop μ-loop
+entry-at-requires c κs = let l = c .before .before .loop in (l .inv .0, omega arith, λ e. l .inv .4)
 
 enum-known-g : tie.Need-enum-known-g Inv-loop μ-loop
 enum-known-g c = search needs
@@ -41,11 +45,11 @@ returns : tie.Need-returns Inv-loop μ-loop
 returns c =
     let e = c .before .before .before .before .before in
     let l = e .before .before .before in
-    let a = l .before .before .before .before .args in
-    let t = rw (c .before .g .given .1) at (e .next-entry .ensures) in
+    let a = l .before .before .before .args in
+    let t = rw (c .before .g .given .1) at (e .entry-at .ensures) .first refl in
     let (es, walked, sum) = l .loop .inv .3 in
     record {
-      same = sym (ap runOf (walked-bad (a .v) (a .b .now) es (l .loop .work) (l .loop .c) walked _ _ t (a .count) (omega (arith, sum))));
+      same = sym (ap runOf (walked-bad (a .v) (a .b .now) es (l .loop .work) _ walked _ _ t (a .count) (omega (arith, sum))));
       inside = zero-le;
       long = t .long ∙ l .loop .inv .1;
       past = t .past ∙ l .loop .inv .2;
@@ -62,15 +66,16 @@ loop-less c = omega arith
 
 loop-again : tie.Need-loop-again Inv-loop μ-loop
 loop-again c =
-    let e = c .before .before .before .before .before .before in
+    let e = c .before .before .before .before .before in
     let l = e .before .before .before in
-    let a = l .before .before .before .before .args in
-    let t = rw (c .before .before .g2 .given .1) at (e .next-entry .ensures) in
+    let a = l .before .before .before .args in
+    let t = rw (c .before .g2 .given .1) at (e .entry-at .ensures) .first refl in
     let (es, walked, sum) = l .loop .inv .3 in (
       t .found _ refl .next,
       t .long ∙ l .loop .inv .1,
       t .past ∙ l .loop .inv .2,
-      (_, walked-more (a .v) (a .b .now) es (l .loop .work) (l .loop .c) walked _ _ t, rw length-append (omega (arith, sum))),
+      (_, walked-more (a .v) (a .b .now) es (l .loop .work) _ walked _ _ t, rw length-append (omega (arith, sum))),
+      begun-next (a .v) (a .b .now) (l .loop .work) _ _ _ t,
     )
 
 same-length-2 : tie.Need-same-length-2 Inv-loop μ-loop
@@ -79,12 +84,12 @@ same-length-2 c = c .before .loop .inv .1
 returns-2 : tie.Need-returns-2 Inv-loop μ-loop
 returns-2 c =
     let l = c .before in
-    let a = l .before .before .before .before .args in
+    let a = l .before .before .before .args in
     let (es, walked, sum) = l .loop .inv .3 in
     let all : length es ≡ a .count = omega (arith, sum) in
-    let end : 12 + (l .loop .c .at - 12) ≡ l .loop .c .at = omega (arith, walked .after) in
+    let end : 12 + (l .loop .at - 12) ≡ l .loop .at = omega (arith, walked .after) in
     record {
-      same = sym (ap runOf (rw all at (walked-end (a .v) (a .b .now) es (l .loop .work) (l .loop .c) walked)) ∙ ap R.Good end);
+      same = sym (ap runOf (rw all at (walked-end (a .v) (a .b .now) es (l .loop .work) _ walked)) ∙ ap R.Good end);
       inside = l .loop .inv .0 .inside;
       long = l .loop .inv .1;
       past = l .loop .inv .2;
@@ -96,9 +101,8 @@ run-entries-spec =
     (tie.spec
     Inv-loop
     μ-loop
-    first-requires
     loop-holds
-    next-entry-requires
+    entry-at-requires
     enum-known-g
     same-length
     returns

@@ -4,7 +4,7 @@ use native.Mathlib.Omega.{arith}
 use lib.Seq.{length-take-le}
 use borrow.Author.Needs.{needs}
 use Rattle.entries_run.proofs.Rests.{tested}
-use Rattle.entries_run.proofs.PackedRests.{Ended, Copied, suffix-cut, suffix-long, suffix-name, suffix-field, suffix-order, suffix-good, suffix-passed}
+use Rattle.entries_run.proofs.PackedRests.{Ended, Copied, kept-begun, suffix-cut, suffix-long, suffix-name, suffix-field, suffix-order, suffix-good, suffix-passed}
 use Rattle.entries_run.proofs.suffix.Statement.{statement}
 use Rattle.entries_run.proofs.suffix.Tie as tie
 
@@ -13,7 +13,7 @@ ended :
     (c : tie.After-find) →
     let a = c .before .before .before .before .before .args in
     Ended (a .b .now) (a .work .now) (a .c) (a .h) (a .n) (a .took) (c .find .result)
-ended c = record { numbered = c .before .before .before .before .before .pre; is-z = c .find .ensures .0; within = c .find .ensures .1 }
+ended c = record { numbered = c .before .before .before .before .before .pre .0; is-z = c .find .ensures .0; within = c .find .ensures .1 }
 
 copied :
     (c : tie.After-rebuild) →
@@ -72,23 +72,35 @@ same-length c = search needs
 returns-3 : tie.Need-returns-3
 returns-3 c = rw (c .step-of .ensures, c .before .if3 .taken) (suffix-passed _ _ _ _ _ _ _ _ _ (copied (c .before .before .before .before)))
 
-slice-reshare-prefix-name-ok : tie.Need-slice-reshare-prefix-name-ok
-slice-reshare-prefix-name-ok c = search needs
+sub-kept-of : tie.Need-sub-kept-of
+sub-kept-of c = search needs
 
-slice-aggregate-name-ok : tie.Need-slice-aggregate-name-ok
-slice-aggregate-name-ok c =
-    let g = c .before .before .before .before in
+kept-of-requires : tie.Need-kept-of-requires
+kept-of-requires c κs = search needs
+
+slice-reshare-prefix-name-ok-after : tie.Need-slice-reshare-prefix-name-ok-after
+slice-reshare-prefix-name-ok-after c = search needs
+
+slice-aggregate-name-ok-after : tie.Need-slice-aggregate-name-ok-after
+slice-aggregate-name-ok-after c =
+    let g = c .before .before .before .before .before .before in
     let e = g .before .before .before .before in
-    sym (length-take-le _ (g .rebuild .last .0) (omega (arith, e .if2 .left, e .before .before .before .before .before .before .before .before .pre .room)))
+    sym (length-take-le _ (g .rebuild .last .0) (omega (arith, e .if2 .left, e .before .before .before .before .before .before .before .before .pre .0 .room)))
 
-name-ok-requires : tie.Need-name-ok-requires
-name-ok-requires c κs = search needs
+name-ok-after-requires : tie.Need-name-ok-after-requires
+name-ok-after-requires c κs =
+    let k = c .before in
+    let g = k .before .before .before .before .before in
+    let st = g .before .before .before .before .before .before .before .before .before .before .before .before in
+    rw (k .kept-of .ensures) (kept-begun _ _ _ _ _ _ _ _ _ (copied g) _ (st .pre .1))
 
 length-field-requires : tie.Need-length-field-requires
 length-field-requires c κs = search needs
 
 add-step-of-2 : tie.Need-add-step-of-2
-add-step-of-2 c = search needs
+add-step-of-2 c =
+    let e = c .before .before .before .before .before .before .before .before .before .before .before .before .before .before .before .before in
+    omega (arith, e .before .before .before .find, e .before .before .before .before .before .before .before .before .pre)
 
 step-of-requires-2 : tie.Need-step-of-requires-2
 step-of-requires-2 c κs = search needs
@@ -100,10 +112,10 @@ returns-4 : tie.Need-returns-4
 returns-4 c =
     let f = c .before .before .before in
     let o = f .before .before .before in
-    let g = o .before .before .before .before .before in
+    let g = o .before .before .before .before .before .before .before in
     rw (c .step-of2 .ensures)
     (tested _ _ _ _ _ _ _
-    (suffix-good _ _ _ _ _ _ _ _ _ (copied g) (sym (o .name-ok .ensures) ∙ f .before .before .if4 .taken) (c .before .before .if5 .taken ∙ f .length-field .ensures) (c .before .if6 .taken))
+    (suffix-good _ _ _ _ _ _ _ _ _ (copied g) (sym (o .name-ok-after .ensures) ∙ f .before .before .if4 .taken) (c .before .before .if5 .taken ∙ f .length-field .ensures) (c .before .if6 .taken))
     _)
 
 same-length-3 : tie.Need-same-length-3
@@ -113,9 +125,9 @@ returns-5 : tie.Need-returns-5
 returns-5 c =
     let f = c .before .before in
     let o = f .before .before .before in
-    let g = o .before .before .before .before .before in
+    let g = o .before .before .before .before .before .before .before in
     tested _ _ _ _ _ _ _
-    (suffix-order _ _ _ _ _ _ _ _ _ (copied g) (sym (o .name-ok .ensures) ∙ f .before .before .if4 .taken) (c .before .if5 .taken ∙ f .length-field .ensures) (c .if6 .left))
+    (suffix-order _ _ _ _ _ _ _ _ _ (copied g) (sym (o .name-ok-after .ensures) ∙ f .before .before .if4 .taken) (c .before .if5 .taken ∙ f .length-field .ensures) (c .if6 .left))
     _
 
 same-length-4 : tie.Need-same-length-4
@@ -125,9 +137,9 @@ returns-6 : tie.Need-returns-6
 returns-6 c =
     let f = c .before in
     let o = f .before .before .before in
-    let g = o .before .before .before .before .before in
+    let g = o .before .before .before .before .before .before .before in
     tested _ _ _ _ _ _ _
-    (suffix-field _ _ _ _ _ _ _ _ _ (copied g) (sym (o .name-ok .ensures) ∙ f .before .before .if4 .taken) (λ q. c .if5 .left (q ∙ sym (f .length-field .ensures))))
+    (suffix-field _ _ _ _ _ _ _ _ _ (copied g) (sym (o .name-ok-after .ensures) ∙ f .before .before .if4 .taken) (λ q. c .if5 .left (q ∙ sym (f .length-field .ensures))))
     _
 
 same-length-5 : tie.Need-same-length-5
@@ -136,8 +148,8 @@ same-length-5 c = search needs
 returns-7 : tie.Need-returns-7
 returns-7 c =
     let o = c .before in
-    let g = o .before .before .before .before .before in
-    tested _ _ _ _ _ _ _ (suffix-name _ _ _ _ _ _ _ _ _ (copied g) (sym (o .name-ok .ensures) ∙ c .if4 .left)) _
+    let g = o .before .before .before .before .before .before .before in
+    tested _ _ _ _ _ _ _ (suffix-name _ _ _ _ _ _ _ _ _ (copied g) (sym (o .name-ok-after .ensures) ∙ c .if4 .left)) _
 
 pub suffix-spec : {M : Type 1} → statement M
 suffix-spec =
@@ -159,9 +171,11 @@ suffix-spec =
     step-of-requires
     same-length
     returns-3
-    slice-reshare-prefix-name-ok
-    slice-aggregate-name-ok
-    name-ok-requires
+    sub-kept-of
+    kept-of-requires
+    slice-reshare-prefix-name-ok-after
+    slice-aggregate-name-ok-after
+    name-ok-after-requires
     length-field-requires
     add-step-of-2
     step-of-requires-2
