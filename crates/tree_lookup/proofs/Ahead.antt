@@ -1,16 +1,19 @@
 -- Laws of the names that are ahead of a walk over the entries.
-use mathlib.Core.Path.{_≡_, refl, sym, ap, subst, _∙_}
-use mathlib.Core.List.{List, _∷_}
+use mathlib.Core.Path.{_≡_, refl, sym, ap, ap₂, subst, _∙_}
+use mathlib.Core.List.{List, [], _∷_}
 use mathlib.Core.Bool.{true, false, _&&_}
 use Prim.Native.Nat.{ℕ, _+_, _-_, _≤_, _<_}
 use native.Mathlib.Omega.{arith}
-use lib.ListN.{length}
-use lib.Dec.{leb, ltb}
-use borrow.Author.Tests.{lt-ltb, ltb-true, leb-true}
+use lib.ListN.{length, drop}
+use lib.Dec.{eqb, leb, ltb}
+use borrow.Author.Tests.{eqb-true, lt-ltb, ltb-true, leb-true}
+use Rattle.format.specs.Bytes.{lacks}
 use Rattle.format.specs.Names.{common, compare}
 use Rattle.format.specs.Layout.{names}
 use Rattle.format.specs.Reader.{entryOf}
-use Rattle.format_laws.proofs.Tests.{false-true, and-inv}
+use Rattle.format_laws.proofs.Tests.{false-true, by-test, and-inv, cond-inv}
+use Rattle.format_laws.proofs.Lists.{drop-to}
+use Rattle.format_laws.proofs.Names.{common-append}
 use Rattle.format_laws.proofs.Readings.{bad-good, good-inv, front-inv}
 use Rattle.entries_run.specs.declared.Step.{Step}
 use Rattle.entries_run.specs.declared.Next.the-variants as N
@@ -18,9 +21,10 @@ use Rattle.entries_run.specs.Steps.{nameAt, Passed, runFrom}
 use Rattle.entries_run.proofs.Steps.{entries-bad, entries-good, entries-again, run-none}
 use Rattle.tree_counts.specs.Runs.{notAbove, sortedFrom, begins, leads, beyond, within}
 use Rattle.tree_counts.proofs.Order.{begins-common}
+use Rattle.tree_counts.proofs.Directory.{begins-split}
 use Rattle.tree_counts.proofs.Runs.{within-end, within-step, beyond-step, beyond-end}
 use Rattle.tree_lookup.specs.declared.front.Front.{Front}
-use Rattle.tree_lookup.specs.Ahead.{Fits, Ahead, After, after-none, after-some, Advanced, Left}
+use Rattle.tree_lookup.specs.Ahead.{Fits, Ahead, After, after-none, after-some, Advanced, Left, Gone, File, MoreFiles, Files, files-none, files-more, FilesLeft}
 
 -- ---- a step
 
@@ -82,10 +86,41 @@ stays-long b s k fits e = omega (arith, fits .short, leb-true k (s .common) (and
 -- it is there, and in the directory
 pub stays-in {ℓ} : {X : Type ℓ} (v : ℕ) (b work : List ℕ) (s : Front) (last q : List ℕ) (xs : List (List ℕ)) → After v b work s last xs → begins q last ≡ true
     → (ltb 0 (s .ahead) && leb (length q) (s .common)) ≡ true
-    → ((y : List ℕ) (ys : List (List ℕ)) → xs ≡ y ∷ ys → Ahead v b work s y ys → begins q y ≡ true → X) → X
+    → ((y : List ℕ) (ys : List (List ℕ)) → xs ≡ y ∷ ys → Ahead v b work s y ys → s .common ≡ common last y → begins q y ≡ true → X) → X
 stays-in v b work s last q _ (after-none z) i e f = false-true (rw z at e)
 stays-in v b work s last q _ (after-some {x} {xs} h c) i e f =
-    f x xs refl h (begins-common q last x i ∙ ap (leb (length q)) (sym c) ∙ and-inv (ltb 0 (s .ahead)) (leb (length q) (s .common)) e .1)
+    f x xs refl h c (begins-common q last x i ∙ ap (leb (length q)) (sym c) ∙ and-inv (ltb 0 (s .ahead)) (leb (length q) (s .common)) e .1)
+
+-- ---- past one name or more
+
+-- the loop of a walk: work₀ and s₀ are what it starts from, past the first name
+pub record Going (b work₀ : List ℕ) (s₀ : Front) (work : List ℕ) (s : Front) (count : ℕ) : Type 0 where
+  pub fits : Fits b s
+  pub fewer : count + s .ahead ≤ 1 + s₀ .ahead
+  pub few : s₀ .ahead ≤ 4294967296
+  pub some : 1 ≤ count
+  pub room : 8192 ≤ length work
+  pub long : length work ≡ length work₀
+  pub past : drop 8192 work ≡ drop 8192 work₀
+
+module _ (v : ℕ) (b work : List ℕ) (s : Front) (work₀ : List ℕ) (s₀ : Front) (t : Advanced v b work s work₀ s₀) where
+  pub going-start : 8192 ≤ length work → Going b work₀ s₀ work₀ s₀ 1
+  going-start room = record { fits = t .fits; fewer = omega arith; few = t .fits .few; some = omega arith; room = omega (arith, t .long); long = refl; past = refl }
+
+  pub going-end : 1 ≤ s .ahead → (work′ : List ℕ) (s′ : Front) (count : ℕ) → Going b work₀ s₀ work′ s′ count → Gone b work s work′ (record { count = count; front = s′ })
+  going-end some work′ s′ count h = record { fits = h .fits; fewer = omega (arith, t .fewer, h .fewer); some = h .some; long = h .long ∙ t .long; past = h .past ∙ t .past }
+
+pub going-on : (v : ℕ) (b work₀ : List ℕ) (s₀ : Front) (work : List ℕ) (s : Front) (count : ℕ) (work′ : List ℕ) (s′ : Front)
+    → Going b work₀ s₀ work s count → 1 ≤ s .ahead → Advanced v b work s work′ s′ → Going b work₀ s₀ work′ s′ (count + 1)
+going-on v b work₀ s₀ work s count work′ s′ h some t = record {
+  fits = t .fits;
+  fewer = omega (arith, t .fewer, h .fewer);
+  few = h .few;
+  some = omega arith;
+  room = omega (arith, t .long, h .room);
+  long = t .long ∙ h .long;
+  past = t .past ∙ h .past;
+}
 
 -- ---- past the names in a directory
 
@@ -105,7 +140,7 @@ module _ (v : ℕ) (b : List ℕ) (q : List ℕ) (xs : List (List ℕ)) where
   module _ (work : List ℕ) (s : Front) (count : ℕ) (h : Passing v b work s q xs count) where
     pub pass-on : (work′ : List ℕ) (r : Front) → (ltb 0 (s .ahead) && leb (length q) (s .common)) ≡ true → Advanced v b work s work′ r → Passing v b work′ r q xs (count + 1)
     pass-on work′ r e t =
-        stays-in v b work s (h .last) q (h .rest) (h .after) (h .in-it) e λ y ys is ahead i.
+        stays-in v b work s (h .last) q (h .rest) (h .after) (h .in-it) e λ y ys is ahead c i.
         let n : length (within q (h .rest)) ≡ 1 + length (within q ys) = ap (λ (l : List (List ℕ)). length (within q l)) is ∙ ap length (within-step q y ys i) ∙ omega arith in
         record {
           rest = ys;
@@ -129,3 +164,34 @@ module _ (v : ℕ) (b : List ℕ) (q : List ℕ) (xs : List (List ℕ)) where
             after = subst (After v b work s (h .last)) (sym (beyond-end (begins q) (h .rest) out) ∙ h .left ∙ sym (beyond-step q x xs i)) (h .after);
           },
         )
+
+-- ---- past the files of a directory
+
+-- where neither s nor what follows in t after the bytes that the two have in common has a byte, t has it not
+lacks-common : (b : ℕ) (s t : List ℕ) → lacks b s ≡ true → lacks b (drop (common s t) t) ≡ true → lacks b t ≡ true
+unfolding common lacks
+lacks-common b [] t h l = l
+lacks-common b (x ∷ s) [] h l = refl
+lacks-common b (x ∷ s) (y ∷ t) h l =
+    cond-inv (eqb x b) false (lacks b s) true h (λ p e. false-true e)
+    (λ p e.
+    by-test (eqb x y)
+    (λ i. rw (← (eqb-true x y i), p) (lacks-common b s t e (rw i at l)))
+    (λ i. rw i at l))
+
+-- a name in the directory of a file, by what follows the bytes that the two have in common
+file-after : (q s t : List ℕ) → File q s → begins q t ≡ true → lacks 47 (drop (common s t) t) ≡ true → File q t
+file-after q s t h i l =
+    let sum : common s t ≡ length q + common (drop (length q) s) (drop (length q) t) = ap₂ common (begins-split q s (h .in-it)) (begins-split q t i) ∙ common-append q (drop (length q) s) (drop (length q) t) in
+    record { in-it = i; alone = lacks-common 47 (drop (length q) s) (drop (length q) t) (h .alone) (ap (lacks 47) (drop-to t (length q) _ _ sum) ∙ l) }
+
+module _ (v : ℕ) (b : List ℕ) (q : List ℕ) where
+  pub files-start : (work : List ℕ) (s : Front) (x : List ℕ) (xs : List (List ℕ)) → After v b work s x xs → File q x → FilesLeft v b work s q (x ∷ xs) 1
+  files-start work s x xs h i = record { rest = xs; files = files-more files-none i; last = x; is-file = i; after = h }
+
+  pub files-on : (whole : List (List ℕ)) (work : List ℕ) (s : Front) (count : ℕ) → FilesLeft v b work s q whole count → (work′ : List ℕ) (r : Front) → MoreFiles v b work s (length q)
+      → Advanced v b work s work′ r → FilesLeft v b work′ r q whole (count + 1)
+  files-on whole work s count h work′ r m t =
+      stays-in v b work s (h .last) q (h .rest) (h .after) (h .is-file .in-it) (m .stays) λ y ys is ahead c i.
+      let i′ = file-after q (h .last) y (h .is-file) i (rw (← c, ← (ahead .name)) (m .alone)) in
+      record { rest = ys; files = files-more (subst (Files q whole count) is (h .files)) i′; last = y; is-file = i′; after = t .after y ys ahead }

@@ -1,13 +1,15 @@
 // The entries that are still ahead of a walk over them, and the steps of such a walk.
 use entries_run::Cursor;
 use entries_run::Next;
+use entries_run::name_at;
 use entries_run::pass_entry;
+use fields::find;
 ghost use mathlib.Core.Path.{_≡_};
-ghost use mathlib.Core.Bool.{_&&_};
+ghost use mathlib.Core.Bool.{true, _&&_};
 ghost use Prim.Native.Nat.{_+_, _≤_, _<_};
 ghost use lib.ListN.{length};
 ghost use lib.Dec.{leb, ltb};
-ghost use Rattle.tree_lookup.specs.Ahead.{Fits, Advanced, Went};
+ghost use Rattle.tree_lookup.specs.Ahead.{Fits, Advanced, Went, MoreFiles, WentFiles};
 
 // The name of the first entry ahead stands before the cursor. common is what it has in common with the name before it.
 pub struct Front {
@@ -71,6 +73,39 @@ pub fn pass(b: &[u8], v: u32, work: &mut [u8], s: Front, q: usize) -> Passage
     let mut front = advance(b, v, &mut *work, s);
     let mut count = 1;
     while stays(front, q) {
+        front = advance(b, v, &mut *work, front);
+        count += 1;
+    }
+    Passage {
+        count: count,
+        front: front,
+    }
+}
+
+// Whether the first entry ahead is one more file of the directory whose name is the first q bytes of the entry before it, which is one. What the two
+// names have in common has no further "/", so only the rest is looked at.
+fn is_file<'a>(b: &'a [u8], v: u32, work: &'a [u8], s: Front, q: usize) -> bool
+    requires { ⌜ Fits (now b) s × (8192 ≤ length (now work)) ⌝ }
+    ensures { λ r. ⌜ (r ≡ true → MoreFiles v (now (b .entry)) (now (work .entry)) s q) ⌝ }
+{
+    if stays(s, q) {
+        let c = s.cursor;
+        let start = c.start;
+        let len = c.len;
+        let name = name_at(b, v, work, start, len);
+        return find(name, s.common, 47) == name.len();
+    }
+    false
+}
+
+// Past the files of the directory whose name is the first q bytes of the first one ahead, which is one, up to the first entry that is none.
+pub fn pass_files(b: &[u8], v: u32, work: &mut [u8], s: Front, q: usize) -> Passage
+    requires { ⌜ Fits (now b) s × (8192 ≤ length (now work)) × (1 ≤ s .ahead) ⌝ }
+    ensures { λ r. ⌜ WentFiles v (now (b .entry)) (now (work .entry)) s q (now (work .exit)) r ⌝ }
+{
+    let mut front = advance(b, v, &mut *work, s);
+    let mut count = 1;
+    while is_file(b, v, &work[..], front, q) {
         front = advance(b, v, &mut *work, front);
         count += 1;
     }

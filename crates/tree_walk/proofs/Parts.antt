@@ -26,12 +26,12 @@ use Rattle.tree_lookup.specs.declared.look.Look.{Look}
 use Rattle.tree_lookup.specs.declared.look.Look.the-variants as L
 use Rattle.tree_walk.specs.declared.walk.Tally.{Tally}
 use Rattle.tree_search.specs.Siblings.{Last, FoundAt}
-use Rattle.tree_lookup.specs.Ahead.{Ahead, Advanced, Went}
+use Rattle.tree_lookup.specs.Ahead.{Ahead, File, Gone, Went, WentFiles}
 use Rattle.tree_lookup.specs.Components.{component, Component, Looked, LookedUp}
-use Rattle.tree_walk.specs.Steps.{NodeAdded, Moved, Tallied, Ready, PartWalked, DirectoryWalked}
+use Rattle.tree_walk.specs.Steps.{NodeAdded, Moved, Tallied, Ready, Kept, PartWalked, DirectoryWalked}
 use Rattle.tree_search.proofs.Trees.{NodeAt, node-at, no-bad, reads-at}
 use Rattle.tree_lookup.proofs.Ahead.{fits-end}
-use Rattle.tree_walk.proofs.Steps.{moved-file, part-in, moved-missing, moved-found, reads-most}
+use Rattle.tree_walk.proofs.Steps.{moved-files, part-in, moved-missing, moved-found, reads-most}
 
 module _ (d : List ℕ) (at k : ℕ) (valid : Bool) (place left : ℕ) (b : List ℕ) (v : ℕ) (work : List ℕ) (q : ℕ) (s : Front) (work′ : List ℕ)
     (ready : Ready d at b work q s) (after : at ≤ place) (inside : place ≤ length d) where
@@ -56,35 +56,33 @@ module _ (d : List ℕ) (at k : ℕ) (valid : Bool) (place left : ℕ) (b : List
         let c = component (drop (length p) x) in
         omega (arith, length-append p (c ++ (47 ∷ [])), length-append c (47 ∷ []), is .ends)
 
-  pub part-file : LookedUp d at k place left (nameAt v b work (s .cursor .start) (s .cursor .len)) (s .cursor .len) q L.File → (next : Front) → Advanced v b work s work′ next
-      → PartWalked d at k valid place left b v work q s work′ (record { ok = true; met = 0; count = 1; front = next; place = place; left = left })
-  part-file look next step = record {
-    kept = record {
-      fits = step .fits;
-      fewer = omega (arith, step .fewer, ready .some);
-      less = omega (arith, step .fewer, ready .some);
-      least = after;
-      most = inside;
-      long = step .long;
-      past = step .past;
-    };
+  -- after a walk past entries that meet no node
+  kept-gone : (g : Passage) (ok : Bool) → Gone b work s work′ g
+      → Kept d at b work s work′ (record { ok = ok; met = 0; count = g .count; front = g .front; place = place; left = left })
+  kept-gone g ok gone = record {
+    fits = gone .fits;
+    fewer = gone .fewer;
+    less = omega (arith, gone .fewer, gone .some);
+    least = after;
+    most = inside;
+    long = gone .long;
+    past = gone .past;
+  }
+
+  pub part-files : LookedUp d at k place left (nameAt v b work (s .cursor .start) (s .cursor .len)) (s .cursor .len) q L.File → (g : Passage) → WentFiles v b work s q work′ g
+      → PartWalked d at k valid place left b v work q s work′ (record { ok = true; met = 0; count = g .count; front = g .front; place = place; left = left })
+  part-files look g went = record {
+    kept = kept-gone g true (went .gone);
     hint = λ f m sound reads last. last;
     moved = λ f m sound reads last p x xs ahead i e a whole done sorted passed.
-        moved-file valid f p x xs whole done v b work′ _ i passed (looked L.File look f m sound reads last p x xs ahead e) refl refl refl (step .after x xs ahead);
+        let file : File p x = record { in-it = i; alone = looked L.File look f m sound reads last p x xs ahead e } in
+        moved-files valid f p whole done (x ∷ xs) passed v b work′ _ refl refl (went .passed p x xs ahead file e);
   }
 
   pub part-missing : (e : ℕ) → LookedUp d at k place left (nameAt v b work (s .cursor .start) (s .cursor .len)) (s .cursor .len) q (L.Missing e) → (g : Passage) → Went v b work s e work′ g
       → PartWalked d at k valid place left b v work q s work′ (record { ok = not valid; met = 0; count = g .count; front = g .front; place = place; left = left })
   part-missing e look g went = record {
-    kept = record {
-      fits = went .fits;
-      fewer = went .fewer;
-      less = omega (arith, went .fewer, went .some);
-      least = after;
-      most = inside;
-      long = went .long;
-      past = went .past;
-    };
+    kept = kept-gone g (not valid) (went .gone);
     hint = λ f m sound reads last. last;
     moved = λ f m sound reads last p x xs ahead i l a whole done sorted passed.
         let (is, absent) = looked (L.Missing e) look f m sound reads last p x xs ahead l in

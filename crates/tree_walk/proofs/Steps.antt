@@ -22,7 +22,7 @@ use Rattle.tree_nodes.specs.declared.node.Node.{Node}
 use Rattle.tree_nodes.proofs.Readings.{node-took}
 use Rattle.cache_tree.specs.Flat.{Reads, reads-none, reads-more}
 use Rattle.tree_walk.specs.declared.walk.Tally.{Tally}
-use Rattle.tree_lookup.specs.Ahead.{Ahead, After, Left}
+use Rattle.tree_lookup.specs.Ahead.{Ahead, After, Left, Files, files-none, files-more, FilesLeft}
 use Rattle.tree_lookup.proofs.Ahead.{stays-is, stays-in}
 use Rattle.tree_walk.specs.Steps.{NodeAdded, Moved, Tallied}
 
@@ -68,6 +68,44 @@ module _ (c : List ℕ) (f : Forest) (free : (s : List ℕ) → under c s ≡ tr
       (names-passed q whole (done ++ (drop (length q) s ∷ [])) ss (passed-name f q whole done s ss (i .0) (free (drop (length q) s) (i .1)) h))))
       (λ e. rw (e, append-nil done) h)
 
+-- ---- files of a directory
+
+-- n of them, up to those from rest on, after the names done
+record Filed (valid : Bool) (f : Forest) (q : List ℕ) (whole done : List (List ℕ)) (n : ℕ) (rest : List (List ℕ)) : Type 0 where
+  now-done : List (List ℕ)
+  passed : Passed f q whole now-done rest
+  ok : judge valid now-done f ≡ judge valid done f
+  met : matched now-done f ≡ matched done f
+  count : length now-done ≡ length done + n
+
+module _ (valid : Bool) (f : Forest) (q : List ℕ) (whole done ss : List (List ℕ)) (h : Passed f q whole done ss) where
+  files-passed : (n : ℕ) (rest : List (List ℕ)) → Files q ss n rest → Filed valid f q whole done n rest
+  files-passed _ _ files-none = record { now-done = done; passed = h; ok = refl; met = refl; count = omega arith }
+  files-passed _ _ (files-more {x = x} {xs = xs} before file) =
+      let i = files-passed _ _ before in
+      record {
+        now-done = i .now-done ++ (drop (length q) x ∷ []);
+        passed = passed-name f q whole (i .now-done) x xs (file .in-it) (file-unreached _ f (file .alone)) (i .passed);
+        ok = judge-file (i .now-done) _ f (file .alone) valid ∙ i .ok;
+        met = matched-file (i .now-done) _ f (file .alone) ∙ i .met;
+        count = length-append (i .now-done) (drop (length q) x ∷ []) ∙ omega (arith, i .count);
+      }
+
+  pub moved-files : (v : ℕ) (b work : List ℕ) (r : Tally) → r .ok ≡ true → r .met ≡ 0 → FilesLeft v b work (r .front) q ss (r .count) → Moved valid f q whole done v b work r
+  moved-files v b work r ok met left =
+      let i = files-passed _ _ (left .files) in
+      record {
+        now-done = i .now-done;
+        rest = left .rest;
+        last = left .last;
+        passed = i .passed;
+        ok = i .ok ∙ rw ok (sym (and-true (judge valid done f)));
+        met = i .met ∙ omega (arith, met);
+        count = i .count;
+        in-it = left .is-file .in-it;
+        after = left .after;
+      }
+
 -- ---- one part of a directory
 
 pub part-in : (q c x : List ℕ) → begins q x ≡ true → under c (drop (length q) x) ≡ true → begins (enter q c) x ≡ true
@@ -75,20 +113,6 @@ part-in q c x in-q uc = enter-begins q c x ∙ ap₂ _&&_ in-q uc
 
 module _ (valid : Bool) (f : Forest) (q x : List ℕ) (xs whole done : List (List ℕ)) (v : ℕ) (b work : List ℕ) (r : Tally)
     (in-q : begins q x ≡ true) (h : Passed f q whole done (x ∷ xs)) where
-  -- a name with no further "/"
-  pub moved-file : lacks 47 (drop (length q) x) ≡ true → r .ok ≡ true → r .met ≡ 0 → r .count ≡ 1 → After v b work (r .front) x xs → Moved valid f q whole done v b work r
-  moved-file file ok met count after = record {
-    now-done = done ++ (drop (length q) x ∷ []);
-    rest = xs;
-    last = x;
-    passed = passed-name f q whole done x xs in-q (file-unreached _ f file) h;
-    ok = judge-file done _ f file valid ∙ rw ok (sym (and-true (judge valid done f)));
-    met = matched-file done _ f file ∙ omega (arith, met);
-    count = length-append done (drop (length q) x ∷ []) ∙ omega (arith, count);
-    in-it = in-q;
-    after = after;
-  }
-
   -- the names under the component c
   module _ (sound : Sound f) (c : List ℕ) (lc : lacks 47 c ≡ true) (uc : under c (drop (length q) x) ≡ true) where
     in-part : begins (enter q c) x ≡ true
@@ -244,7 +268,7 @@ module _ (valid : Bool) (f : Forest) (q : List ℕ) (whole : List (List ℕ)) (v
   module _ (work : List ℕ) (r : Tally) (h : Walking valid f q whole v b work r) where
     pub walk-on : (ltb 0 (r .front .ahead) && leb (length q) (r .front .common)) ≡ true → Standing valid f q whole v b work r
     walk-on e =
-        stays-in v b work (r .front) (h .last) q (h .rest) (h .after) (h .in-it) e λ y ys is ahead i. record {
+        stays-in v b work (r .front) (h .last) q (h .rest) (h .after) (h .in-it) e λ y ys is ahead c i. record {
           done = h .done;
           next = y;
           rest = ys;

@@ -1,4 +1,4 @@
--- The walk over the names in a directory, part by part: a name with no further "/", or the names under one component. q is the directory's name,
+-- The walk over the names in a directory, part by part: names with no further "/", or the names under one component. q is the directory's name,
 -- with its last "/".
 use mathlib.Core.Path.{_≡_}
 use mathlib.Core.List.{List, _∷_}

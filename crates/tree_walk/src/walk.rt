@@ -1,7 +1,7 @@
 // The walk over the entries: what it tests of the counts of a cache tree.
 use tree_lookup::front::Front;
-use tree_lookup::front::advance;
 use tree_lookup::front::pass;
+use tree_lookup::front::pass_files;
 use tree_lookup::front::stays;
 use tree_lookup::look::Look;
 use tree_lookup::look::look_up;
@@ -107,8 +107,8 @@ fn add_node(node: Node, t: Tally, place: u32, left: u32) -> Tally
     }
 }
 
-// One part of a directory's entries: the first ahead where it has no further "/" after its first q bytes, or all in the directory of its next
-// component, which are passed here where that has no node. k nodes stand at a place; the node above them is valid or not.
+// One part of a directory's entries: the files ahead, which have no further "/" after their first q bytes, where the first is one, or else all in
+// the directory of its next component, which are passed here where that has no node. k nodes stand at a place; the node above them is valid or not.
 fn take_part(
     d: &[u8],
     at: usize,
@@ -143,8 +143,9 @@ fn take_part(
     );
     match look {
         Look::File => {
-            let next = advance(b, v, work, s);
-            Part::Flat(told(true, 1, next, place, left))
+            let gone = pass_files(b, v, work, s, q);
+            let next = gone.front;
+            Part::Flat(told(true, gone.count, next, place, left))
         }
         Look::Missing(e) => {
             let gone = pass(b, v, work, s, e);

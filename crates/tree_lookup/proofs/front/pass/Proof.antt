@@ -1,21 +1,21 @@
 -- The proof that `pass` meets its contract. The loop keeps that the names in the directory are passed in part.
-use mathlib.Core.Path.{_≡_, refl, sym, ap, _∙_}
+use mathlib.Core.Path.{_≡_, sym, ap, _∙_}
 use mathlib.Core.List.{List}
 use mathlib.Core.Bool.{true, _&&_}
-use Prim.Native.Nat.{ℕ, _+_, _≤_}
+use Prim.Native.Nat.{ℕ}
 use native.Mathlib.Omega.{arith}
 use borrow.Author.Needs.{needs}
-use lib.ListN.{length, drop}
+use lib.ListN.{length}
 use lib.Dec.{leb, ltb}
 use Rattle.tree_counts.specs.Runs.{begins}
-use Rattle.tree_lookup.specs.Ahead.{Fits, After}
-use Rattle.tree_lookup.proofs.Ahead.{Passing, pass-start, pass-on, pass-end, stays-some}
+use Rattle.tree_lookup.specs.Ahead.{After}
+use Rattle.tree_lookup.proofs.Ahead.{Going, going-start, going-on, going-end, Passing, pass-start, pass-on, pass-end, stays-some}
 use Rattle.tree_lookup.proofs.front.pass.Statement.{statement}
 use Rattle.tree_lookup.proofs.front.pass.Tie as tie
 
 abbrev Inv-loop : tie.InvT-loop
 Inv-loop b v work₀ q front₀ count₀ work front count =
-    Fits b front × (count + front .ahead ≤ 1 + front₀ .ahead) × (front₀ .ahead ≤ 4294967296) × (1 ≤ count) × (8192 ≤ length work) × (length work ≡ length work₀) × (drop 8192 work ≡ drop 8192 work₀)
+    Going b work₀ front₀ work front count
     × ((last : List ℕ) (xs : List (List ℕ)) (p : List ℕ) → After v b work₀ front₀ last xs → begins p last ≡ true → length p ≡ q → Passing v b work front p xs count)
 
 abbrev μ-loop : tie.MeasureT-loop
@@ -25,54 +25,39 @@ advance-requires : tie.Need-advance-requires Inv-loop μ-loop
 advance-requires c κs = search needs
 
 loop-holds : tie.Need-loop-holds Inv-loop μ-loop
-loop-holds c =
-    let t = c .before .before .advance .ensures in
-    let long = t .long in
-    (t .fits, omega arith, t .fits .few, omega arith, omega arith, refl, refl, λ last xs p h i e. pass-start _ _ p xs _ _ last h i)
+loop-holds c = (going-start _ _ _ _ _ _ (c .before .before .advance .ensures) (c .before .before .before .before .before .before .pre .1), λ last xs p h i e. pass-start _ _ p xs _ _ last h i)
 
 stays-requires : tie.Need-stays-requires Inv-loop μ-loop
 stays-requires c κs = search needs
 
 advance-requires-2 : tie.Need-advance-requires-2 Inv-loop μ-loop
-advance-requires-2 c κs = (c .before .before .before .loop .inv .0, c .before .before .before .loop .inv .4)
+advance-requires-2 c κs = let h = c .before .before .before .loop .inv .0 in (h .fits, h .room)
 
 add-count : tie.Need-add-count Inv-loop μ-loop
 add-count c =
     let a = c .before .before in
     let l = a .before .before .before .before in
-    let t = a .advance2 .ensures in
+    let st = l .before .before .before .before .before .before .before in
     let on = sym (a .before .before .before .stays .ensures) ∙ a .before .before .if1 .taken in
-    let some : 1 ≤ l .loop .front .ahead = stays-some (l .loop .front) (l .before .before .before .before .before .before .before .args .q) on in
-    let fewer = t .fewer in
-    omega arith
+    omega (arith, l .loop .inv .0 .fewer, l .loop .inv .0 .few, stays-some (l .loop .front) (st .args .q) on)
 
 loop-less : tie.Need-loop-less Inv-loop μ-loop
 loop-less c =
     let a = c .before .before in
     let l = a .before .before .before .before in
-    let t = a .advance2 .ensures in
+    let st = l .before .before .before .before .before .before .before in
     let on = sym (a .before .before .before .stays .ensures) ∙ a .before .before .if1 .taken in
-    let some : 1 ≤ l .loop .front .ahead = stays-some (l .loop .front) (l .before .before .before .before .before .before .before .args .q) on in
-    let fewer = t .fewer in
-    omega arith
+    omega (arith, a .advance2 .ensures .fewer, stays-some (l .loop .front) (st .args .q) on)
 
 loop-again : tie.Need-loop-again Inv-loop μ-loop
 loop-again c =
     let a = c .before .before in
     let l = a .before .before .before .before in
+    let st = l .before .before .before .before .before .before .before in
     let t = a .advance2 .ensures in
-    let on = sym (a .before .before .before .stays .ensures) ∙ a .before .before .if1 .taken in
-    let some : 1 ≤ l .loop .front .ahead = stays-some (l .loop .front) (l .before .before .before .before .before .before .before .args .q) on in
-    let fewer = t .fewer in
-    let long = t .long in (
-      t .fits,
-      omega arith,
-      l .loop .inv .2,
-      omega arith,
-      omega arith,
-      t .long ∙ l .loop .inv .5,
-      t .past ∙ l .loop .inv .6,
-      λ last xs p h i e. pass-on _ _ p xs _ _ _ (l .loop .inv .7 last xs p h i e) _ _ (ap (λ (k : ℕ). ltb 0 (l .loop .front .ahead) && leb k (l .loop .front .common)) e ∙ on) t,
+    let on = sym (a .before .before .before .stays .ensures) ∙ a .before .before .if1 .taken in (
+      going-on _ _ _ _ _ _ _ _ _ (l .loop .inv .0) (stays-some (l .loop .front) (st .args .q) on) t,
+      λ last xs p h i e. pass-on _ _ p xs _ _ _ (l .loop .inv .1 last xs p h i e) _ _ (ap (λ (k : ℕ). ltb 0 (l .loop .front .ahead) && leb k (l .loop .front .common)) e ∙ on) t,
     )
 
 same-length : tie.Need-same-length Inv-loop μ-loop
@@ -82,16 +67,12 @@ returns : tie.Need-returns Inv-loop μ-loop
 returns c =
     let l = c .before .before in
     let t = l .before .before .before .advance .ensures in
+    let st = l .before .before .before .before .before .before .before in
     let off = sym (c .before .stays .ensures) ∙ c .if1 .left in
-    let fewer = t .fewer in
     record {
-      fits = l .loop .inv .0;
-      fewer = omega arith;
-      some = l .loop .inv .3;
-      long = l .loop .inv .5 ∙ t .long;
-      past = l .loop .inv .6 ∙ t .past;
+      gone = going-end _ _ _ _ _ _ t (st .pre .2) _ _ _ (l .loop .inv .0);
       passed = λ p x xs h i e.
-          let g = l .loop .inv .7 x xs p (t .after x xs h) i e in
+          let g = l .loop .inv .1 x xs p (t .after x xs h) i e in
           pass-end _ _ p xs _ _ _ g x i (ap (λ (k : ℕ). ltb 0 (l .loop .front .ahead) && leb k (l .loop .front .common)) e ∙ off);
     }
 

@@ -1,7 +1,7 @@
 -- The proof that `take_part` meets its contract.
 use mathlib.Core.Path.{refl, sym, _∙_}
 use native.Mathlib.Omega.{arith}
-use Rattle.tree_walk.proofs.Parts.{part-file, part-missing, part-lost}
+use Rattle.tree_walk.proofs.Parts.{part-files, part-missing, part-lost}
 use borrow.Author.Needs.{needs}
 use Rattle.tree_walk.proofs.walk.take_part.Statement.{statement}
 use Rattle.tree_walk.proofs.walk.take_part.Tie as tie
@@ -12,8 +12,8 @@ look-up-requires c κs = search needs
 enum-told : tie.Need-enum-told
 enum-told c = search needs
 
-advance-requires : tie.Need-advance-requires
-advance-requires c κs = search needs
+pass-files-requires : tie.Need-pass-files-requires
+pass-files-requires c κs = search needs
 
 told-requires : tie.Need-told-requires
 told-requires c κs = search needs
@@ -47,8 +47,8 @@ told-requires-3 c κs = search needs
 enum-known-read : tie.Need-enum-known-read
 enum-known-read c = search needs
 
-cast-t40 : tie.Need-cast-t40
-cast-t40 c =
+cast-t41 : tie.Need-cast-t41
+cast-t41 c =
     let look = rw (c .before .before .before .before .before .look2 .given .1) at (c .before .before .before .before .before .before .before .look-up .ensures) in
     omega (arith, look .0 .most, c .before .before .before .before .before .before .before .before .before .before .before .before .before .before .pre .0 .small)
 
@@ -57,9 +57,9 @@ same-length c = search needs
 
 returns : tie.Need-returns
 returns c =
-    let st = c .before .before .before .before .before .before .before .before .before .before .before .before .before .before in
-    let look = rw (c .before .before .before .before .before .enum-told .given .1) at (c .before .before .before .before .before .before .before .look-up .ensures) in
-    (record { is = rw (c .told .ensures) (part-file _ _ _ _ _ _ _ _ _ _ _ _ (st .pre .0) (st .pre .1) (st .pre .2) (look .0) _ (c .before .before .before .advance .ensures)) }, look .1, look .2)
+    let st = c .before .before .before .before .before .before .before .before .before .before .before .before .before .before .before in
+    let look = rw (c .before .before .before .before .before .before .enum-told .given .1) at (c .before .before .before .before .before .before .before .before .look-up .ensures) in
+    (record { is = rw (c .told .ensures) (part-files _ _ _ _ _ _ _ _ _ _ _ _ (st .pre .0) (st .pre .1) (st .pre .2) (look .0) _ (c .before .before .before .before .pass-files .ensures)) }, look .1, look .2)
 
 same-length-2 : tie.Need-same-length-2
 same-length-2 c = search needs
@@ -93,7 +93,7 @@ take-part-spec =
     (tie.spec
     look-up-requires
     enum-told
-    advance-requires
+    pass-files-requires
     told-requires
     enum-known-look
     pass-requires
@@ -104,7 +104,7 @@ take-part-spec =
     ended-requires
     told-requires-3
     enum-known-read
-    cast-t40
+    cast-t41
     same-length
     returns
     same-length-2
