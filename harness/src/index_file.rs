@@ -215,8 +215,9 @@ fn full_tree(data: &mut Vec<u8>, name: &[u8], names: &[&[u8]], order: Order) {
 pub fn subdirectories<'a>(names: &[&'a [u8]]) -> Vec<(&'a [u8], Vec<&'a [u8]>)> {
     let mut found: Vec<(&[u8], Vec<&[u8]>)> = Vec::new();
     for name in names {
-        let Some(slash) = name.iter().position(|&byte| byte == b'/') else {
-            continue;
+        let slash = match name.iter().position(|&byte| byte == b'/') {
+            Some(slash) => slash,
+            None => continue,
         };
         let (directory, below) = (&name[..slash], &name[slash + 1..]);
         match found.last_mut() {

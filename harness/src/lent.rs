@@ -4,7 +4,7 @@
 //! only read stand on pages that cannot be written. The pages are mapped once and lent again and again. On the heap,
 //! each lending is an allocation of its own and of its exact size, as valgrind wants it.
 
-use std::ffi::{c_int, c_void};
+use std::os::raw::{c_int, c_void};
 use std::ptr::null_mut;
 use std::slice::{from_raw_parts, from_raw_parts_mut};
 
@@ -56,9 +56,14 @@ struct Pages {
     sealed: Option<(usize, usize)>,
 }
 
+/// So many bytes, rounded up to whole pages.
+fn whole_pages(bytes: usize) -> usize {
+    (bytes + PAGE - 1) / PAGE * PAGE
+}
+
 impl Pages {
     fn new(capacity: usize) -> Self {
-        let length = capacity.next_multiple_of(PAGE);
+        let length = whole_pages(capacity);
         let flags = MAP_PRIVATE | MAP_ANONYMOUS | MAP_NORESERVE;
         // SAFETY: a new mapping at an address of the system's choice.
         let address = unsafe { mmap(null_mut(), length + 2 * PAGE, PROT_NONE, flags, -1, 0) };
@@ -82,7 +87,7 @@ impl Pages {
     /// Makes the pages of some bytes ones that cannot be written.
     fn seal(&mut self, bytes: *mut u8, length: usize) {
         let start = bytes as usize - self.first as usize;
-        let end = (start + length).next_multiple_of(PAGE);
+        let end = whole_pages(start + length);
         let start = start / PAGE * PAGE;
         self.protect(start, end, PROT_READ);
         self.sealed = Some((start, end));
@@ -190,8 +195,9 @@ impl Lent {
 
     /// Sees that the guard bytes are as they were.
     pub fn guards_stay(&self) -> Result<(), String> {
-        let Some(guard) = self.guard() else {
-            return Ok(());
+        let guard = match self.guard() {
+            Some(guard) => guard,
+            None => return Ok(()),
         };
         // SAFETY: the guard bytes are part of the memory, and nothing writes to them at present.
         let now = unsafe { from_raw_parts(guard, GUARD) };

@@ -22,7 +22,7 @@ fn painted(paint: u8, mut call: &mut dyn FnMut()) -> usize {
             "xchg rsp, r12",
             "call {enter}",
             "mov rsp, r12",
-            enter = sym enter,
+            enter = in(reg) enter as extern "C" fn(&mut &mut dyn FnMut()),
             inout("r12") stack.as_mut_ptr().add(top) => _,
             in("rdi") &mut call,
             clobber_abi("C"),

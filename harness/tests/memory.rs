@@ -6,7 +6,6 @@ use harness::lent::{Edge, Lent, Place};
 use harness::{ffi, vectors};
 use nerupazhil::raw;
 use std::env;
-use std::hint::black_box;
 use std::os::unix::process::ExitStatusExt;
 use std::path::PathBuf;
 use std::process::{Command, ExitStatus};
@@ -193,7 +192,7 @@ fn a_read_behind_the_last_byte_dies() {
     dies("a_read_behind_the_last_byte_dies", || {
         let (_lent, first) = lend(Place::Pages, Edge::End, 100);
         // SAFETY: none; the process ends here.
-        black_box(unsafe { first.add(100).read_volatile() });
+        let _read = unsafe { first.add(100).read_volatile() };
     });
 }
 
@@ -212,7 +211,7 @@ fn a_write_to_what_is_only_read_dies() {
         let mut lent = Lent::new("bytes", Place::Pages, 100);
         lent.read_only(&[1; 100], Edge::Start);
         // SAFETY: none; the process ends here.
-        unsafe { lent.bytes().as_ptr().cast_mut().write_volatile(1) };
+        unsafe { (lent.bytes().as_ptr() as *mut u8).write_volatile(1) };
     });
 }
 

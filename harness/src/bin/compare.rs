@@ -68,7 +68,7 @@ struct Run {
 
 impl Run {
     fn new(words: &[String]) -> Option<Self> {
-        let place = match words.first().is_some_and(|word| word == "--heap") {
+        let place = match words.first().map_or(false, |word| word == "--heap") {
             true => Place::Heap,
             false => Place::Pages,
         };
@@ -250,8 +250,9 @@ impl Comparison {
         let edge = *random.pick(&[Edge::Start, Edge::End]);
         self.file.read_only(&input.bytes, edge);
         self.name.read_only(b"", edge);
-        let Reply::Check(checked) = self.both(&Call::Check, WORKSPACE, 0)? else {
-            return Err("check has another reply".to_string());
+        let checked = match self.both(&Call::Check, WORKSPACE, 0)? {
+            Reply::Check(checked) => checked,
+            _ => return Err("check has another reply".to_string()),
         };
         self.counts.input(input.kind, checked.refusal == 0);
         if input.sound && checked.refusal > 0 {
@@ -296,8 +297,9 @@ impl Comparison {
 
     /// Walks over all entries and one step further.
     fn walk(&mut self) -> Result<(), String> {
-        let Reply::Start(start) = self.both(&Call::WalkStart, WORKSPACE, 0)? else {
-            return Err("walk_start has another reply".to_string());
+        let start = match self.both(&Call::WalkStart, WORKSPACE, 0)? {
+            Reply::Start(start) => start,
+            _ => return Err("walk_start has another reply".to_string()),
         };
         let (mut at, mut left) = (start.at, start.left);
         for _ in 0..=start.left {

@@ -244,8 +244,9 @@ impl Layout {
         }
         for part in self.parts_of(Field::Entry) {
             let (flags, name, last) = (part.first + FLAGS, part.end - 2, part.end - 1);
-            let [high, low] = self.store[self.pieces[flags].clone()] else {
-                continue;
+            let (high, low) = match self.store[self.pieces[flags].clone()] {
+                [high, low] => (high, low),
+                _ => continue,
             };
             let length = self.pieces[name].len().min(4095) as u16;
             let new = u16::from_be_bytes([high, low]) & 0xf000 | length;

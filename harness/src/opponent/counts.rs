@@ -57,8 +57,9 @@ pub fn right(entries: &Entries, tree: &Tree) -> bool {
 
 /// Whether a node has the right count, if it is valid, and nothing invalid below it.
 fn agrees(tree: &Tree, node: &Node, tally: &Tally) -> bool {
-    let Some(count) = node.count else {
-        return true;
+    let count = match node.count {
+        Some(count) => count,
+        None => return true,
     };
     let counts = node.subtrees.iter().map(|below| tree.nodes[*below].count);
     let below: Option<u64> = counts.map(|count| count.map(u64::from)).sum();
@@ -100,8 +101,9 @@ impl Pass<'_, '_> {
     fn enter(&mut self, name: &[u8]) {
         while let Some(node) = self.node() {
             let rest = &name[self.path.len()..];
-            let Some(slash) = rest.iter().position(|byte| *byte == b'/') else {
-                return;
+            let slash = match rest.iter().position(|byte| *byte == b'/') {
+                Some(slash) => slash,
+                None => return,
             };
             self.path.extend_from_slice(&rest[..=slash]);
             let directory = Directory {

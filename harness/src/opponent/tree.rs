@@ -68,8 +68,9 @@ impl<'a> Tree<'a> {
         for component in components {
             let subtrees = &self.nodes[node].subtrees;
             let found = subtrees.binary_search_by(|below| order(self.name(*below), component));
-            let Ok(place) = found else {
-                return;
+            let place = match found {
+                Ok(place) => place,
+                Err(_) => return,
             };
             node = subtrees[place];
             self.nodes[node].count = None;

@@ -57,13 +57,13 @@ fn check_request(asked: u32, change: Option<Change>) -> Result<(), u32> {
     if !matches!(asked, 0 | 2..=4) {
         return Err(refusal::VERSION);
     }
-    let Some(Change {
-        name,
-        stage,
-        put: Some(fields),
-    }) = change
-    else {
-        return Ok(());
+    let (name, stage, fields) = match change {
+        Some(Change {
+            name,
+            stage,
+            put: Some(fields),
+        }) => (name, stage, fields),
+        _ => return Ok(()),
     };
     if !MODES.contains(&fields.mode) {
         return Err(refusal::MODE);
@@ -82,7 +82,7 @@ fn check_request(asked: u32, change: Option<Change>) -> Result<(), u32> {
 fn version(contents: &Contents, asked: u32, change: Option<Change>) -> Result<u32, u32> {
     let entries = &contents.entries;
     let put = change.and_then(|change| change.put);
-    let mut needed = put.is_some_and(|fields| word(&fields) != 0);
+    let mut needed = put.map_or(false, |fields| word(&fields) != 0);
     let mut found = false;
     let mut before = Vec::new();
     for item in &entries.items {
@@ -168,8 +168,9 @@ impl Writer {
 
     /// Adds an entry, if there is one.
     fn add(&mut self, entry: Option<(&[u8], Fields)>) {
-        let Some((name, fields)) = entry else {
-            return;
+        let (name, fields) = match entry {
+            Some(entry) => entry,
+            None => return,
         };
         let place = self.bytes.len();
         self.fixed(name, &fields);
