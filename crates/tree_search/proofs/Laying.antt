@@ -9,7 +9,7 @@ use lib.Dec.{eqb}
 use borrow.Author.Tests.{eqb-true, eqb-false}
 use Rattle.format_laws.proofs.Tests.{by-test}
 use Rattle.tree_search.specs.Siblings.{Lane}
-use Rattle.tree_search.specs.Table.{noteAt, Lanes, Known}
+use Rattle.tree_search.specs.Table.{noteAt, Says, Lanes, Known}
 use Rattle.tree_search.proofs.Slots.{three-length, three-first, three-second, three-third, three-other}
 
 -- none of them begins yet
@@ -61,6 +61,9 @@ known-lanes d at k t lanes = record {
   is = λ some. absurd (omega (arith, lanes .only));
   lanes = λ some. rw (lanes .place, lanes .number) lanes;
 }
+
+pub lanes-say : (d : List ℕ) (at k : ℕ) (t : List ℕ) → Lanes d at k t → 1 ≤ k → Says t 2051 at k
+lanes-say d at k t lanes some = record { place = lanes .place; number = lanes .number; some = some }
 
 -- the lane that a table has at i
 pub lane-of : (d t : List ℕ) → Known d t → 1 ≤ getD t 2052 0 → (i : ℕ) → i < 1024 → (from : ℕ) → from ≡ getD t i 0 → (noteAt t i ≡ 0 → ⊥)
