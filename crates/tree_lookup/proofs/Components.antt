@@ -16,26 +16,15 @@ use Rattle.tree_counts.specs.Judge.{child}
 use Rattle.cache_tree.specs.Flat.{Reads}
 use Rattle.tree_search.specs.declared.child.Child.{Child}
 use Rattle.tree_search.specs.declared.child.Child.the-variants as C
+use Rattle.tree_search.specs.declared.child.Answer.the-variants as A
 use Rattle.tree_lookup.specs.declared.front.Front.{Front}
 use Rattle.tree_lookup.specs.declared.look.Look.{Look}
 use Rattle.tree_lookup.specs.declared.look.Look.the-variants as L
-use Rattle.tree_search.specs.Siblings.{Last, FoundAt, Sought, placeIn}
+use Rattle.tree_search.specs.Siblings.{Last, FoundAt, Sought, ToldSoon}
 use Rattle.tree_lookup.specs.Ahead.{Fits}
 use Rattle.tree_lookup.specs.Components.{component, Component, lookOf, LookedUp}
 
--- ---- the first name ahead
-
--- what was looked up of it
-pub at-name : (v : ℕ) (b work : List ℕ) (start len : ℕ) (d : List ℕ) (at k place left q : ℕ) (r : Look) (x : List ℕ) → x ≡ nameAt v b work start len → length x ≡ len
-    → LookedUp d at k place left x (length x) q r → LookedUp d at k place left (nameAt v b work start len) len q r
-at-name v b work start len d at k place left q r x e i h = rw (← e, ← i) h
-
-pub fits-length : (v : ℕ) (b work : List ℕ) (s : Front) → Fits b s → 8192 ≤ length work → (x : List ℕ) → x ≡ nameAt v b work (s .cursor .start) (s .cursor .len) → length x ≡ s .cursor .len
-fits-length v b work s fits room x e = ap length e ∙ nameAt-length v b work (s .cursor) (fits .inside) room
-
--- ---- its next component
-
--- in the name x, whose first "/" after k bytes is at e
+-- ---- in the name x, whose first "/" after k bytes is at e
 module _ (x : List ℕ) (k e : ℕ) (is : e ≡ k + before 47 (drop k x)) where
   pub name-file : k ≤ length x → e ≡ length x → lacks 47 (drop k x) ≡ true
   name-file l h = sym (lacks-end 47 (drop k x)) ∙ eq-eqb (before 47 (drop k x)) (length (drop k x)) (omega (arith, length-drop k x))
@@ -76,6 +65,23 @@ module _ (x : List ℕ) (k e : ℕ) (is : e ≡ k + before 47 (drop k x)) where
         is = λ f m differ r last. (name-component l more, subst (λ (c : List ℕ). FoundAt d f c p n) component-is (t f m differ r last));
       }
 
-      pub look-child : (r : Child) → at ≤ placeIn (length d) r → placeIn (length d) r ≤ length d → Told r → LookedUp d at siblings place left x (length x) k (lookOf (e + 1) r)
-      look-child C.Missing least most t = look-missing t
-      look-child (C.Found p n) least most t = look-found p n least most t
+      pub look-child : (r : Child) → ToldSoon d at siblings place left (take (e - k) (drop k x)) (A.Known r) → LookedUp d at siblings place left x (length x) k (lookOf (e + 1) r)
+      look-child C.Missing t = look-missing (t .is)
+      look-child (C.Found p n) t = look-found p n (t .least) (t .most) (t .is)
+
+-- ---- in the first name ahead, x
+
+module _ (v : ℕ) (b work : List ℕ) (s : Front) (fits : Fits b s) (room : 8192 ≤ length work) (x : List ℕ) (named : x ≡ nameAt v b work (s .cursor .start) (s .cursor .len)) where
+  pub fits-length : length x ≡ s .cursor .len
+  fits-length = ap length named ∙ nameAt-length v b work (s .cursor) (fits .inside) room
+
+  module _ (q : ℕ) (l : q ≤ s .cursor .len) (e : ℕ) (is : e ≡ q + before 47 (drop q x)) (d : List ℕ) (at place left : ℕ) (after : at ≤ place) (inside : place ≤ length d) (siblings : ℕ) where
+    -- what a look at it answers
+    abbrev Answers : Look → Type 0
+    Answers r = LookedUp d at siblings place left (nameAt v b work (s .cursor .start) (s .cursor .len)) (s .cursor .len) q r
+
+    pub ahead-file : e ≡ length x → Answers L.File
+    ahead-file h = rw (← named, ← fits-length) (look-file x q e is d at place left after inside (omega (arith, fits-length)) siblings h)
+
+    pub ahead-child : (e ≡ length x → ⊥) → e ≤ length x → (r : Child) → ToldSoon d at siblings place left (take (e - q) (drop q x)) (A.Known r) → Answers (lookOf (e + 1) r)
+    ahead-child other most r t = rw (← named, ← fits-length) (look-child x q e is d at place left after inside (omega (arith, fits-length)) siblings (omega arith) r t)

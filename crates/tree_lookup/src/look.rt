@@ -7,21 +7,20 @@ use tree_search::child::Answer;
 use tree_search::child::Child;
 use tree_search::child::is_long;
 use tree_search::keys::Table;
+use tree_search::lanes::is_laid;
+use tree_search::lanes::lay;
+use tree_search::lanes::recall_lane;
+use tree_search::seek::find_late;
+use tree_search::seek::find_soon;
 use tree_search::table::clear;
-use tree_search::table::find_late;
-use tree_search::table::find_soon;
 use tree_search::table::is_of;
 use tree_search::table::settle;
 use tree_search::table::want_siblings;
 ghost use mathlib.Core.Path.{_≡_};
-ghost use mathlib.Core.Bool.{true};
-ghost use Prim.Native.Nat.{ℕ, _≤_};
-ghost use lib.ListN.{length, drop};
-ghost use Rattle.format.specs.Records.{Forest};
-ghost use Rattle.format.specs.Layout.{distinct};
-ghost use Rattle.cache_tree.specs.Flat.{Reads};
+ghost use Prim.Native.Nat.{_≤_};
+ghost use lib.ListN.{length};
 ghost use Rattle.entries_run.specs.Steps.{nameAt};
-ghost use Rattle.tree_search.specs.Siblings.{Sought, placeIn};
+ghost use Rattle.tree_search.specs.Siblings.{Told, Finds};
 ghost use Rattle.tree_search.specs.Table.{Known};
 ghost use Rattle.tree_lookup.specs.Ahead.{Fits};
 ghost use Rattle.tree_lookup.specs.Components.{lookOf, LookedUp};
@@ -82,7 +81,7 @@ fn want_keys(
     steps: u32,
     t: &mut Table,
 )
-    requires { ⌜ (at ≤ length (now d)) × (length (now d) ≤ 16777216) × Fits (now b) s × (8192 ≤ length (now work)) × (q ≤ s .cursor .len) × (length (now t) ≡ 2051) ⌝ }
+    requires { ⌜ (at ≤ length (now d)) × (length (now d) ≤ 16777216) × Fits (now b) s × (8192 ≤ length (now work)) × (q ≤ s .cursor .len) × (length (now t) ≡ 2053) ⌝ }
     ensures { λ _. ⌜ length (now (t .exit)) ≡ length (now (t .entry)) ⌝ }
 {
     if are_few(d, at, k, t) {
@@ -94,7 +93,25 @@ fn want_keys(
     gather(b, v, work, q, s, n, t);
 }
 
-// The one of k siblings at a place that has this name, by a table that is made for it.
+// The one of k siblings at a place that has this name, where they are many: by lanes that are laid for it in a table, if that was not of them before.
+fn find_laid(d: &[u8], at: usize, k: u32, name: &[u8], t: &mut Table) -> Answer
+    requires { ⌜ (at ≤ length (now d)) × (length (now d) ≤ 16777216) × Known (now d) (now t) ⌝ }
+    ensures { λ r. ⌜ Known (now (d .entry)) (now (t .exit)) × Told (now (d .entry)) at k (now (name .entry)) r ⌝ }
+{
+    if k <= 512 {
+        return Answer::Unknown;
+    }
+    if is_of(t, at, k) {
+        return Answer::Unknown;
+    }
+    if is_laid(t, at, k) {
+        return Answer::Unknown;
+    }
+    lay(d, at, k, name, t);
+    recall_lane(d, name, t)
+}
+
+// The same by a table that is made for it: by its lanes, else by the keys that are wanted in it.
 fn find_by(
     d: &[u8],
     at: usize,
@@ -109,8 +126,12 @@ fn find_by(
     t: &mut Table,
 ) -> Child
     requires { ⌜ (at ≤ length (now d)) × (length (now d) ≤ 16777216) × Fits (now b) s × (8192 ≤ length (now work)) × (q ≤ s .cursor .len) × Known (now d) (now t) ⌝ }
-    ensures { λ r. ⌜ Known (now (d .entry)) (now (t .exit)) × (at ≤ placeIn (length (now (d .entry))) r) × (placeIn (length (now (d .entry))) r ≤ length (now (d .entry))) × ((f : Forest) (m : ℕ) → distinct f ≡ true → Reads (drop at (now (d .entry))) f k m → Sought (now (d .entry)) f (now (name .entry)) r) ⌝ }
+    ensures { λ r. ⌜ Known (now (d .entry)) (now (t .exit)) × Finds (now (d .entry)) at k (now (name .entry)) r ⌝ }
 {
+    let told = find_laid(d, at, k, name, t);
+    if let Answer::Known(child) = told {
+        return child;
+    }
     want_keys(d, at, k, b, v, work, q, s, steps, t);
     settle(d, at, k, t);
     find_late(d, at, k, name, t)

@@ -1,7 +1,7 @@
 -- Laws of a table of siblings: one more is noted, all are.
 use mathlib.Core.Path.{_≡_, refl, sym, ap, subst, _∙_}
 use mathlib.Core.List.{List}
-use mathlib.Core.Bool.{true, false, _&&_}
+use mathlib.Core.Bool.{true, false}
 use mathlib.Core.Option.{none}
 use Prim.Native.Nat.{ℕ, _+_, _-_, _%_, _≤_, _<_}
 use native.Mathlib.Omega.{arith}
@@ -13,14 +13,14 @@ use Rattle.format.specs.Bytes.{eqList}
 use Rattle.format.specs.Records.{Forest, nil}
 use Rattle.format.specs.Layout.{distinct}
 use Rattle.tree_counts.specs.Judge.{child}
-use Rattle.format_laws.proofs.Tests.{by-test, and-inv}
+use Rattle.format_laws.proofs.Tests.{by-test}
 use Rattle.format_laws.proofs.Lists.{eqList-true}
 use Rattle.cache_tree.specs.Flat.{treesLength, nameOf, Reads}
 use Rattle.tree_search.specs.Siblings.{Last, FoundAt}
 use Rattle.tree_search.specs.Keys.{probe, slotOf, keyOf}
 use Rattle.tree_search.specs.Table.{keyIn, slotFor, Wanted, noteAt, noted, Inside, Noted, Known}
 use Rattle.tree_search.proofs.Siblings.{reads-empty, child-none, last-one, last-next, last-here, last-on}
-use Rattle.tree_search.proofs.Slots.{probe-same, probe-most, set-zero}
+use Rattle.tree_search.proofs.Slots.{probe-same, probe-most, three-length, three-other, three-first, three-second, three-third}
 
 pub slot-most : (t y : List ℕ) → slotFor t y < 1024
 unfolding slotFor slotOf
@@ -57,7 +57,7 @@ noted-alike d f t u rest alike same h = record {
     note-is y = sym (same (slotFor t y) (slot-most t y)) ∙ ap (noteAt u) (sym (same-slot u t alike y))
 
 -- the sibling at a place is noted; t is the table before
-module _ (d : List ℕ) (f : Forest) (t : List ℕ) (long : length t ≡ 2051) (place left : ℕ) (last : Last d f place left) (some-left : 0 < left)
+module _ (d : List ℕ) (f : Forest) (t : List ℕ) (long : length t ≡ 2053) (place left : ℕ) (last : Last d f place left) (some-left : 0 < left)
     (next : ℕ) (is : next ≡ place + treesLength 1 (drop place d)) (h : Noted d f t (last .siblings)) where
   abbrev here : ℕ
   here = slotFor t (nameOf (drop place d))
@@ -161,7 +161,7 @@ pub record Noting (d : List ℕ) (f : Forest) (t : List ℕ) (place left : ℕ) 
   pub last : Last d f place left
   pub is : Noted d f t (last .siblings)
 
-pub noting-on : (d : List ℕ) (f : Forest) (t : List ℕ) → length t ≡ 2051 → (place left : ℕ) → Noting d f t place left → 0 < left
+pub noting-on : (d : List ℕ) (f : Forest) (t : List ℕ) → length t ≡ 2053 → (place left : ℕ) → Noting d f t place left → 0 < left
     → (next : ℕ) → next ≡ place + treesLength 1 (drop place d) → Noting d f (noted d place t) next (left - 1)
 noting-on d f t long place left h l next is = record { last = after d f t long place left (h .last) l next is (h .is); is = noted-on d f t long place left (h .last) l next is (h .is) }
 
@@ -192,19 +192,19 @@ noted-length d place t =
     (λ q. rw q)
 
 -- what holds of a number that was noted, and of what is noted elsewhere
-put-note : (P : ℕ → Type 0) (t : List ℕ) → length t ≡ 2051 → (i j v : ℕ) → i < 1024 → P v → P (noteAt t j) → P (noteAt (set t (1024 + i) v) j)
+put-note : (P : ℕ → Type 0) (t : List ℕ) → length t ≡ 2053 → (i j v : ℕ) → i < 1024 → P v → P (noteAt t j) → P (noteAt (set t (1024 + i) v) j)
 put-note P t long i j v l a b =
     by-test (eqb j i)
     (λ e. subst P (sym (ap (noteAt (set t (1024 + i) v)) (eqb-true j i e) ∙ getD-set-same t (1024 + i) v 0 (omega arith))) a)
     (λ e. subst P (sym (getD-set-other t (1024 + i) (1024 + j) v 0 (λ x. eqb-false j i e (omega arith)))) b)
 
-put-inside : (d : List ℕ) (at : ℕ) (t : List ℕ) → length t ≡ 2051 → (i v : ℕ) → i < 1024 → v ≤ length d + 2 → (2 ≤ v → at + 2 ≤ v) → Inside d at t → Inside d at (set t (1024 + i) v)
+put-inside : (d : List ℕ) (at : ℕ) (t : List ℕ) → length t ≡ 2053 → (i v : ℕ) → i < 1024 → v ≤ length d + 2 → (2 ≤ v → at + 2 ≤ v) → Inside d at t → Inside d at (set t (1024 + i) v)
 put-inside d at t long i v l a b h = record {
   most = λ j k. put-note (λ x. x ≤ length d + 2) t long i j v l a (h .most j k);
   least = λ j k. put-note (λ x. 2 ≤ x → at + 2 ≤ x) t long i j v l b (h .least j k);
 }
 
-pub noted-inside : (d : List ℕ) (at place : ℕ) (t : List ℕ) → length t ≡ 2051 → at ≤ place → place ≤ length d → Inside d at t → Inside d at (noted d place t)
+pub noted-inside : (d : List ℕ) (at place : ℕ) (t : List ℕ) → length t ≡ 2053 → at ≤ place → place ≤ length d → Inside d at t → Inside d at (noted d place t)
 unfolding noted
 noted-inside d at place t long least most h =
     let name = nameOf (drop place d) in
@@ -217,49 +217,54 @@ noted-inside d at place t long least most h =
 
 -- ---- a whole table
 
-known-none : (d t : List ℕ) → length t ≡ 2051 → ((i : ℕ) → i < 1024 → noteAt t i ≡ 0) → getD t 2049 0 ≡ 0 → Known d t
-known-none d t long clear z = record {
-  long = long;
-  inside = clear-inside d t clear (getD t 2048 0);
-  is = λ f m differ r. subst (Noted d f t) (reads-empty _ _ _ _ r (omega arith)) (clear-noted d t clear f);
-}
+-- one of no siblings, with a number that keys are made with
+pub known-reset : (d t : List ℕ) (m : ℕ) → length t ≡ 2053 → Known d (set (set (set t 2049 0) 2050 m) 2052 0)
+known-reset d t m long =
+    let first = three-first t 2049 2050 2052 0 m 0 (omega arith) (omega arith) (omega arith) in
+    let third = three-third t 2049 2050 2052 0 m 0 (omega arith) (omega arith) (omega arith) in
+    record {
+      long = three-length t 2049 2050 2052 0 m 0 (omega arith) (omega arith) (omega arith) ∙ long;
+      inside = λ some. absurd (omega arith);
+      is = λ some. absurd (omega arith);
+      lanes = λ some. absurd (omega arith);
+    }
 
--- a table that was cleared, of no siblings, with a number that keys are made with
-pub known-reset : (d t : List ℕ) (m : ℕ) → length t ≡ 2051 → ((i : ℕ) → i < 1024 → noteAt t i ≡ 0) → Known d (set (set t 2049 0) 2050 m)
-known-reset d t m long clear =
-    known-none d (set (set t 2049 0) 2050 m) (length-set (set t 2049 0) 2050 m ∙ length-set t 2049 0 ∙ long)
-    (λ i l. getD-set-other (set t 2049 0) 2050 (1024 + i) m 0 (λ e. omega arith) ∙ getD-set-other t 2049 (1024 + i) 0 0 (λ e. omega arith) ∙ clear i l)
-    (getD-set-other (set t 2049 0) 2050 2049 m 0 (λ e. omega arith) ∙ set-zero t 2049)
-
--- a table in which all siblings were noted
-module _ (d t : List ℕ) (at k : ℕ) (long : length t ≡ 2051) where
+-- one in which all siblings were noted
+module _ (d t : List ℕ) (at k : ℕ) (long : length t ≡ 2053) where
   abbrev settled : List ℕ
-  settled = set (set t 2048 at) 2049 k
+  settled = set (set (set t 2048 at) 2049 k) 2052 0
 
-  same-at : (j : ℕ) → (j ≡ 2048 → ⊥) → (j ≡ 2049 → ⊥) → getD settled j 0 ≡ getD t j 0
-  same-at j a b = getD-set-other (set t 2048 at) 2049 j k 0 b ∙ getD-set-other t 2048 j at 0 a
+  same-at : (j : ℕ) → (j ≡ 2048 → ⊥) → (j ≡ 2049 → ⊥) → (j ≡ 2052 → ⊥) → getD settled j 0 ≡ getD t j 0
+  same-at = three-other t 2048 2049 2052 at k 0 (omega arith) (omega arith) (omega arith)
 
   place-is : getD settled 2048 0 ≡ at
-  place-is = getD-set-other (set t 2048 at) 2049 2048 k 0 (λ e. omega arith) ∙ getD-set-same t 2048 at 0 (omega arith)
+  place-is = three-first t 2048 2049 2052 at k 0 (omega arith) (omega arith) (omega arith)
 
   number-is : getD settled 2049 0 ≡ k
-  number-is = getD-set-same (set t 2048 at) 2049 k 0 (omega (arith, length-set t 2048 at))
+  number-is = three-second t 2048 2049 2052 at k 0 (omega arith) (omega arith) (omega arith)
+
+  no-lanes : getD settled 2052 0 ≡ 0
+  no-lanes = three-third t 2048 2049 2052 at k 0 (omega arith) (omega arith) (omega arith)
 
   note-is : (i : ℕ) → i < 1024 → noteAt settled i ≡ noteAt t i
-  note-is i l = same-at (1024 + i) (λ e. omega arith) (λ e. omega arith)
+  note-is i l = same-at (1024 + i) (λ e. omega arith) (λ e. omega arith) (λ e. omega arith)
 
   pub known-settled : Inside d at t → ((f : Forest) (m : ℕ) → distinct f ≡ true → Reads (drop at d) f k m → Noted d f t nil) → Known d settled
   known-settled inside is = record {
-    long = length-set (set t 2048 at) 2049 k ∙ length-set t 2048 at ∙ long;
-    inside = record {
+    long = three-length t 2048 2049 2052 at k 0 (omega arith) (omega arith) (omega arith) ∙ long;
+    inside = λ some. record {
       most = λ i l. rw (note-is i l) (inside .most i l);
       least = λ i l. rw (note-is i l, place-is) (inside .least i l);
     };
-    is = λ f m differ r.
+    is = λ some f m differ r.
         noted-alike d f t settled nil
-        (record { keys = λ j l. same-at j (λ e. omega arith) (λ e. omega arith); maker = same-at 2050 (λ e. omega arith) (λ e. omega arith) })
+        (record {
+          keys = λ j l. same-at j (λ e. omega arith) (λ e. omega arith) (λ e. omega arith);
+          maker = same-at 2050 (λ e. omega arith) (λ e. omega arith) (λ e. omega arith);
+        })
         note-is
         (is f m differ (rw (place-is, number-is) at r));
+    lanes = λ some. absurd (omega (arith, no-lanes));
   }
 
 -- ---- a slot that was looked at: the key of a name, and the slot of that key
@@ -304,10 +309,10 @@ module _ (d : List ℕ) (place : ℕ) (t : List ℕ) (key i : ℕ) (is-key : key
         (ap (λ (j : ℕ). set t (1024 + j) 1) (slot-for t name key i is-key is-slot))
 
 -- that of a name which is asked for
-module _ (d t : List ℕ) (known : Known d t) (name : List ℕ) (key i : ℕ) (is-key : key ≡ keyOf (getD t 2050 0) name) (is-slot : i ≡ slotOf t key) (wanted-key : getD t i 0 ≡ key)
+module _ (d t : List ℕ) (known : Known d t) (some : 1 ≤ getD t 2049 0) (name : List ℕ) (key i : ℕ) (is-key : key ≡ keyOf (getD t 2050 0) name) (is-slot : i ≡ slotOf t key) (wanted-key : getD t i 0 ≡ key)
     (f : Forest) (m : ℕ) (differ : distinct f ≡ true) (r : Reads (drop (getD t 2048 0) d) f (getD t 2049 0) m) where
   noted-all : Noted d f t nil
-  noted-all = known .is f m differ r
+  noted-all = known .is some f m differ r
 
   pub recall-none : noteAt t i ≡ 0 → child name f ≡ none
   recall-none e = noted-all .none name (is-wanted t name key i is-key is-slot wanted-key) (sym (note-for t name key i is-key is-slot) ∙ e) ∙ child-none name
@@ -321,9 +326,3 @@ module _ (d t : List ℕ) (known : Known d t) (name : List ℕ) (key i : ℕ) (i
         let n = note-for t name key i is-key is-slot in
         noted-all .one name (is-wanted t name key i is-key is-slot wanted-key) (subst (λ (x : ℕ). 2 ≤ x) n some-place) (subst (λ (x : ℕ). eqList name (nameOf (drop (x - 2) d)) ≡ false) n e)
         ∙ child-none name
-
--- a table that is of these siblings
-pub of-these : (t : List ℕ) (at k : ℕ) → (eqb (getD t 2048 0) at && eqb (getD t 2049 0) k) ≡ true → (getD t 2048 0 ≡ at) × (getD t 2049 0 ≡ k)
-of-these t at k e =
-    let i = and-inv (eqb (getD t 2048 0) at) (eqb (getD t 2049 0) k) e in
-    (eqb-true _ _ (i .0), eqb-true _ _ (i .1))

@@ -4,8 +4,8 @@ use mathlib.Core.List.{List, [], _∷_}
 use Prim.Native.Nat.{ℕ, zero, suc, _+_, _-_, _%_, _≤_, _<_}
 use native.Mathlib.Numerals.{add-one}
 use native.Mathlib.Omega.{arith}
-use lib.ListN.{length, getD, set, drop, drop-of-length-le}
-use lib.Seq.{drop-cons}
+use lib.ListN.{length, getD, set, drop, drop-of-length-le, length-set}
+use lib.Seq.{drop-cons, getD-set-same, getD-set-other}
 use lib.Dec.{eqb}
 use borrow.Author.Tests.{eq-eqb, ne-eqb}
 use Rattle.format_laws.proofs.Tests.{by-test}
@@ -60,9 +60,32 @@ probe-most (suc n) t key i l =
     (λ e. rw e l)
     (λ e. by-test (eqb (getD t i 0) 0) (λ q. rw (e, q) l) (λ q. rw (e, q) (probe-most n t key ((i + 1) % 1024) (omega arith))))
 
--- ---- a number that was set
+-- ---- numbers that were set
 
 pub set-zero : (t : List ℕ) (i : ℕ) → getD (set t i 0) i 0 ≡ 0
 set-zero [] i = refl
 set-zero (x ∷ t) zero = refl
 set-zero (x ∷ t) (suc i) = set-zero t i
+
+-- three of them
+module _ (t : List ℕ) (a b c x y z : ℕ) (ab : a < b) (bc : b < c) (room : c < length t) where
+  abbrev three : List ℕ
+  three = set (set (set t a x) b y) c z
+
+  pub three-length : length three ≡ length t
+  three-length = simp length-set
+
+  pub three-other : (n : ℕ) → (n ≡ a → ⊥) → (n ≡ b → ⊥) → (n ≡ c → ⊥) → getD three n 0 ≡ getD t n 0
+  three-other n p q r = getD-set-other (set (set t a x) b y) c n z 0 r ∙ getD-set-other (set t a x) b n y 0 q ∙ getD-set-other t a n x 0 p
+
+  pub three-first : getD three a 0 ≡ x
+  three-first =
+      getD-set-other (set (set t a x) b y) c a z 0 (λ e. omega arith)
+      ∙ getD-set-other (set t a x) b a y 0 (λ e. omega arith)
+      ∙ getD-set-same t a x 0 (omega arith)
+
+  pub three-second : getD three b 0 ≡ y
+  three-second = getD-set-other (set (set t a x) b y) c b z 0 (λ e. omega arith) ∙ getD-set-same (set t a x) b y 0 (simp length-set (omega arith))
+
+  pub three-third : getD three c 0 ≡ z
+  three-third = getD-set-same (set (set t a x) b y) c z 0 (simp length-set room)

@@ -3,8 +3,8 @@ use mathlib.Core.Path.{_≡_}
 use mathlib.Core.List.{List}
 use mathlib.Core.Bool.{true}
 use mathlib.Core.Option.{none, some}
-use Prim.Native.Nat.{ℕ}
-use lib.ListN.{drop}
+use Prim.Native.Nat.{ℕ, _≤_}
+use lib.ListN.{length, drop}
 use Rattle.format.specs.Records.{Forest, Tree}
 use Rattle.format.specs.Layout.{distinct}
 use Rattle.format.specs.Reading.{good}
@@ -56,3 +56,24 @@ Answered d f name (A.Known c) = Sought d f name c
 abbrev pub placeOfAnswer : ℕ → Answer → ℕ
 placeOfAnswer end A.Unknown = end
 placeOfAnswer end (A.Known c) = placeIn end c
+
+-- the last so many of the k siblings at a place stand from another on, in the data
+pub record Lane (d : List ℕ) (at k place left : ℕ) : Type 0 where
+  pub least : at ≤ place
+  pub most : place ≤ length d
+  pub last : (f : Forest) (m : ℕ) → distinct f ≡ true → Reads (drop at d) f k m → Last d f place left
+
+-- what is told of a name among the k siblings at a place is so, and lies in the data, from that place on
+pub record Told (d : List ℕ) (at k : ℕ) (name : List ℕ) (r : Answer) : Type 0 where
+  pub least : at ≤ placeOfAnswer (length d) r
+  pub most : placeOfAnswer (length d) r ≤ length d
+  pub is : (f : Forest) (m : ℕ) → distinct f ≡ true → Reads (drop at d) f k m → Answered d f name r
+
+abbrev pub Finds : List ℕ → ℕ → ℕ → List ℕ → Child → Type 0
+Finds d at k name r = Told d at k name (A.Known r)
+
+-- the same where the last so many of them stand from another place on
+pub record ToldSoon (d : List ℕ) (at k place left : ℕ) (name : List ℕ) (r : Answer) : Type 0 where
+  pub least : at ≤ placeOfAnswer (length d) r
+  pub most : placeOfAnswer (length d) r ≤ length d
+  pub is : (f : Forest) (m : ℕ) → distinct f ≡ true → Reads (drop at d) f k m → Last d f place left → Answered d f name r

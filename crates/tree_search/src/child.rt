@@ -1,19 +1,20 @@
 // The sibling of a name, found without a table.
 use cache_tree::walk::after_tree;
+use fields::compare;
 use fields::find;
 use fields::same;
+use format::Order;
 use tree_nodes::node::NodeRead;
 use tree_nodes::node::read_node;
 ghost use mathlib.Core.Path.{_≡_};
 ghost use mathlib.Core.Bool.{true};
-ghost use Prim.Native.Nat.{ℕ, _+_, _≤_};
+ghost use Prim.Native.Nat.{ℕ, _≤_};
 ghost use lib.ListN.{length, drop};
 ghost use Rattle.format.specs.Bytes.{eqList};
+ghost use Rattle.format.specs.Names as Names;
 ghost use Rattle.format.specs.Records.{Forest};
-ghost use Rattle.format.specs.Layout.{distinct};
 ghost use Rattle.cache_tree.specs.Flat.{nameOf};
-ghost use Rattle.cache_tree.specs.Flat.{Reads};
-ghost use Rattle.tree_search.specs.Siblings.{Last, Sought, Answered, placeIn, placeOfAnswer};
+ghost use Rattle.tree_search.specs.Siblings.{Last, Answered, placeOfAnswer, Lane, Told, Finds};
 
 // Where the sibling is, and how many there are from it on.
 pub enum Child {
@@ -36,10 +37,19 @@ pub fn is_named(d: &[u8], at: usize, name: &[u8]) -> bool
     same(name, &d[at..nul])
 }
 
+// How the name of the node at a place stands to this one.
+pub fn order_at(d: &[u8], at: usize, name: &[u8]) -> Order
+    requires { ⌜ at ≤ length (now d) ⌝ }
+    ensures { λ r. ⌜ r ≡ Names.compare (nameOf (drop at (now (d .entry)))) (now (name .entry)) ⌝ }
+{
+    let nul = find(d, at, 0);
+    compare(&d[at..nul], name)
+}
+
 // The first of k siblings at a place that has this name.
 pub fn scan(d: &[u8], at: usize, k: u32, name: &[u8]) -> Child
     requires { ⌜ (at ≤ length (now d)) × (length (now d) ≤ 16777216) ⌝ }
-    ensures { λ r. ⌜ (at ≤ placeIn (length (now (d .entry))) r) × (placeIn (length (now (d .entry))) r ≤ length (now (d .entry))) × ((f : Forest) (m : ℕ) → distinct f ≡ true → Reads (drop at (now (d .entry))) f k m → Sought (now (d .entry)) f (now (name .entry)) r) ⌝ }
+    ensures { λ r. ⌜ Finds (now (d .entry)) at k (now (name .entry)) r ⌝ }
 {
     let mut place = at;
     let mut left = k;
@@ -51,6 +61,26 @@ pub fn scan(d: &[u8], at: usize, k: u32, name: &[u8]) -> Child
         left -= 1;
     }
     Child::Missing
+}
+
+// The same, if it is told before more than 4,096 bytes were passed.
+pub fn scan_short(d: &[u8], at: usize, k: u32, name: &[u8]) -> Answer
+    requires { ⌜ (at ≤ length (now d)) × (length (now d) ≤ 16777216) ⌝ }
+    ensures { λ r. ⌜ Told (now (d .entry)) at k (now (name .entry)) r ⌝ }
+{
+    let mut place = at;
+    let mut left = k;
+    while 0 < left {
+        if 4096 < place - at {
+            return Answer::Unknown;
+        }
+        if is_named(d, place, name) {
+            return Answer::Known(Child::Found(place, left));
+        }
+        place = after_tree(d, place);
+        left -= 1;
+    }
+    Answer::Known(Child::Missing)
 }
 
 // Whether k trees at a place take more than so many bytes. The look at them ends there. It only chooses how to search: nothing rests on the answer.
@@ -88,6 +118,31 @@ pub fn find_next(d: &[u8], name: &[u8], place: usize, left: u32) -> Answer
     let next = after_tree(d, place);
     if is_named(d, next, name) {
         return Answer::Known(Child::Found(next, left - 1));
+    }
+    Answer::Unknown
+}
+
+// The first of the siblings that stand from a place on, so many, that is not below this name, if it has the name.
+pub fn find_ahead(d: &[u8], name: &[u8], from: usize, count: u32) -> Answer
+    requires { ⌜ (from ≤ length (now d)) × (length (now d) ≤ 16777216) ⌝ }
+    ensures { λ r. ⌜ ((at k : ℕ) → Lane (now (d .entry)) at k from count → Told (now (d .entry)) at k (now (name .entry)) r) ⌝ }
+{
+    let mut place = from;
+    let mut left = count;
+    while 0 < left {
+        let order = order_at(d, place, name);
+        match order {
+            Order::Below => {
+                place = after_tree(d, place);
+                left -= 1;
+            }
+            Order::Same => {
+                return Answer::Known(Child::Found(place, left));
+            }
+            Order::Above => {
+                return Answer::Unknown;
+            }
+        }
     }
     Answer::Unknown
 }

@@ -5,9 +5,12 @@ ghost use Prim.Native.Nat.{_<_};
 ghost use lib.ListN.{length};
 ghost use Rattle.tree_search.specs.Keys.{stepKey, keyOf, slotOf};
 
-// 1,024 keys, 0 where there is none; for each of them a number that says where a sibling stands; the place of a list of siblings and their number;
-// and the number that keys are made with.
-pub type Table = [u32; 2051];
+// A table of a list of siblings, used in one of two ways at a time.
+// Notes: 1,024 keys, 0 where there is none; for each of them a number that says where a sibling stands. At 2048 the place of the list and its number of
+// siblings, 0 where none are noted; at 2050 the number that keys are made with.
+// Lanes: for each length of a name, modulo 1,024, the place of a sibling, and how many siblings stand from it on, 0 where there is no lane. At 2051 the
+// place of the list and its number of siblings, 0 where no lanes are laid.
+pub type Table = [u32; 2053];
 
 pub const SLOTS: usize = 1024;
 

@@ -1,10 +1,7 @@
 // A table of the siblings that are about to be asked for: one pass over them notes where each of them stands whose key is wanted.
 use crate::child::Answer;
 use crate::child::Child;
-use crate::child::find_next;
-use crate::child::is_long;
 use crate::child::is_named;
-use crate::child::scan;
 use crate::keys::SLOTS;
 use crate::keys::Table;
 use crate::keys::key_of;
@@ -13,21 +10,17 @@ use crate::keys::want;
 use cache_tree::walk::after_tree;
 use fields::find;
 ghost use mathlib.Core.Path.{_≡_};
-ghost use mathlib.Core.Bool.{true, _&&_};
+ghost use mathlib.Core.Bool.{true};
 ghost use mathlib.Core.List.{List};
 ghost use Prim.Native.Nat.{ℕ, _+_, _≤_, _<_};
 ghost use lib.ListN.{length, getD, drop};
-ghost use lib.Dec.{eqb};
-ghost use Rattle.format.specs.Records.{Forest};
-ghost use Rattle.format.specs.Layout.{distinct};
 ghost use Rattle.cache_tree.specs.Flat.{nameOf};
-ghost use Rattle.cache_tree.specs.Flat.{Reads};
 ghost use Rattle.tree_search.specs.Keys.{keyOf};
-ghost use Rattle.tree_search.specs.Siblings.{Last, Sought, Answered, placeIn, placeOfAnswer};
-ghost use Rattle.tree_search.specs.Table.{noted, Known};
+ghost use Rattle.tree_search.specs.Siblings.{Told};
+ghost use Rattle.tree_search.specs.Table.{noted, Says, Known};
 
 // A number of a table as a place.
-fn place_of(x: u32) -> usize
+pub fn place_of(x: u32) -> usize
     ensures { λ r. ⌜ r ≡ x ⌝ }
 {
     x as usize
@@ -47,12 +40,12 @@ pub fn clear(t: &mut Table, from: usize)
 
 // A table of no siblings, whose keys are made with m.
 pub fn reset(t: &mut Table, m: u32)
-    requires { ⌜ length (now t) ≡ 2051 ⌝ }
+    requires { ⌜ length (now t) ≡ 2053 ⌝ }
     ensures { λ _. ⌜ ((d : List ℕ) → Known d (now (t .exit))) ⌝ }
 {
-    clear(t, SLOTS);
     t[2049] = 0;
     t[2050] = m;
+    t[2052] = 0;
 }
 
 // The key of the node at a place.
@@ -83,7 +76,7 @@ fn note(d: &[u8], place: usize, t: &mut Table)
 
 // The keys of the k siblings at a place are wanted.
 pub fn want_siblings(d: &[u8], at: usize, k: u32, t: &mut Table)
-    requires { ⌜ (at ≤ length (now d)) × (length (now d) ≤ 16777216) × (length (now t) ≡ 2051) ⌝ }
+    requires { ⌜ (at ≤ length (now d)) × (length (now d) ≤ 16777216) × (length (now t) ≡ 2053) ⌝ }
     ensures { λ _. ⌜ length (now (t .exit)) ≡ length (now (t .entry)) ⌝ }
 {
     let mut place = at;
@@ -98,7 +91,7 @@ pub fn want_siblings(d: &[u8], at: usize, k: u32, t: &mut Table)
 
 // The k siblings at a place are noted in a table with wanted keys.
 pub fn settle(d: &[u8], at: usize, k: u32, t: &mut Table)
-    requires { ⌜ (at ≤ length (now d)) × (length (now d) ≤ 16777216) × (length (now t) ≡ 2051) ⌝ }
+    requires { ⌜ (at ≤ length (now d)) × (length (now d) ≤ 16777216) × (length (now t) ≡ 2053) ⌝ }
     ensures { λ _. ⌜ Known (now (d .entry)) (now (t .exit)) ⌝ }
 {
     clear(t, SLOTS);
@@ -111,22 +104,34 @@ pub fn settle(d: &[u8], at: usize, k: u32, t: &mut Table)
     }
     t[2048] = at as u32;
     t[2049] = k;
+    t[2052] = 0;
 }
 
-// Whether a table is of the k siblings at a place.
-pub fn is_of(t: &Table, at: usize, k: u32) -> bool
-    ensures { λ r. ⌜ r ≡ (eqb (getD (now (t .entry)) 2048 0) at && eqb (getD (now (t .entry)) 2049 0) k) ⌝ }
+// Whether a table has the place of k siblings and their number at i, and there are some.
+pub fn says(t: &Table, i: usize, at: usize, k: u32) -> bool
+    requires { ⌜ i ≤ 2051 ⌝ }
+    ensures { λ r. ⌜ (r ≡ true → Says (now (t .entry)) i at k) ⌝ }
 {
-    if place_of(t[2048]) == at {
-        return t[2049] == k;
+    if k == 0 {
+        return false;
+    }
+    if place_of(t[i]) == at {
+        return t[i + 1] == k;
     }
     false
 }
 
-// What a table says of a name.
-fn recall(d: &[u8], name: &[u8], t: &Table) -> Answer
-    requires { ⌜ Known (now d) (now t) × (getD (now t) 2048 0 ≤ length (now d)) ⌝ }
-    ensures { λ r. ⌜ (getD (now (t .entry)) 2048 0 ≤ placeOfAnswer (length (now (d .entry))) r) × (placeOfAnswer (length (now (d .entry))) r ≤ length (now (d .entry))) × ((f : Forest) (m : ℕ) → distinct f ≡ true → Reads (drop (getD (now (t .entry)) 2048 0) (now (d .entry))) f (getD (now (t .entry)) 2049 0) m → Answered (now (d .entry)) f (now (name .entry)) r) ⌝ }
+// Whether the k siblings at a place are noted in a table.
+pub fn is_of(t: &Table, at: usize, k: u32) -> bool
+    ensures { λ r. ⌜ (r ≡ true → Says (now (t .entry)) 2048 at k) ⌝ }
+{
+    says(t, 2048, at, k)
+}
+
+// What the notes of a table say of a name.
+pub fn recall(d: &[u8], name: &[u8], t: &Table) -> Answer
+    requires { ⌜ Known (now d) (now t) × (1 ≤ getD (now t) 2049 0) × (getD (now t) 2048 0 ≤ length (now d)) ⌝ }
+    ensures { λ r. ⌜ Told (now (d .entry)) (getD (now (t .entry)) 2048 0) (getD (now (t .entry)) 2049 0) (now (name .entry)) r ⌝ }
 {
     let key = key_of(name, t[2050]);
     let i = slot_of(t, key);
@@ -145,55 +150,4 @@ fn recall(d: &[u8], name: &[u8], t: &Table) -> Answer
         return Answer::Known(Child::Found(place, 1));
     }
     Answer::Known(Child::Missing)
-}
-
-// The one of k siblings at a place that has this name: by a table of them; else the first, or the one after the first of the last so many, which stand
-// from another place on; else by a scan where they are few.
-pub fn find_soon(
-    d: &[u8],
-    at: usize,
-    k: u32,
-    name: &[u8],
-    place: usize,
-    left: u32,
-    near: &Table,
-    far: &Table,
-) -> Answer
-    requires { ⌜ (at ≤ place) × (place ≤ length (now d)) × (length (now d) ≤ 16777216) × Known (now d) (now near) × Known (now d) (now far) ⌝ }
-    ensures { λ r. ⌜ (at ≤ placeOfAnswer (length (now (d .entry))) r) × (placeOfAnswer (length (now (d .entry))) r ≤ length (now (d .entry))) × ((f : Forest) (m : ℕ) → distinct f ≡ true → Reads (drop at (now (d .entry))) f k m → Last (now (d .entry)) f place left → Answered (now (d .entry)) f (now (name .entry)) r) ⌝ }
-{
-    if is_of(near, at, k) {
-        return recall(d, name, near);
-    }
-    if is_of(far, at, k) {
-        return recall(d, name, far);
-    }
-    if 0 < k {
-        if is_named(d, at, name) {
-            return Answer::Known(Child::Found(at, k));
-        }
-    }
-    let next = find_next(d, name, place, left);
-    if let Answer::Known(_) = next {
-        return next;
-    }
-    if is_long(d, at, k, 4096) {
-        return Answer::Unknown;
-    }
-    let child = scan(d, at, k, name);
-    Answer::Known(child)
-}
-
-// The same by a table that was made for it, else by a scan.
-pub fn find_late(d: &[u8], at: usize, k: u32, name: &[u8], t: &Table) -> Child
-    requires { ⌜ (at ≤ length (now d)) × (length (now d) ≤ 16777216) × Known (now d) (now t) ⌝ }
-    ensures { λ r. ⌜ (at ≤ placeIn (length (now (d .entry))) r) × (placeIn (length (now (d .entry))) r ≤ length (now (d .entry))) × ((f : Forest) (m : ℕ) → distinct f ≡ true → Reads (drop at (now (d .entry))) f k m → Sought (now (d .entry)) f (now (name .entry)) r) ⌝ }
-{
-    if is_of(t, at, k) {
-        let told = recall(d, name, t);
-        if let Answer::Known(child) = told {
-            return child;
-        }
-    }
-    scan(d, at, k, name)
 }

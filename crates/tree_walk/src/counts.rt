@@ -23,8 +23,8 @@ fn walk_all(d: &[u8], root: Node, b: &[u8], v: u32, work: &mut [u8], s: Front, s
     requires { ⌜ Ready (now d) (root .next) (now b) (now work) 0 s ⌝ }
     ensures { λ r. ⌜ DirectoryWalked (now (d .entry)) (root .next) (root .subtrees) (root .valid) (now (b .entry)) v (now (work .entry)) 0 s (now (work .exit)) r ⌝ }
 {
-    let mut near = [0u32; 2051];
-    let mut far = [0u32; 2051];
+    let mut near = [0u32; 2053];
+    let mut far = [0u32; 2053];
     let m = (seed % 4294967296) as u32;
     reset(&mut near, m);
     reset(&mut far, m);

@@ -1,7 +1,8 @@
 -- The proof that `look_up` meets its contract.
 use native.Mathlib.Omega.{arith}
-use Rattle.tree_lookup.proofs.Components.{fits-length, at-name, look-file, look-child}
 use borrow.Author.Needs.{needs}
+use Rattle.tree_search.proofs.Telling.{told-soon}
+use Rattle.tree_lookup.proofs.Components.{fits-length, ahead-file, ahead-child}
 use Rattle.tree_lookup.proofs.look.look_up.Statement.{statement}
 use Rattle.tree_lookup.proofs.look.look_up.Tie as tie
 
@@ -11,14 +12,13 @@ name-at-requires c κs = search needs
 find-requires : tie.Need-find-requires
 find-requires c κs =
     let st = c .before .before .before .before .before in
-    let n = fits-length (st .args .v) (st .args .b .now) (st .args .work .now) (st .args .s) (st .pre .3) (st .pre .4) _ (c .name-at .ensures) in
-    omega (arith, n, st .pre .5)
+    omega (arith, fits-length (st .args .v) (st .args .b .now) (st .args .work .now) (st .args .s) (st .pre .3) (st .pre .4) _ (c .name-at .ensures), st .pre .5)
 
 returns : tie.Need-returns
 returns c =
-    let st = c .before .before .before .before .before .before .before in
-    let n = fits-length (st .args .v) (st .args .b .now) (st .args .work .now) (st .args .s) (st .pre .3) (st .pre .4) _ (c .before .before .name-at .ensures) in
-    (at-name _ _ _ _ _ _ _ _ _ _ _ _ _ (c .before .before .name-at .ensures) n (look-file _ _ _ (c .before .find .ensures .0) _ _ _ _ (st .pre .0) (st .pre .1) (omega (arith, n, st .pre .5)) _ (c .if1 .taken)), st .pre .6, st .pre .7)
+    let a = c .before in
+    let st = a .before .before .before .before .before .before in
+    (ahead-file _ _ _ _ (st .pre .3) (st .pre .4) _ (a .before .name-at .ensures) _ (st .pre .5) _ (a .find .ensures .0) _ _ _ _ (st .pre .0) (st .pre .1) _ (c .if1 .taken), st .pre .6, st .pre .7)
 
 sub-find-soon : tie.Need-sub-find-soon
 sub-find-soon c = search needs
@@ -58,8 +58,9 @@ part-find-by-end c = search needs
 
 find-by-requires : tie.Need-find-by-requires
 find-by-requires c κs =
+    let soon = c .before .before .before .before .before .before .find-soon .ensures in
     let st = c .before .before .before .before .before .before .before .before .before .before .before .before .before .before .before .before .before in
-    (omega (arith, st .pre .0, st .pre .1), st .pre .2, st .pre .3, st .pre .4, st .pre .5, st .pre .7)
+    (omega (arith, st .pre .0, st .pre .1), st .pre .2, st .pre .3, st .pre .4, st .pre .5, soon .2)
 
 add-look-of-2 : tie.Need-add-look-of-2
 add-look-of-2 c = search needs
@@ -69,10 +70,11 @@ look-of-requires-2 c κs = search needs
 
 returns-2 : tie.Need-returns-2
 returns-2 c =
-    let st = c .before .before .before .before .before .before .before .before .before .before .before .before .before .before .before .before .before .before .before in
-    let n = fits-length (st .args .v) (st .args .b .now) (st .args .work .now) (st .args .s) (st .pre .3) (st .pre .4) _ (c .before .before .before .before .before .before .before .before .before .before .before .before .before .before .name-at .ensures) in
-    let t = c .before .find-by .ensures in
-    (rw (c .look-of2 .ensures) (at-name _ _ _ _ _ _ _ _ _ _ _ _ _ (c .before .before .before .before .before .before .before .before .before .before .before .before .before .before .name-at .ensures) n (look-child _ _ _ (c .before .before .before .before .before .before .before .before .before .before .before .before .before .find .ensures .0) _ _ _ _ (st .pre .0) (st .pre .1) (omega (arith, n, st .pre .5)) _ (omega (arith, c .before .before .before .before .before .before .before .before .before .before .before .before .if1 .left, c .before .before .before .before .before .before .before .before .before .before .before .before .before .find .ensures .1)) (c .before .find-by .result) (t .1) (t .2) (λ f m differ r last. t .3 f m differ r))), st .pre .6, t .0)
+    let e = c .before .before .before .before .before .before .before .before .before .before .before .before in
+    let a = e .before in
+    let st = a .before .before .before .before .before .before in
+    let soon = c .before .before .before .before .before .before .before .before .find-soon .ensures in
+    (rw (c .look-of2 .ensures) (ahead-child _ _ _ _ (st .pre .3) (st .pre .4) _ (a .before .name-at .ensures) _ (st .pre .5) _ (a .find .ensures .0) _ _ _ _ (st .pre .0) (st .pre .1) _ (e .if1 .left) (a .find .ensures .1) _ (told-soon _ _ _ _ _ _ _ (c .before .find-by .ensures .1))), soon .1, c .before .find-by .ensures .0)
 
 sub-find-by-2 : tie.Need-sub-find-by-2
 sub-find-by-2 c = search needs
@@ -85,8 +87,9 @@ part-find-by-end-2 c = search needs
 
 find-by-requires-2 : tie.Need-find-by-requires-2
 find-by-requires-2 c κs =
+    let soon = c .before .before .before .before .before .before .find-soon .ensures in
     let st = c .before .before .before .before .before .before .before .before .before .before .before .before .before .before .before .before .before in
-    (omega (arith, st .pre .0, st .pre .1), st .pre .2, st .pre .3, st .pre .4, st .pre .5, st .pre .6)
+    (omega (arith, st .pre .0, st .pre .1), st .pre .2, st .pre .3, st .pre .4, st .pre .5, soon .1)
 
 add-look-of-3 : tie.Need-add-look-of-3
 add-look-of-3 c = search needs
@@ -96,17 +99,19 @@ look-of-requires-3 c κs = search needs
 
 returns-3 : tie.Need-returns-3
 returns-3 c =
-    let st = c .before .before .before .before .before .before .before .before .before .before .before .before .before .before .before in
-    let n = fits-length (st .args .v) (st .args .b .now) (st .args .work .now) (st .args .s) (st .pre .3) (st .pre .4) _ (c .before .before .before .before .before .before .before .before .before .before .name-at .ensures) in
-    let t = rw (c .before .before .soon .given .1) at (c .before .before .before .before .find-soon .ensures) in
-    (rw (c .look-of .ensures) (at-name _ _ _ _ _ _ _ _ _ _ _ _ _ (c .before .before .before .before .before .before .before .before .before .before .name-at .ensures) n (look-child _ _ _ (c .before .before .before .before .before .before .before .before .before .find .ensures .0) _ _ _ _ (st .pre .0) (st .pre .1) (omega (arith, n, st .pre .5)) _ (omega arith) (c .before .before .soon .given .0 .0) (t .0) (t .1) (t .2))), st .pre .6, st .pre .7)
+    let e = c .before .before .before .before .before .before .before .before in
+    let a = e .before in
+    let st = a .before .before .before .before .before .before in
+    let soon = c .before .before .before .before .find-soon .ensures in
+    (rw (c .look-of .ensures) (ahead-child _ _ _ _ (st .pre .3) (st .pre .4) _ (a .before .name-at .ensures) _ (st .pre .5) _ (a .find .ensures .0) _ _ _ _ (st .pre .0) (st .pre .1) _ (e .if1 .left) (a .find .ensures .1) _ (rw (c .before .before .soon .given .1) at (soon .0))), soon .1, soon .2)
 
 returns-4 : tie.Need-returns-4
 returns-4 c =
-    let st = c .before .before .before .before .before .before .before .before .before .before .before .before .before .before .before .before .before .before .before in
-    let n = fits-length (st .args .v) (st .args .b .now) (st .args .work .now) (st .args .s) (st .pre .3) (st .pre .4) _ (c .before .before .before .before .before .before .before .before .before .before .before .before .before .before .name-at .ensures) in
-    let t = c .before .find-by2 .ensures in
-    (rw (c .look-of3 .ensures) (at-name _ _ _ _ _ _ _ _ _ _ _ _ _ (c .before .before .before .before .before .before .before .before .before .before .before .before .before .before .name-at .ensures) n (look-child _ _ _ (c .before .before .before .before .before .before .before .before .before .before .before .before .before .find .ensures .0) _ _ _ _ (st .pre .0) (st .pre .1) (omega (arith, n, st .pre .5)) _ (omega (arith, c .before .before .before .before .before .before .before .before .before .before .before .before .if1 .left, c .before .before .before .before .before .before .before .before .before .before .before .before .before .find .ensures .1)) (c .before .find-by2 .result) (t .1) (t .2) (λ f m differ r last. t .3 f m differ r))), t .0, st .pre .7)
+    let e = c .before .before .before .before .before .before .before .before .before .before .before .before in
+    let a = e .before in
+    let st = a .before .before .before .before .before .before in
+    let soon = c .before .before .before .before .before .before .before .before .find-soon .ensures in
+    (rw (c .look-of3 .ensures) (ahead-child _ _ _ _ (st .pre .3) (st .pre .4) _ (a .before .name-at .ensures) _ (st .pre .5) _ (a .find .ensures .0) _ _ _ _ (st .pre .0) (st .pre .1) _ (e .if1 .left) (a .find .ensures .1) _ (told-soon _ _ _ _ _ _ _ (c .before .find-by2 .ensures .1))), c .before .find-by2 .ensures .0, soon .2)
 
 pub look-up-spec : {M : Type 1} → statement M
 look-up-spec =

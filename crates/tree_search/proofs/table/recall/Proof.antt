@@ -36,7 +36,7 @@ element-copy-out-note c = search needs
 returns-2 : tie.Need-returns-2
 returns-2 c =
     let st = c .before .before .before .before .before .before .before .before .before in
-    (st .pre .1, omega arith, λ f m differ r. recall-none _ _ (st .pre .0) _ _ _ (c .before .before .before .before .before .key-of .ensures) (c .before .before .before .before .slot-of .ensures .0) (c .before .before .if1 .left) f m differ r (c .if2 .taken))
+    record { least = st .pre .2; most = omega arith; is = λ f m differ r. recall-none _ _ (st .pre .0) (st .pre .1) _ _ _ (c .before .before .before .before .before .key-of .ensures) (c .before .before .before .before .slot-of .ensures .0) (c .before .before .if1 .left) f m differ r (c .if2 .taken) }
 
 returns-3 : tie.Need-returns-3
 returns-3 c = search needs
@@ -50,18 +50,18 @@ sub-place c = search needs
 is-named-requires : tie.Need-is-named-requires
 is-named-requires c κs =
     let st = c .before .before .before .before .before .before .before .before .before .before .before in
-    omega (arith, c .place-of .ensures, st .pre .0 .inside .most _ (c .before .before .before .before .before .before .slot-of .ensures .1))
+    omega (arith, c .place-of .ensures, st .pre .0 .inside (st .pre .1) .most _ (c .before .before .before .before .before .before .slot-of .ensures .1))
 
 returns-4 : tie.Need-returns-4
 returns-4 c =
     let st = c .before .before .before .before .before .before .before .before .before .before .before .before .before in
     rw (c .before .before .place-of .ensures)
-    (omega (arith, st .pre .0 .inside .least _ (c .before .before .before .before .before .before .before .before .slot-of .ensures .1) (omega arith)), omega (arith, st .pre .0 .inside .most _ (c .before .before .before .before .before .before .before .before .slot-of .ensures .1)), λ f m differ r. recall-here _ _ (st .pre .0) _ _ _ (c .before .before .before .before .before .before .before .before .before .key-of .ensures) (c .before .before .before .before .before .before .before .before .slot-of .ensures .0) (c .before .before .before .before .before .before .if1 .left) f m differ r (omega arith) (c .before .before .before .before .before .before .before .before .slot-of .ensures .1) (sym (rw (c .before .before .place-of .ensures) at (c .before .is-named .ensures)) ∙ c .if4 .taken))
+    record { least = omega (arith, st .pre .0 .inside (st .pre .1) .least _ (c .before .before .before .before .before .before .before .before .slot-of .ensures .1) (omega arith)); most = omega (arith, st .pre .0 .inside (st .pre .1) .most _ (c .before .before .before .before .before .before .before .before .slot-of .ensures .1)); is = λ f m differ r. recall-here _ _ (st .pre .0) (st .pre .1) _ _ _ (c .before .before .before .before .before .before .before .before .before .key-of .ensures) (c .before .before .before .before .before .before .before .before .slot-of .ensures .0) (c .before .before .before .before .before .before .if1 .left) f m differ r (omega arith) (c .before .before .before .before .before .before .before .before .slot-of .ensures .1) (sym (rw (c .before .before .place-of .ensures) at (c .before .is-named .ensures)) ∙ c .if4 .taken) }
 
 returns-5 : tie.Need-returns-5
 returns-5 c =
     let st = c .before .before .before .before .before .before .before .before .before .before .before .before .before in
-    (st .pre .1, omega arith, λ f m differ r. recall-other _ _ (st .pre .0) _ _ _ (c .before .before .before .before .before .before .before .before .before .key-of .ensures) (c .before .before .before .before .before .before .before .before .slot-of .ensures .0) (c .before .before .before .before .before .before .if1 .left) f m differ r (omega arith) (sym (rw (c .before .before .place-of .ensures) at (c .before .is-named .ensures)) ∙ c .if4 .left))
+    record { least = st .pre .2; most = omega arith; is = λ f m differ r. recall-other _ _ (st .pre .0) (st .pre .1) _ _ _ (c .before .before .before .before .before .before .before .before .before .key-of .ensures) (c .before .before .before .before .before .before .before .before .slot-of .ensures .0) (c .before .before .before .before .before .before .if1 .left) f m differ r (omega arith) (sym (rw (c .before .before .place-of .ensures) at (c .before .is-named .ensures)) ∙ c .if4 .left) }
 
 pub recall-spec : {M : Type 1} → statement M
 recall-spec =

@@ -14,7 +14,7 @@ use Rattle.tree_search.proofs.table.settle.Statement.{statement}
 use Rattle.tree_search.proofs.table.settle.Tie as tie
 
 abbrev Inv-loop : tie.InvT-loop
-Inv-loop d at k t₀ place₀ left₀ t place left = (at ≤ place) × (place ≤ length d) × (length t ≡ 2051) × Inside d at t × ((f : Forest) (m : ℕ) → distinct f ≡ true → Reads (drop at d) f k m → Noting d f t place left)
+Inv-loop d at k t₀ place₀ left₀ t place left = (at ≤ place) × (place ≤ length d) × (length t ≡ 2053) × Inside d at t × ((f : Forest) (m : ℕ) → distinct f ≡ true → Reads (drop at d) f k m → Noting d f t place left)
 
 abbrev μ-loop : tie.MeasureT-loop
 μ-loop d at k t₀ place₀ left₀ t place left = left
@@ -54,6 +54,9 @@ element-write-t c = search needs
 element-write-t-2 : tie.Need-element-write-t-2 Inv-loop μ-loop
 element-write-t-2 c = search needs
 
+element-write-t-3 : tie.Need-element-write-t-3 Inv-loop μ-loop
+element-write-t-3 c = search needs
+
 returns : tie.Need-returns Inv-loop μ-loop
 returns c =
     let inv = c .before .loop .inv in
@@ -75,4 +78,5 @@ settle-spec =
     cast-t
     element-write-t
     element-write-t-2
+    element-write-t-3
     returns)

@@ -8,7 +8,7 @@ use Rattle.tree_search.proofs.table.want_siblings.Statement.{statement}
 use Rattle.tree_search.proofs.table.want_siblings.Tie as tie
 
 abbrev Inv-loop : tie.InvT-loop
-Inv-loop d at k t₀ place₀ left₀ t place left = (place ≤ length d) × (length t ≡ 2051)
+Inv-loop d at k t₀ place₀ left₀ t place left = (place ≤ length d) × (length t ≡ 2053)
 
 abbrev μ-loop : tie.MeasureT-loop
 μ-loop d at k t₀ place₀ left₀ t place left = left
