@@ -1,19 +1,22 @@
 -- Laws of what is told of a name among siblings, of the last of them, and of a scan.
 use mathlib.Core.Path.{_≡_}
 use mathlib.Core.List.{List}
-use mathlib.Core.Bool.{true, false}
+use mathlib.Core.Bool.{true, false, not}
 use Prim.Native.Nat.{ℕ, _+_, _-_, _≤_, _<_}
 use native.Mathlib.Omega.{arith}
 use lib.ListN.{length, getD, drop}
+use lib.Dec.{eqb}
+use borrow.Author.Tests.{eqb-true, eqb-false, not-true}
 use Rattle.format.specs.Bytes.{eqList}
 use Rattle.format.specs.Records.{Forest}
 use Rattle.format.specs.Layout.{distinct}
+use Rattle.format_laws.proofs.Tests.{and-inv₃}
 use Rattle.cache_tree.specs.Flat.{treesLength, nameOf, Reads}
 use Rattle.tree_search.specs.declared.child.Child.the-variants as C
 use Rattle.tree_search.specs.declared.child.Answer.{Answer}
 use Rattle.tree_search.specs.declared.child.Answer.the-variants as A
 use Rattle.tree_search.specs.Siblings.{Lane, Told, ToldSoon}
-use Rattle.tree_search.specs.Table.{Says}
+use Rattle.tree_search.specs.Table.{isSaid, Says}
 use Rattle.tree_search.proofs.Siblings.{last-all, last-next, last-here, Searching, search-start, search-on, search-end}
 
 -- ---- the last of some siblings
@@ -48,6 +51,13 @@ module _ (d : List ℕ) (at k : ℕ) where
     told-soon place left r t = record { least = t .least; most = t .most; is = λ f m differ reads last. t .is f m differ reads }
 
 -- by a table that has their place and their number at i
+pub is-said : (t : List ℕ) (i at k : ℕ) → isSaid t i at k ≡ true → Says t i at k
+unfolding isSaid
+is-said t i at k e =
+    let h = and-inv₃ (not (eqb k 0)) (eqb (getD t i 0) at) (eqb (getD t (i + 1) 0) k) e in
+    let other : k ≡ 0 → ⊥ = eqb-false k 0 (not-true _ (h .0)) in
+    record { place = eqb-true _ _ (h .1); number = eqb-true _ _ (h .2); some = omega arith }
+
 module _ (d t : List ℕ) (i at k : ℕ) (says : Says t i at k) where
   pub can-tell : at ≤ length d → (1 ≤ getD t (i + 1) 0) × (getD t i 0 ≤ length d)
   can-tell l = (omega arith, omega arith)

@@ -4,7 +4,7 @@
 -- 0 where no lanes are laid.
 use mathlib.Core.Path.{_≡_}
 use mathlib.Core.List.{List}
-use mathlib.Core.Bool.{true, false, cond}
+use mathlib.Core.Bool.{Bool, true, false, not, cond, _&&_}
 use Prim.Native.Nat.{ℕ, _+_, _-_, _≤_, _<_}
 use lib.ListN.{length, getD, set, drop}
 use lib.Dec.{eqb}
@@ -47,7 +47,10 @@ pub record Noted (d : List ℕ) (f : Forest) (t : List ℕ) (rest : Forest) : Ty
   pub none : (y : List ℕ) → Wanted t y → noteAt t (slotFor t y) ≡ 0 → child y f ≡ child y rest
   pub one : (y : List ℕ) → Wanted t y → 2 ≤ noteAt t (slotFor t y) → eqList y (nameOf (drop (noteAt t (slotFor t y) - 2) d)) ≡ false → child y f ≡ child y rest
 
--- a table has the place of k siblings and their number at i, and there are some
+-- whether a table has the place of k siblings and their number at i, and there are some
+unfoldable pub isSaid : List ℕ → ℕ → ℕ → ℕ → Bool
+isSaid t i at k = not (eqb k 0) && (eqb (getD t i 0) at && eqb (getD t (i + 1) 0) k)
+
 pub record Says (t : List ℕ) (i at k : ℕ) : Type 0 where
   pub place : getD t i 0 ≡ at
   pub number : getD t (i + 1) 0 ≡ k

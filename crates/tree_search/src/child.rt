@@ -11,7 +11,6 @@ ghost use mathlib.Core.Bool.{true};
 ghost use Prim.Native.Nat.{ℕ, _≤_};
 ghost use lib.ListN.{length, drop};
 ghost use Rattle.format.specs.Bytes.{eqList};
-ghost use Rattle.format.specs.Names as Names;
 ghost use Rattle.format.specs.Records.{Forest};
 ghost use Rattle.cache_tree.specs.Flat.{nameOf};
 ghost use Rattle.tree_search.specs.Siblings.{Last, Answered, placeOfAnswer, Lane, Told, Finds};
@@ -35,15 +34,6 @@ pub fn is_named(d: &[u8], at: usize, name: &[u8]) -> bool
 {
     let nul = find(d, at, 0);
     same(name, &d[at..nul])
-}
-
-// How the name of the node at a place stands to this one.
-pub fn order_at(d: &[u8], at: usize, name: &[u8]) -> Order
-    requires { ⌜ at ≤ length (now d) ⌝ }
-    ensures { λ r. ⌜ r ≡ Names.compare (nameOf (drop at (now (d .entry)))) (now (name .entry)) ⌝ }
-{
-    let nul = find(d, at, 0);
-    compare(&d[at..nul], name)
 }
 
 // The first of k siblings at a place that has this name.
@@ -122,7 +112,8 @@ pub fn find_next(d: &[u8], name: &[u8], place: usize, left: u32) -> Answer
     Answer::Unknown
 }
 
-// The first of the siblings that stand from a place on, so many, that is not below this name, if it has the name.
+// The first of the siblings that stand from a place on, so many, that is not below this name, if it has the name. Those before it must be as long: in Git's
+// order they are, and in any other no sibling is passed for names of two lengths.
 pub fn find_ahead(d: &[u8], name: &[u8], from: usize, count: u32) -> Answer
     requires { ⌜ (from ≤ length (now d)) × (length (now d) ≤ 16777216) ⌝ }
     ensures { λ r. ⌜ ((at k : ℕ) → Lane (now (d .entry)) at k from count → Told (now (d .entry)) at k (now (name .entry)) r) ⌝ }
@@ -130,7 +121,11 @@ pub fn find_ahead(d: &[u8], name: &[u8], from: usize, count: u32) -> Answer
     let mut place = from;
     let mut left = count;
     while 0 < left {
-        let order = order_at(d, place, name);
+        let nul = find(d, place, 0);
+        if nul - place != name.len() {
+            return Answer::Unknown;
+        }
+        let order = compare(&d[place..nul], name);
         match order {
             Order::Below => {
                 place = after_tree(d, place);

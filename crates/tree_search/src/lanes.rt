@@ -13,12 +13,11 @@ use fields::compare;
 use fields::find;
 use format::Order;
 ghost use mathlib.Core.Path.{_≡_};
-ghost use mathlib.Core.Bool.{true};
 ghost use mathlib.Core.List.{List};
 ghost use Prim.Native.Nat.{ℕ, _≤_, _<_};
 ghost use lib.ListN.{length, getD};
 ghost use Rattle.tree_search.specs.Siblings.{Lane, Told};
-ghost use Rattle.tree_search.specs.Table.{Says, Lanes, Known};
+ghost use Rattle.tree_search.specs.Table.{isSaid, Lanes, Known};
 
 // A lane goes on at a place: so many siblings stand from there on.
 fn put_lane(t: &mut Table, i: usize, place: usize, left: u32)
@@ -29,8 +28,8 @@ fn put_lane(t: &mut Table, i: usize, place: usize, left: u32)
     t[SLOTS + i] = left;
 }
 
-// The sibling at a place, from which so many stand on, begins the lane of its length, if nothing does yet. One below the wanted name does not: names
-// rise, so it will not be asked for again.
+// The sibling at a place, with so many from it on, begins the lane of its length, if none does yet. One below the wanted name does not: names rise, so it
+// will not be asked for again.
 fn lay_one(d: &[u8], place: usize, left: u32, name: &[u8], t: &mut Table)
     requires { ⌜ (place ≤ length (now d)) × (length (now d) ≤ 16777216) ⌝ }
     ensures { λ _. ⌜ ((at k : ℕ) → Lanes (now (d .entry)) at k (now (t .entry)) → Lane (now (d .entry)) at k place left → Lanes (now (d .entry)) at k (now (t .exit))) ⌝ }
@@ -67,7 +66,7 @@ pub fn lay(d: &[u8], at: usize, k: u32, name: &[u8], t: &mut Table)
 
 // Whether the lanes of the k siblings at a place are laid in a table.
 pub fn is_laid(t: &Table, at: usize, k: u32) -> bool
-    ensures { λ r. ⌜ (r ≡ true → Says (now (t .entry)) 2051 at k) ⌝ }
+    ensures { λ r. ⌜ r ≡ isSaid (now (t .entry)) 2051 at k ⌝ }
 {
     says(t, 2051, at, k)
 }

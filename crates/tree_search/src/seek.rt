@@ -33,7 +33,7 @@ fn find_near(d: &[u8], at: usize, k: u32, name: &[u8], place: usize, left: u32) 
     scan_short(d, at, k, name)
 }
 
-// The same by a table of them, if one of two is: by what it notes, or by its lanes. What both tables hold stays so.
+// The same by a table of these siblings, if one of two is that: by its notes or by its lanes. What the tables hold stays so.
 pub fn find_soon(
     d: &[u8],
     at: usize,

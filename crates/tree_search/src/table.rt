@@ -10,14 +10,13 @@ use crate::keys::want;
 use cache_tree::walk::after_tree;
 use fields::find;
 ghost use mathlib.Core.Path.{_≡_};
-ghost use mathlib.Core.Bool.{true};
 ghost use mathlib.Core.List.{List};
 ghost use Prim.Native.Nat.{ℕ, _+_, _≤_, _<_};
 ghost use lib.ListN.{length, getD, drop};
 ghost use Rattle.cache_tree.specs.Flat.{nameOf};
 ghost use Rattle.tree_search.specs.Keys.{keyOf};
 ghost use Rattle.tree_search.specs.Siblings.{Told};
-ghost use Rattle.tree_search.specs.Table.{noted, Says, Known};
+ghost use Rattle.tree_search.specs.Table.{noted, isSaid, Known};
 
 // A number of a table as a place.
 pub fn place_of(x: u32) -> usize
@@ -110,7 +109,7 @@ pub fn settle(d: &[u8], at: usize, k: u32, t: &mut Table)
 // Whether a table has the place of k siblings and their number at i, and there are some.
 pub fn says(t: &Table, i: usize, at: usize, k: u32) -> bool
     requires { ⌜ i ≤ 2051 ⌝ }
-    ensures { λ r. ⌜ (r ≡ true → Says (now (t .entry)) i at k) ⌝ }
+    ensures { λ r. ⌜ r ≡ isSaid (now (t .entry)) i at k ⌝ }
 {
     if k == 0 {
         return false;
@@ -123,7 +122,7 @@ pub fn says(t: &Table, i: usize, at: usize, k: u32) -> bool
 
 // Whether the k siblings at a place are noted in a table.
 pub fn is_of(t: &Table, at: usize, k: u32) -> bool
-    ensures { λ r. ⌜ (r ≡ true → Says (now (t .entry)) 2048 at k) ⌝ }
+    ensures { λ r. ⌜ r ≡ isSaid (now (t .entry)) 2048 at k ⌝ }
 {
     says(t, 2048, at, k)
 }

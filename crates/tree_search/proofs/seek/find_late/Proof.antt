@@ -1,5 +1,6 @@
 -- The proof that `find_late` meets its contract.
-use Rattle.tree_search.proofs.Telling.{can-tell, told-of}
+use mathlib.Core.Path.{sym, _∙_}
+use Rattle.tree_search.proofs.Telling.{is-said, can-tell, told-of}
 use borrow.Author.Needs.{needs}
 use Rattle.tree_search.proofs.seek.find_late.Statement.{statement}
 use Rattle.tree_search.proofs.seek.find_late.Tie as tie
@@ -10,7 +11,7 @@ is-of-requires c κs = search needs
 recall-requires : tie.Need-recall-requires
 recall-requires c κs =
     let st = c .before .before .before .before in
-    let says = c .before .is-of .ensures (c .if1 .taken) in
+    let says = is-said _ _ _ _ (sym (c .before .is-of .ensures) ∙ c .if1 .taken) in
     let can = can-tell (st .args .d .now) _ _ _ _ says (st .pre .0) in
     (st .pre .2, can .0, can .1)
 
@@ -19,7 +20,7 @@ enum-known-told c = search needs
 
 returns : tie.Need-returns
 returns c =
-    let says = c .before .before .before .before .before .is-of .ensures (c .before .before .before .before .if1 .taken) in
+    let says = is-said _ _ _ _ (sym (c .before .before .before .before .before .is-of .ensures) ∙ c .before .before .before .before .if1 .taken) in
     told-of _ _ _ _ _ says _ _ (rw (c .before .told .given .1) at (c .before .before .before .recall .ensures))
 
 enum-told : tie.Need-enum-told

@@ -1,14 +1,14 @@
 -- The proof that `says` meets its contract.
 use mathlib.Core.Path.{sym, _∙_}
-use native.Mathlib.Omega.{arith}
-use borrow.Author.Tests.{eqb-true}
-use Rattle.format_laws.proofs.Tests.{false-true}
+use borrow.Author.Tests.{eq-eqb, ne-eqb}
 use borrow.Author.Needs.{needs}
+use Rattle.tree_search.specs.Table.{isSaid}
 use Rattle.tree_search.proofs.table.says.Statement.{statement}
 use Rattle.tree_search.proofs.table.says.Tie as tie
 
 returns : tie.Need-returns
-returns c = λ e. false-true e
+unfolding isSaid
+returns c = rw (eq-eqb _ _ (c .if1 .taken))
 
 mul-place-of : tie.Need-mul-place-of
 mul-place-of c = search needs
@@ -29,10 +29,12 @@ element-copy-out-result : tie.Need-element-copy-out-result
 element-copy-out-result c = search needs
 
 returns-2 : tie.Need-returns-2
-returns-2 c = λ e. record { place = sym (c .before .before .place-of .ensures) ∙ c .before .if2 .taken; number = eqb-true _ _ e; some = omega arith }
+unfolding isSaid
+returns-2 c = rw (ne-eqb _ _ (c .before .before .before .before .if1 .left), eq-eqb _ _ (sym (c .before .before .place-of .ensures) ∙ c .before .if2 .taken))
 
 returns-3 : tie.Need-returns-3
-returns-3 c = λ e. false-true e
+unfolding isSaid
+returns-3 c = rw (ne-eqb _ _ (c .before .before .before .if1 .left), ne-eqb _ _ (λ e. c .if2 .left (c .before .place-of .ensures ∙ e)))
 
 pub says-spec : {M : Type 1} → statement M
 says-spec =
