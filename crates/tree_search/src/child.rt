@@ -53,26 +53,6 @@ pub fn scan(d: &[u8], at: usize, k: u32, name: &[u8]) -> Child
     Child::Missing
 }
 
-// The same, if it is told before more than 4,096 bytes were passed.
-pub fn scan_short(d: &[u8], at: usize, k: u32, name: &[u8]) -> Answer
-    requires { ⌜ (at ≤ length (now d)) × (length (now d) ≤ 16777216) ⌝ }
-    ensures { λ r. ⌜ Told (now (d .entry)) at k (now (name .entry)) r ⌝ }
-{
-    let mut place = at;
-    let mut left = k;
-    while 0 < left {
-        if 4096 < place - at {
-            return Answer::Unknown;
-        }
-        if is_named(d, place, name) {
-            return Answer::Known(Child::Found(place, left));
-        }
-        place = after_tree(d, place);
-        left -= 1;
-    }
-    Answer::Known(Child::Missing)
-}
-
 // Whether k trees at a place take more than so many bytes. The look at them ends there. It only chooses how to search: nothing rests on the answer.
 pub fn is_long(d: &[u8], at: usize, k: u32, limit: usize) -> bool
     requires { ⌜ (at ≤ length (now d)) × (length (now d) ≤ 16777216) ⌝ }
@@ -91,6 +71,37 @@ pub fn is_long(d: &[u8], at: usize, k: u32, limit: usize) -> bool
         pending = pending - 1 + node.subtrees as u64;
     }
     false
+}
+
+// Whether a scan that began at a place and came to another ends there: it has passed more than 4,096 bytes, or the next tree takes more. It only chooses
+// how to search: nothing rests on the answer.
+fn is_far(d: &[u8], at: usize, place: usize) -> bool
+    requires { ⌜ (at ≤ place) × (place ≤ length (now d)) × (length (now d) ≤ 16777216) ⌝ }
+{
+    if 4096 < place - at {
+        return true;
+    }
+    is_long(d, place, 1, 4096)
+}
+
+// The first of k siblings at a place that has this name, if that is told before a scan ends.
+pub fn scan_short(d: &[u8], at: usize, k: u32, name: &[u8]) -> Answer
+    requires { ⌜ (at ≤ length (now d)) × (length (now d) ≤ 16777216) ⌝ }
+    ensures { λ r. ⌜ Told (now (d .entry)) at k (now (name .entry)) r ⌝ }
+{
+    let mut place = at;
+    let mut left = k;
+    while 0 < left {
+        if is_named(d, place, name) {
+            return Answer::Known(Child::Found(place, left));
+        }
+        if is_far(d, at, place) {
+            return Answer::Unknown;
+        }
+        place = after_tree(d, place);
+        left -= 1;
+    }
+    Answer::Known(Child::Missing)
 }
 
 // The sibling after the first of those that stand from a place on, left in number, if it has this name: siblings are mostly asked for in their order.

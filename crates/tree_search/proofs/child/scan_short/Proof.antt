@@ -14,19 +14,19 @@ abbrev μ-loop : tie.MeasureT-loop
 loop-holds : tie.Need-loop-holds Inv-loop μ-loop
 loop-holds c = scan-start _ _ _ _ (c .before .before .pre .0)
 
-sub-if1 : tie.Need-sub-if1 Inv-loop μ-loop
-sub-if1 c = search needs
-
-returns : tie.Need-returns Inv-loop μ-loop
-returns c = scan-stop _ _ _ _ _ _ (c .before .before .loop .inv)
-
 is-named-requires : tie.Need-is-named-requires Inv-loop μ-loop
 is-named-requires c κs = search needs
 
+returns : tie.Need-returns Inv-loop μ-loop
+returns c =
+    let l = c .before .before in
+    scan-here _ _ _ _ _ _ (l .before .loop .inv) (l .loop-test .taken) (sym (c .before .is-named .ensures) ∙ c .if1 .taken)
+
+is-far-requires : tie.Need-is-far-requires Inv-loop μ-loop
+is-far-requires c κs = search needs
+
 returns-2 : tie.Need-returns-2 Inv-loop μ-loop
-returns-2 c =
-    let l = c .before .before .before in
-    scan-here _ _ _ _ _ _ (l .before .loop .inv) (l .loop-test .taken) (sym (c .before .is-named .ensures) ∙ c .if2 .taken)
+returns-2 c = scan-stop _ _ _ _ _ _ (c .before .before .before .before .before .loop .inv)
 
 after-tree-requires : tie.Need-after-tree-requires Inv-loop μ-loop
 after-tree-requires c κs = search needs
@@ -39,8 +39,9 @@ loop-less c = search needs
 
 loop-again : tie.Need-loop-again Inv-loop μ-loop
 loop-again c =
-    let l = c .before .before .before .before in
-    scan-on _ _ _ _ _ _ (l .before .loop .inv) (l .loop-test .taken) (sym (c .before .before .is-named .ensures) ∙ c .before .if2 .left) _ (c .after-tree .ensures .0) (c .after-tree .ensures .1)
+    let i = c .before .before .before in
+    let l = i .before .before in
+    scan-on _ _ _ _ _ _ (l .before .loop .inv) (l .loop-test .taken) (sym (i .before .is-named .ensures) ∙ i .if1 .left) _ (c .after-tree .ensures .0) (c .after-tree .ensures .1)
 
 returns-3 : tie.Need-returns-3 Inv-loop μ-loop
 returns-3 c = scan-end _ _ _ _ _ _ (c .before .loop .inv) (c .loop-test .left)
@@ -52,9 +53,9 @@ scan-short-spec =
     Inv-loop
     μ-loop
     loop-holds
-    sub-if1
-    returns
     is-named-requires
+    returns
+    is-far-requires
     returns-2
     after-tree-requires
     sub-left
