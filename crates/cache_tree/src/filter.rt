@@ -3,7 +3,7 @@ ghost use mathlib.Core.Path.{_≡_};
 ghost use Prim.Native.Nat.{_≤_, _<_};
 ghost use lib.ListN.{length};
 ghost use Rattle.cache_tree.specs.Filter.{stir, hashOf, nextSpot, hasBit, setBit, marked, markIn};
-use tree_nodes::number::wide;
+use fields::wide64;
 
 // One step of the hash.
 fn mix(x: u64) -> u64
@@ -22,7 +22,7 @@ pub fn hash(s: &[u8], seed: u64) -> u64
     let mut h = seed % 4294967296;
     let mut i = 0;
     while i < s.len() {
-        h = mix(h + wide(s[i]) + key);
+        h = mix(h + wide64(s[i]) + key);
         i += 1;
     }
     h

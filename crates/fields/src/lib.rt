@@ -76,7 +76,8 @@ fn least(a: usize, b: usize) -> usize
     b
 }
 
-fn wide64(x: u8) -> u64
+// A byte as a number of 64 bits.
+pub fn wide64(x: u8) -> u64
     ensures { λ r. ⌜ (r ≡ x) × (r < 256) ⌝ }
 {
     x as u64

@@ -1,4 +1,5 @@
 // Decimal numbers in a text.
+use fields::wide64;
 ghost use mathlib.Core.Path.{_≡_};
 ghost use Prim.Native.Nat.{_<_};
 ghost use Rattle.tree_nodes.specs.Answers.{numberIn};
@@ -6,12 +7,6 @@ ghost use Rattle.tree_nodes.specs.Answers.{numberIn};
 pub enum Number {
     Bad,
     Good(u32),
-}
-
-pub fn wide(x: u8) -> u64
-    ensures { λ r. ⌜ (r ≡ x) × (r < 256) ⌝ }
-{
-    x as u64
 }
 
 // The number that a text says, at most limit. The look at a long text ends where the limit is passed.
@@ -31,7 +26,7 @@ pub fn read_number(t: &[u8], limit: u64) -> Number
     let mut v: u64 = 0;
     let mut i = 0;
     while i < t.len() {
-        let d = wide(t[i]);
+        let d = wide64(t[i]);
         if d < 48 {
             return Number::Bad;
         }

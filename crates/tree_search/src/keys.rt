@@ -1,5 +1,6 @@
 // Keys of names, and the slots of a table that they stand in. A key is a polynomial of the name's bytes, modulo a prime, at a number that whoever writes
 // a file can't choose: two names have the same key by chance only.
+use fields::wide64;
 ghost use mathlib.Core.Path.{_≡_};
 ghost use Prim.Native.Nat.{_<_};
 ghost use lib.ListN.{length};
@@ -13,12 +14,6 @@ ghost use Rattle.tree_search.specs.Keys.{stepKey, keyOf, slotOf};
 pub type Table = [u32; 2053];
 
 pub const SLOTS: usize = 1024;
-
-fn wide(x: u8) -> u64
-    ensures { λ r. ⌜ (r ≡ x) × (r < 256) ⌝ }
-{
-    x as u64
-}
 
 // One more byte of a key.
 fn step_key(m: u64, h: u64, x: u64) -> u64
@@ -37,7 +32,7 @@ pub fn key_of(s: &[u8], maker: u32) -> u32
     let mut h: u64 = 0;
     let mut i = 0;
     while i < s.len() {
-        h = step_key(m, h, wide(s[i]));
+        h = step_key(m, h, wide64(s[i]));
         i += 1;
     }
     step_key(m, h, 0) as u32

@@ -19,11 +19,11 @@ loop-holds : tie.Need-loop-holds Inv-loop μ-loop
 unfolding hashOf
 loop-holds c = (omega arith, omega arith, refl)
 
-shared-slice-read-wide : tie.Need-shared-slice-read-wide Inv-loop μ-loop
-shared-slice-read-wide c = omega arith
+shared-slice-read-wide64 : tie.Need-shared-slice-read-wide64 Inv-loop μ-loop
+shared-slice-read-wide64 c = omega arith
 
-wide-requires : tie.Need-wide-requires Inv-loop μ-loop
-wide-requires c κs = search needs
+wide64-requires : tie.Need-wide64-requires Inv-loop μ-loop
+wide64-requires c κs = search needs
 
 add-mix : tie.Need-add-mix Inv-loop μ-loop
 add-mix c = omega arith
@@ -44,7 +44,7 @@ loop-again : tie.Need-loop-again Inv-loop μ-loop
 loop-again c =
     let l = c .before .before .before .before in
     let s = c .before .before .before .before .before .before .args .s .now in
-    (omega arith, c .mix .ensures .1, rw (c .mix .ensures .0, c .before .wide .ensures .0) (l .loop .inv .2 ∙ hash-more _ (l .loop .h) s (l .loop .i) (c .before .before .before .loop-test .taken)))
+    (omega arith, c .mix .ensures .1, rw (c .mix .ensures .0, c .before .wide64 .ensures .0) (l .loop .inv .2 ∙ hash-more _ (l .loop .h) s (l .loop .i) (c .before .before .before .loop-test .taken)))
 
 returns : tie.Need-returns Inv-loop μ-loop
 returns c =
@@ -58,8 +58,8 @@ hash-spec =
     Inv-loop
     μ-loop
     loop-holds
-    shared-slice-read-wide
-    wide-requires
+    shared-slice-read-wide64
+    wide64-requires
     add-mix
     add-mix-2
     mix-requires

@@ -30,11 +30,11 @@ returns-3 c = sym (number-zeros _ _ (c .before .before .before .if1 .left) (c .i
 loop-holds : tie.Need-loop-holds Inv-loop μ-loop
 loop-holds c = (omega arith, omega arith, number-digits _ _ (c .before .before .if1 .left) (c .if2 .left))
 
-shared-slice-read-wide : tie.Need-shared-slice-read-wide Inv-loop μ-loop
-shared-slice-read-wide c = omega arith
+shared-slice-read-wide64 : tie.Need-shared-slice-read-wide64 Inv-loop μ-loop
+shared-slice-read-wide64 c = omega arith
 
-wide-requires : tie.Need-wide-requires Inv-loop μ-loop
-wide-requires c κs = search needs
+wide64-requires : tie.Need-wide64-requires Inv-loop μ-loop
+wide64-requires c κs = search needs
 
 returns-4 : tie.Need-returns-4 Inv-loop μ-loop
 returns-4 c =
@@ -66,7 +66,7 @@ loop-less c = omega arith
 loop-again : tie.Need-loop-again Inv-loop μ-loop
 loop-again c =
     let l = c .before .before .before .before .before .before in
-    (omega arith, omega arith, l .loop .inv .2 ∙ rw (c .before .before .before .wide .ensures .0) (from-step _ _ _ (l .loop .i) (omega arith) (omega arith) (omega arith)))
+    (omega arith, omega arith, l .loop .inv .2 ∙ rw (c .before .before .before .wide64 .ensures .0) (from-step _ _ _ (l .loop .i) (omega arith) (omega arith) (omega arith)))
 
 cast-t18 : tie.Need-cast-t18 Inv-loop μ-loop
 cast-t18 c = omega arith
@@ -85,8 +85,8 @@ read-number-spec =
     returns-2
     returns-3
     loop-holds
-    shared-slice-read-wide
-    wide-requires
+    shared-slice-read-wide64
+    wide64-requires
     returns-4
     returns-5
     mul-v

@@ -19,11 +19,11 @@ loop-holds : tie.Need-loop-holds Inv-loop μ-loop
 unfolding keyOf
 loop-holds c = (omega arith, omega arith, omega arith, refl)
 
-shared-slice-read-wide : tie.Need-shared-slice-read-wide Inv-loop μ-loop
-shared-slice-read-wide c = search needs
+shared-slice-read-wide64 : tie.Need-shared-slice-read-wide64 Inv-loop μ-loop
+shared-slice-read-wide64 c = search needs
 
-wide-requires : tie.Need-wide-requires Inv-loop μ-loop
-wide-requires c κs = search needs
+wide64-requires : tie.Need-wide64-requires Inv-loop μ-loop
+wide64-requires c κs = search needs
 
 step-key-requires : tie.Need-step-key-requires Inv-loop μ-loop
 step-key-requires c κs = search needs
@@ -38,7 +38,7 @@ loop-again : tie.Need-loop-again Inv-loop μ-loop
 loop-again c =
     let l = c .before .before .before .before in
     let s = c .before .before .before .before .before .before .args .s .now in
-    (omega arith, c .step-key .ensures .1, l .loop .inv .2, rw (c .step-key .ensures .0, c .before .wide .ensures .0) (l .loop .inv .3 ∙ key-more _ (l .loop .h) s (l .loop .i) (c .before .before .before .loop-test .taken)))
+    (omega arith, c .step-key .ensures .1, l .loop .inv .2, rw (c .step-key .ensures .0, c .before .wide64 .ensures .0) (l .loop .inv .3 ∙ key-more _ (l .loop .h) s (l .loop .i) (c .before .before .before .loop-test .taken)))
 
 step-key-requires-2 : tie.Need-step-key-requires-2 Inv-loop μ-loop
 step-key-requires-2 c κs = search needs
@@ -58,8 +58,8 @@ key-of-spec =
     Inv-loop
     μ-loop
     loop-holds
-    shared-slice-read-wide
-    wide-requires
+    shared-slice-read-wide64
+    wide64-requires
     step-key-requires
     add-i
     loop-less
