@@ -21,7 +21,8 @@ use Rattle.tree_nodes.specs.declared.node.Node as Code
 use Rattle.tree_nodes.specs.declared.node.NodeRead.the-variants as R
 use Rattle.tree_nodes.specs.Answers.{nodeAt}
 use Rattle.cache_tree.specs.Answers.{size}
-use Rattle.cache_tree.specs.Flat.{placeOf, lengthOf, treesLength, nameOf, restOf, namesOf, hasName, namesDiffer, allDiffer, Reads, reads-none, reads-more}
+use Rattle.format.specs.Places.{nodeStart}
+use Rattle.cache_tree.specs.Flat.{lengthOf, treesLength, nameOf, restOf, namesOf, hasName, namesDiffer, allDiffer, Reads, reads-none, reads-more}
 use Rattle.tree_nodes.proofs.Readings.{node-took}
 use Rattle.tree_nodes.proofs.Nodes.{node-named, NodeIs, no-node}
 use Rattle.cache_tree.proofs.Lists.{items-size}
@@ -95,16 +96,16 @@ forest-reads (suc l) (suc k) s f m e =
 
 -- ---- what stands where
 
-pub place-none : (s : List ℕ) → placeOf 0 s ≡ 0
-unfolding placeOf
+pub place-none : (s : List ℕ) → nodeStart 20 0 s ≡ 0
+unfolding nodeStart
 place-none s = refl
 
-pub place-step : (k : ℕ) (s : List ℕ) (h : Head) (m : ℕ) → readNode 20 0 s ≡ good h m → placeOf (suc k) s ≡ m + placeOf k (drop m s)
-unfolding placeOf
+pub place-step : (k : ℕ) (s : List ℕ) (h : Head) (m : ℕ) → readNode 20 0 s ≡ good h m → nodeStart 20 (suc k) s ≡ m + nodeStart 20 k (drop m s)
+unfolding nodeStart
 place-step k s h m e = rw e
 
-pub place-bad : (k n p : ℕ) (s : List ℕ) → readNode 20 0 s ≡ bad n p → placeOf (suc k) s ≡ length s
-unfolding placeOf
+pub place-bad : (k n p : ℕ) (s : List ℕ) → readNode 20 0 s ≡ bad n p → nodeStart 20 (suc k) s ≡ length s
+unfolding nodeStart
 place-bad k n p s e = rw e
 
 pub reads-width : (s : List ℕ) (f : Forest) (k m : ℕ) → Reads s f k m → width f ≡ k
@@ -129,9 +130,9 @@ reads-length s _ _ _ (reads-more {h = h} {a = a} {b = b} {c = c} {k = k} q r t) 
     (reads-length _ _ _ _ r (k + j))
     (reads-length _ _ _ _ t j))
 
-pub reads-places : (s : List ℕ) (f : Forest) (k m : ℕ) → Reads s f k m → (j : ℕ) → placeOf (size f + j) s ≡ m + placeOf j (drop m s)
+pub reads-places : (s : List ℕ) (f : Forest) (k m : ℕ) → Reads s f k m → (j : ℕ) → nodeStart 20 (size f + j) s ≡ m + nodeStart 20 j (drop m s)
 unfolding size
-reads-places s _ _ _ reads-none j = rw (zero-add j, zero-add (placeOf j s))
+reads-places s _ _ _ reads-none j = rw (zero-add j, zero-add (nodeStart 20 j s))
 reads-places s _ _ _ (reads-more {h = h} {kids = kids} {after = after} {a = a} {b = b} {c = c} {k = k} q r t) j =
     rw (suc-add (size kids + size after) j, add-assoc (size kids) (size after) j, ← drops a b c s)
     (three a b c _ _ _ _ (place-step (size kids + (size after + j)) s h a q) (reads-places _ _ _ _ r (size after + j)) (reads-places _ _ _ _ t j))
@@ -211,7 +212,7 @@ below-or {P} j n f g = by (ltb j n) refl
     by true e = f (ltb-true j n e)
     by false e = g (j - n) (omega (arith, ltb-false j n e))
 
-pub reads-item : (s : List ℕ) (f : Forest) (k m : ℕ) → Reads s f k m → (l j : ℕ) (z : Item) → j < size f → Shown (drop (placeOf j s) s) (getD (items l f) j z)
+pub reads-item : (s : List ℕ) (f : Forest) (k m : ℕ) → Reads s f k m → (l j : ℕ) (z : Item) → j < size f → Shown (drop (nodeStart 20 j s) s) (getD (items l f) j z)
 unfolding items size
 reads-item s _ _ _ reads-none l j z h = absurd (omega arith)
 reads-item s _ _ _ (reads-more {h = h} {kids = kids} {a = a} q r t) l zero z lt = rw (place-none s) (record { taken = a; reads = q ∙ ap (λ (n : ℕ). good (record { node = h .node; subtrees = n }) a) (sym (reads-width _ _ _ _ r)) })
@@ -222,14 +223,14 @@ reads-item s _ _ _ (reads-more {h = h} {kids = kids} {after = after} {a = a} {b 
     (λ (below : j < size kids).
     shown-at _ _ _ _ (reads-item _ _ _ _ r (suc l) j z below) (drop-drop _ a s ∙ ap (λ (i : ℕ). drop i s) (sym (place-step j s h a q))) (sym (List·getD-append xs (items l after) z j (omega arith))))
     (λ i (e : j ≡ size kids + i).
-    let p : placeOf (suc j) s ≡ a + (b + placeOf i (drop b (drop a s))) = place-step j s h a q ∙ ap (λ (x : ℕ). a + x) (ap (λ (x : ℕ). placeOf x (drop a s)) e ∙ reads-places _ _ _ _ r i) in
+    let p : nodeStart 20 (suc j) s ≡ a + (b + nodeStart 20 i (drop b (drop a s))) = place-step j s h a q ∙ ap (λ (x : ℕ). a + x) (ap (λ (x : ℕ). nodeStart 20 x (drop a s)) e ∙ reads-places _ _ _ _ r i) in
     let w : j ≡ length xs + i = omega arith in
     shown-at _ _ _ _ (reads-item _ _ _ _ t l i z (omega arith)) (drops a b _ s ∙ ap (λ (x : ℕ). drop x s) (sym p)) (sym (ap (λ (x : ℕ). getD (xs ++ items l after) x z) w ∙ getD-append-add xs (items l after) i z)))
 
 -- ---- from a place on
 
 module _ (d : List ℕ) (place left : ℕ) where
-  pub place-end : left ≤ 0 → place + placeOf left (drop place d) ≡ place
+  pub place-end : left ≤ 0 → place + nodeStart 20 left (drop place d) ≡ place
   place-end h = let z : left ≡ 0 = omega arith in rw (z, place-none (drop place d), add-zero place)
 
   pub trees-end : left ≤ 0 → place + treesLength left (drop place d) ≡ place
@@ -240,12 +241,12 @@ module _ (d : List ℕ) (place left : ℕ) where
       rest-is : drop (node .next - place) (drop place d) ≡ drop (node .next) d
       rest-is = let a = is .named in let b = is .ended in drop-to d place (node .next - place) (node .next) (omega arith)
 
-      pub place-more : place + placeOf left (drop place d) ≡ node .next + placeOf (left - 1) (drop (node .next) d)
+      pub place-more : place + nodeStart 20 left (drop place d) ≡ node .next + nodeStart 20 (left - 1) (drop (node .next) d)
       place-more =
           let a = is .named in
           let b = is .ended in
-          let e : placeOf left (drop place d) ≡ node .next - place + placeOf (left - 1) (drop (node .next) d) =
-          ap (λ (k : ℕ). placeOf k (drop place d)) (suc-pred left some) ∙ place-step (left - 1) (drop place d) (is .head) (node .next - place) (is .reads) ∙ rw rest-is in
+          let e : nodeStart 20 left (drop place d) ≡ node .next - place + nodeStart 20 (left - 1) (drop (node .next) d) =
+          ap (λ (k : ℕ). nodeStart 20 k (drop place d)) (suc-pred left some) ∙ place-step (left - 1) (drop place d) (is .head) (node .next - place) (is .reads) ∙ rw rest-is in
           omega arith
 
       pub trees-more : place + treesLength left (drop place d) ≡ node .next + treesLength (left - 1 + node .subtrees) (drop (node .next) d)
@@ -257,10 +258,10 @@ module _ (d : List ℕ) (place left : ℕ) where
           omega arith
 
     module _ (inside : place ≤ length d) (none : R.Bad ≡ nodeAt place (readNode 20 0 (drop place d))) where
-      pub place-stop : place + placeOf left (drop place d) ≡ length d
+      pub place-stop : place + nodeStart 20 left (drop place d) ≡ length d
       place-stop =
           no-node d place none λ n p q.
-          let e : placeOf left (drop place d) ≡ length (drop place d) = ap (λ (k : ℕ). placeOf k (drop place d)) (suc-pred left some) ∙ place-bad (left - 1) n p (drop place d) q in
+          let e : nodeStart 20 left (drop place d) ≡ length (drop place d) = ap (λ (k : ℕ). nodeStart 20 k (drop place d)) (suc-pred left some) ∙ place-bad (left - 1) n p (drop place d) q in
           let l : length (drop place d) ≡ length d - place = length-drop place d in
           omega arith
 

@@ -20,7 +20,8 @@ use Rattle.cache_tree.specs.declared.list.ListRead.the-variants as L
 use Rattle.cache_tree.specs.declared.TreeRead.the-variants as T
 use Rattle.tree_nodes.specs.Answers.{nodeAt}
 use Rattle.cache_tree.specs.Answers.{size, levelIn, listAt, rooted}
-use Rattle.cache_tree.specs.Flat.{placeOf, namesDiffer, allDiffer, Reads, reads-none, reads-more}
+use Rattle.format.specs.Places.{nodeStart}
+use Rattle.cache_tree.specs.Flat.{namesDiffer, allDiffer, Reads, reads-none, reads-more}
 use Rattle.cache_tree.specs.Shape.{readShape, nodesAt, treeOf}
 use Rattle.tree_nodes.proofs.Nodes.{NodeIs}
 use Rattle.cache_tree.proofs.Lists.{items-size}
@@ -177,7 +178,7 @@ module _ (d : List ℕ) (want : ℕ) where
             let f : distinct (are .of .subtrees) ≡ true = sym (nodes-differ d (are .of) next (are .reads)) ∙ ap (λ (k : ℕ). allDiffer k d) (sym (are .nodes)) ∙ differs in
             rw (are .reads, eq-eqb _ _ whole, f)
 
-        pub tree-shown : (place : ℕ) → place ≡ placeOf want d → want < n → treeOf want d (readShape 20 0 d) ≡ T.Good n place level
+        pub tree-shown : (place : ℕ) → place ≡ nodeStart 20 want d → want < n → treeOf want d (readShape 20 0 d) ≡ T.Good n place level
         unfolding treeOf
         tree-shown place e h = rw (shape-is, ← (are .nodes), ← (are .leveled), lt-ltb _ _ h, e)
 
@@ -192,14 +193,14 @@ tree-items : (t : Tree) → treeItems t ≡ items 1 (tree (t .root) (t .subtrees
 unfolding treeItems items
 tree-items t = rw (append-nil (items 2 (t .subtrees)))
 
-item-of : (d : List ℕ) (t u : Tree) (m : ℕ) → Reads d (tree (u .root) (u .subtrees) nil) 1 m → u ≡ t → (k : ℕ) (z : Item) → k < length (treeItems t) → Shown (drop (placeOf k d) d) (getD (treeItems t) k z)
+item-of : (d : List ℕ) (t u : Tree) (m : ℕ) → Reads d (tree (u .root) (u .subtrees) nil) 1 m → u ≡ t → (k : ℕ) (z : Item) → k < length (treeItems t) → Shown (drop (nodeStart 20 k d) d) (getD (treeItems t) k z)
 item-of d t u m r e k z lt =
     let f : treeItems t ≡ items 1 (tree (u .root) (u .subtrees) nil) = ap treeItems (sym e) ∙ tree-items u in
     let n : k < size (tree (u .root) (u .subtrees) nil) = omega (arith, lt, ap length f, items-size 1 (tree (u .root) (u .subtrees) nil)) in
     rw f (reads-item d _ 1 m r 1 k z n)
 
 -- it stands where k nodes have passed
-pub tree-item : (d : List ℕ) (t : Tree) (m : ℕ) → readNodes 20 0 d ≡ good t m → (k : ℕ) (z : Item) → k < length (treeItems t) → Shown (drop (placeOf k d) d) (getD (treeItems t) k z)
+pub tree-item : (d : List ℕ) (t : Tree) (m : ℕ) → readNodes 20 0 d ≡ good t m → (k : ℕ) (z : Item) → k < length (treeItems t) → Shown (drop (nodeStart 20 k d) d) (getD (treeItems t) k z)
 unfolding readNodes
 tree-item d t m e k z lt =
     bind-inv (readNode 20 0 d) _ t m e λ h a i q r is.

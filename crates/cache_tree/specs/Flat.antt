@@ -8,16 +8,7 @@ use Rattle.format.specs.Bytes.{eqList, before}
 use Rattle.format.specs.Records.{Forest, nil, tree}
 use Rattle.format.specs.Reading.{Read, bad, good}
 use Rattle.format.specs.Reader.{Head, readNode}
-
--- by the node that begins the list: its number of subtrees and its bytes
-abbrev pub onNode : {A : Type 0} → Read Head → A → (ℕ → ℕ → A) → A
-onNode (bad n p) none some = none
-onNode (good h m) none some = some (h .subtrees) m
-
--- where the kth node begins; the end where there are fewer
-unfoldable pub placeOf : ℕ → List ℕ → ℕ
-placeOf zero s = 0
-placeOf (suc k) s = onNode (readNode 20 0 s) (length s) (λ subtrees m. m + placeOf k (drop m s))
+use Rattle.format.specs.Places.{onNode}
 
 -- how many bytes k nodes take with all below them; fuel is at least the number of bytes
 unfoldable pub lengthOf : ℕ → ℕ → List ℕ → ℕ

@@ -13,7 +13,7 @@ use Rattle.cache_tree.specs.declared.list.ListRead.the-variants as L
 use Rattle.cache_tree.specs.declared.TreeRead.{TreeRead}
 use Rattle.cache_tree.specs.declared.TreeRead.the-variants as T
 use Rattle.cache_tree.specs.Answers.{levelIn}
-use Rattle.cache_tree.specs.Flat.{placeOf}
+use Rattle.format.specs.Places.{nodeStart}
 
 unfoldable pub readShape : ℕ → ℕ → List ℕ → Read Tree
 readShape w p s =
@@ -28,7 +28,7 @@ nodesAt want (good t m) = L.Good m (length (treeItems t)) (levelIn (suc want) (t
 -- the number of nodes, the place of node number want, its level; 0 where there are fewer
 unfoldable pub treeOf : ℕ → List ℕ → Read Tree → TreeRead
 treeOf want d (bad n p) = T.Bad
-treeOf want d (good t m) = T.Good (length (treeItems t)) (cond (ltb want (length (treeItems t))) (placeOf want d) 0) (levelIn (suc want) (treeItems t))
+treeOf want d (good t m) = T.Good (length (treeItems t)) (cond (ltb want (length (treeItems t))) (nodeStart 20 want d) 0) (levelIn (suc want) (treeItems t))
 
 -- the same reading of data at the place p; every fault is 15
 abbrev pub placed : {A : Type 0} → ℕ → Read A → Read A

@@ -4,11 +4,12 @@ use tree_nodes::node::read_node;
 ghost use mathlib.Core.Path.{_≡_};
 ghost use Prim.Native.Nat.{_+_, _≤_};
 ghost use lib.ListN.{length, drop};
-ghost use Rattle.cache_tree.specs.Flat.{placeOf, treesLength};
+ghost use Rattle.format.specs.Places.{nodeStart};
+ghost use Rattle.cache_tree.specs.Flat.{treesLength};
 
 // Where node number k begins, from 0 on; the end where there are fewer.
 pub fn place_of(d: &[u8], k: u32) -> usize
-    ensures { λ r. ⌜ (r ≡ placeOf k (now (d .entry))) × (r ≤ length (now (d .entry))) ⌝ }
+    ensures { λ r. ⌜ (r ≡ nodeStart 20 k (now (d .entry))) × (r ≤ length (now (d .entry))) ⌝ }
 {
     let mut place = 0;
     let mut left = k;

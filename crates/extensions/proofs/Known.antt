@@ -12,7 +12,8 @@ use Rattle.format_laws.proofs.Lists.{part-length}
 use Rattle.format_laws.proofs.Readings.{same-size}
 use Rattle.spelling_extensions.proofs.Undo.{read-undos, undos-read}
 use Rattle.resolve_undo.specs.declared.RecordsRead.the-variants as S
-use Rattle.resolve_undo.specs.Answers.{placeOf, recordsRead}
+use Rattle.format.specs.Places.{undoStart}
+use Rattle.resolve_undo.specs.Answers.{recordsRead}
 use Rattle.resolve_undo.proofs.Showing.{read-item}
 use Rattle.extensions.specs.declared.Found.{Found}
 use Rattle.extensions.specs.declared.One.{One}
@@ -51,12 +52,12 @@ records-fault want place p (bad n q) h e = h .only n q refl
 records-fault want place p (good us k) h e = let z : _≡_ {A = ℕ} 0 1 = cc in absurd (omega arith)
 
 module _ (want : ℕ) (b : List ℕ) (at end : ℕ) (inside : Inside b at end) (found : Found) (new : found .undo .there ≡ false) where
-  pub undo-refused : ((p : ℕ) → S.Bad ≡ recordsRead want (placeOf 20 p want [] (part b (at + 8) end)) (undosIn p (part b (at + 8) end)))
+  pub undo-refused : ((p : ℕ) → S.Bad ≡ recordsRead want (undoStart 20 p want [] (part b (at + 8) end)) (undosIn p (part b (at + 8) end)))
       → known (found .undo .there) at (undosIn at (part b (at + 8) end)) resolveUndo ≡ bad 17 at
   undo-refused e = known-bad at _ resolveUndo _ new 17 (records-fault want _ at _ (undos-faults 20 at _ [] (part b (at + 8) end)) (e at))
 
   pub undo-added : (wn count place : ℕ)
-      → ((p : ℕ) → S.Good count place ≡ recordsRead want (placeOf 20 p want [] (part b (at + 8) end)) (undosIn p (part b (at + 8) end)))
+      → ((p : ℕ) → S.Good count place ≡ recordsRead want (undoStart 20 p want [] (part b (at + 8) end)) (undosIn p (part b (at + 8) end)))
       → Answered wn want b at found (known (found .undo .there) at (undosIn at (part b (at + 8) end)) resolveUndo)
       (O.Good end (record { tree = found .tree; undo = record { there = true; at = at + 8; end = end; records = count; «record_at» = place } }))
   undo-added wn count place e =

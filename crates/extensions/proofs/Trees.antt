@@ -15,7 +15,7 @@ use Rattle.format_laws.proofs.Lists.{part-length}
 use Rattle.format_laws.proofs.Readings.{good-inv, need-inv, bind-inv, same-size}
 use Rattle.cache_tree.specs.declared.TreeRead.the-variants as T
 use Rattle.cache_tree.specs.Answers.{levelIn}
-use Rattle.cache_tree.specs.Flat.{placeOf}
+use Rattle.format.specs.Places.{nodeStart}
 use Rattle.cache_tree.specs.Shape.{readShape, treeOf, placed}
 use Rattle.cache_tree.proofs.Shape.{tree-counts}
 use Rattle.cache_tree.proofs.Faults.{shape-placed, tree-fault}
@@ -38,7 +38,7 @@ shape-inv d t m e f =
     f (omega arith) (nodes ∙ cc) (rw is at differ)
 
 tree-inv {ℓ} : {X : Type ℓ} (want : ℕ) (d : List ℕ) (n place level : ℕ) (r : Read Tree) → T.Good n place level ≡ treeOf want d r
-    → ((t : Tree) (m : ℕ) → r ≡ good t m → n ≡ length (treeItems t) → place ≡ cond (ltb want (length (treeItems t))) (placeOf want d) 0 → level ≡ levelIn (suc want) (treeItems t) → X)
+    → ((t : Tree) (m : ℕ) → r ≡ good t m → n ≡ length (treeItems t) → place ≡ cond (ltb want (length (treeItems t))) (nodeStart 20 want d) 0 → level ≡ levelIn (suc want) (treeItems t) → X)
     → X
 unfolding treeOf
 tree-inv want d n place level (bad a p) e f = let z : _≡_ {A = ℕ} 0 1 = cc in absurd (omega arith)

@@ -10,7 +10,7 @@ use Rattle.format.specs.Records.{Tree, treeItems, Undo}
 use Rattle.format.specs.Reading.{good}
 use Rattle.format.specs.Reader.{Seen, readNodes}
 use Rattle.cache_tree.specs.Answers.{levelIn}
-use Rattle.cache_tree.specs.Flat.{placeOf}
+use Rattle.format.specs.Places.{nodeStart}
 use Rattle.resolve_undo.specs.Answers.{undoAt, item}
 use Rattle.extensions.specs.declared.TreePlace.{TreePlace}
 use Rattle.extensions.specs.declared.UndoPlace.{UndoPlace}
@@ -29,7 +29,7 @@ pub record TreeIs (want : ℕ) (b : List ℕ) (t : Tree) (f : TreePlace) : Type 
   pub inside : f .end ≤ length b
   pub reads : readNodes 20 0 (part b (f .at) (f .end)) ≡ good t (length (part b (f .at) (f .end)))
   pub nodes : f .nodes ≡ length (treeItems t)
-  pub node : f .node ≡ cond (ltb want (length (treeItems t))) (placeOf want (part b (f .at) (f .end))) 0
+  pub node : f .node ≡ cond (ltb want (length (treeItems t))) (nodeStart 20 want (part b (f .at) (f .end))) 0
   pub level : f .level ≡ levelIn (suc want) (treeItems t)
 
 abbrev pub TreeFound : ℕ → List ℕ → Option Tree → TreePlace → Type 0

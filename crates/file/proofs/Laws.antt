@@ -1,5 +1,5 @@
 -- Laws of the workspace, of names that answers point at, and of the fields of an entry.
-use mathlib.Core.Path.{_≡_, refl, sym, _∙_}
+use mathlib.Core.Path.{_≡_, refl, sym, ap, _∙_}
 use mathlib.Core.List.{List, [], _∷_, _++_}
 use mathlib.Core.Bool.{true, false}
 use mathlib.Core.Option.{none}
@@ -11,12 +11,13 @@ use lib.Seq.{length-take-le, take-take, take-at, drop-drop}
 use lib.Dec.{eqb}
 use borrow.Author.Tests.{lt-ltb, le-ltb, le-leb, lt-leb}
 use Rattle.format.specs.Bytes.{be32, be32s}
+use Rattle.format.specs.Records.{Entry}
 use Rattle.format.specs.Reader.{isSet, entryOf}
 use Rattle.format_laws.proofs.Lists.{past-zeros}
 use Rattle.format_laws.proofs.Numbers.{be32-drop}
 use Rattle.file.specs.declared.Fields.{Fields}
 use Rattle.file.specs.declared.Shown.the-variants.{InWorkspace}
-use Rattle.file.specs.Answers.{tooSmall, View, refused, cleared, holding, partIn, nameIn, entryWith}
+use Rattle.file.specs.Answers.{tooSmall, View, refused, cleared, holding, partIn, nameIn, entryWith, fieldsOf}
 
 -- ---- the workspace
 
@@ -112,6 +113,10 @@ fields-entry b at x y name =
     let first : be32 b at ≡ be32 (drop at b) 0 = rw (add-zero at) at (sym (be32-drop at b 0)) in
     let at-k : (k : ℕ) → be32 b (at + k) ≡ be32 (drop at b) k = λ k. sym (be32-drop at b k) in
     rw (first, at-k 4, at-k 8, at-k 12, at-k 16, at-k 20, at-k 24, at-k 28, at-k 32, at-k 36, ← (drop-drop 40 at b)) refl
+
+-- the fields are those of the entry that they make with a name
+pub fields-are : (x : Fields) (name : List ℕ) (e : Entry) → entryWith x name ≡ e → x ≡ fieldsOf e
+fields-are x name e q = ap fieldsOf q
 
 -- ---- items and refusals
 

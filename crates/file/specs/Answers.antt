@@ -2,10 +2,11 @@
 use mathlib.Core.List.{List, [], _∷_, _++_}
 use mathlib.Core.Bool.{Bool, true, false, cond}
 use mathlib.Core.Option.{Option, none, some}
-use Prim.Native.Nat.{ℕ, _+_, _-_}
-use lib.ListN.{length, take, drop, getElem?, replicate}
+use Prim.Native.Nat.{ℕ, _+_, _-_, _≤_}
+use lib.ListN.{length, take, drop, getD, getElem?, replicate}
 use lib.Dec.{eqb, leb, ltb}
 use Rattle.format.specs.Records as F
+use Rattle.format.specs.Layout.{isValid}
 use Rattle.format.specs.Reading.{Read, bad, good}
 use Rattle.format.specs.Reader.{Contents}
 use Rattle.file.specs.declared.Count as C
@@ -174,7 +175,7 @@ undoSaid r file work =
       third = stageWith (r .«third_mode») (r .third);
     })
 
--- ---- the answers of refusals: a number and a place, zeros and false in all other fields
+-- ---- the answers of the code, whole. A refusal has its number and its place, and zeros and false in all other fields
 
 abbrev pub noFields : Fields
 noFields = record {
@@ -211,3 +212,75 @@ refusedUndo n p = record {
   second = replicate 20 0;
   third = replicate 20 0;
 }
+
+-- the fields of an entry, its numbers in the order of the file
+abbrev pub fieldsOf : F.Entry → Fields
+fieldsOf e = record {
+  «ctime_seconds» = getD (e .numbers) 0 0;
+  «ctime_nanoseconds» = getD (e .numbers) 1 0;
+  «mtime_seconds» = getD (e .numbers) 2 0;
+  «mtime_nanoseconds» = getD (e .numbers) 3 0;
+  dev = getD (e .numbers) 4 0;
+  ino = getD (e .numbers) 5 0;
+  mode = getD (e .numbers) 6 0;
+  uid = getD (e .numbers) 7 0;
+  gid = getD (e .numbers) 8 0;
+  size = getD (e .numbers) 9 0;
+  object = e .object;
+  «assume_valid» = e .assumeValid;
+  stage = e .stage;
+  «skip_worktree» = e .skipWorktree;
+  «intent_to_add» = e .intentToAdd;
+}
+
+-- the number of an entry count, 0 where it is invalid
+abbrev pub countNumber : F.Count → ℕ
+countNumber (F.valid n) = n
+countNumber F.invalid = 0
+
+-- an item, whose name stands where s says
+abbrev pub entryAs : Shown → F.Entry → EntryAnswer
+entryAs s e = record { shown = s; fields = fieldsOf e }
+
+abbrev pub nodeAs : Shown → F.Item → NodeAnswer
+nodeAs s i = record {
+  shown = s;
+  level = i .level;
+  valid = isValid (i .node .count);
+  count = countNumber (i .node .count);
+  subtrees = i .subtrees;
+  object = i .node .object;
+}
+
+abbrev pub undoAs : Shown → F.Undo → UndoAnswer
+undoAs s u = record {
+  shown = s;
+  «first_mode» = u .first .mode;
+  «second_mode» = u .second .mode;
+  «third_mode» = u .third .mode;
+  first = u .first .object;
+  second = u .second .object;
+  third = u .third .object;
+}
+
+-- the answer that shows a view, from that of a refusal and that of an item. A name in the file stands at the place at, one in the workspace at
+-- its start
+abbrev pub shownAs : {A R : Type 0} → (ℕ → ℕ → R) → (Shown → A → R) → (A → List ℕ) → ℕ → View A → R
+shownAs deny show name at (refused n p) = deny n p
+shownAs deny show name at (inFile a) = show (S.InFile at (length (name a))) a
+shownAs deny show name at (inWorkspace a) = show (S.InWorkspace (length (name a))) a
+
+abbrev pub entryShown : ℕ → View F.Entry → EntryAnswer
+entryShown at v = shownAs refusedEntry entryAs (λ e. e .name) at v
+
+abbrev pub nodeShown : ℕ → View F.Item → NodeAnswer
+nodeShown at v = shownAs refusedNode nodeAs (λ i. i .node .name) at v
+
+abbrev pub undoShown : ℕ → View F.Undo → UndoAnswer
+undoShown at v = shownAs refusedUndo undoAs (λ u. u .path) at v
+
+-- a name lies in its buffer
+abbrev pub Inside : Shown → (file work : List ℕ) → Type 0
+Inside (S.Refused n p) file work = Unit
+Inside (S.InFile at n) file work = at + n ≤ length file
+Inside (S.InWorkspace n) file work = n ≤ length work

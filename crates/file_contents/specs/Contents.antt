@@ -7,6 +7,7 @@ use lib.ListN.{length, take, drop}
 use Rattle.format.specs.Records as F
 use Rattle.format.specs.Reading.{Read, bad, good}
 use Rattle.format.specs.Reader.{Contents, readEntries}
+use Rattle.format.specs.Places.{bodyIn}
 use Rattle.file.specs.Answers.{tooSmall}
 use Rattle.extensions.specs.Found.{TreeFound, UndoFound}
 use Rattle.file_contents.specs.declared.Parts.{Parts}
@@ -15,7 +16,7 @@ use Rattle.file_contents.specs.declared.Whole.the-variants as W
 
 -- the body: all bytes but the checksum
 abbrev pub bodyOf : List ℕ → List ℕ
-bodyOf f = take (length f - 20) f
+bodyOf f = bodyIn 20 f
 
 -- the reading x with a workspace that may be too small
 unfoldable pub inRoom : List ℕ → Read Contents → Read Contents

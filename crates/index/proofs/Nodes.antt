@@ -18,7 +18,7 @@ use Rattle.format_laws.proofs.Readings.{bind-inv}
 use Rattle.tree_nodes.specs.declared.node.Node as Code
 use Rattle.tree_nodes.specs.declared.node.NodeRead.the-variants as N
 use Rattle.tree_nodes.specs.Answers.{counted, objectLength, nodeOf, nodeAt}
-use Rattle.cache_tree.specs.Flat.{placeOf}
+use Rattle.format.specs.Places.{nodeStart}
 use Rattle.tree_nodes.proofs.Readings.{node-took}
 use Rattle.tree_nodes.proofs.Nodes.{node-named, object-valid, node-object}
 use Rattle.cache_tree.proofs.Flat.{Shown}
@@ -59,15 +59,15 @@ module _ (k : ℕ) (f : List ℕ) (tree : TreePlace) where
       let same : part (bodyOf f) (tree .at) (tree .end) ≡ d = part-of-body f (tree .at) (tree .end) (is .order) (is .inside) in
       let b : length (bodyOf f) ≤ length f = simp length-take (omega arith) in
       let few : k < length (F.treeItems t) = omega (arith, is .nodes) in
-      let place : tree .node ≡ placeOf k d = is .node ∙ rw (lt-ltb k (length (F.treeItems t)) few, same) in
+      let place : tree .node ≡ nodeStart 20 k d = is .node ∙ rw (lt-ltb k (length (F.treeItems t)) few, same) in
       let reads : readNodes 20 0 d ≡ good t (length d) = rw same at (is .reads) in
-      let shown : Shown (drop (placeOf k d) d) (getD (F.treeItems t) k (root t)) = tree-item d t (length d) reads k (root t) few in
-      let took = node-took 20 0 (drop (placeOf k d) d) .of _ _ (shown .reads) in
+      let shown : Shown (drop (nodeStart 20 k d) d) (getD (F.treeItems t) k (root t)) = tree-item d t (length d) reads k (root t) few in
+      let took = node-took 20 0 (drop (nodeStart 20 k d) d) .of _ _ (shown .reads) in
       let order = is .order in
       let inside = is .inside in
       let long : length d ≡ tree .end - tree .at = simp (length-take, length-drop) (omega arith) in
       record {
-        within = record { order = order; inside = omega arith; long = long; place = omega (arith, took, length-drop (placeOf k d) d) };
+        within = record { order = order; inside = omega arith; long = long; place = omega (arith, took, length-drop (nodeStart 20 k d) d) };
         level = sym (is .level ∙ level-is k (F.treeItems t) (root t) few);
         taken = shown .taken;
         reads = rw place (shown .reads);

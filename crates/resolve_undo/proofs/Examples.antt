@@ -10,18 +10,19 @@ use Rattle.format.specs.Layout.{modeText, someStage}
 use Rattle.format.specs.Reading.{need, shift, bind}
 use Rattle.format.specs.Reader.{readText, needSome, modeIn, readMode, readStage, readStages, readUndo, readUndos}
 use Rattle.resolve_undo.specs.declared.RecordsRead.the-variants as S
-use Rattle.resolve_undo.specs.Answers.{placeAfter, placeOf, recordsRead, valueOf, undoAt, shown}
+use Rattle.format.specs.Places.{afterUndo, undoStart}
+use Rattle.resolve_undo.specs.Answers.{recordsRead, valueOf, undoAt, shown}
 
 -- 33 bytes: the path b, the texts "0", "100644", "0", and the object name of bytes b
 abbrev one : ℕ → List ℕ
 one b = b ∷ 0 ∷ 48 ∷ 0 ∷ 49 ∷ 48 ∷ 48 ∷ 54 ∷ 52 ∷ 52 ∷ 0 ∷ 48 ∷ 0 ∷ replicate 20 b
 
-second-place : recordsRead 1 (placeOf 20 0 1 [] (one 97 ++ one 98)) (readUndos 20 0 66 [] (one 97 ++ one 98)) ≡ S.Good 2 33
-unfolding eqList before lacks componentsFrom components okComponent okComponents okName compare modeText someStage need shift bind readText needSome modeIn readMode readStage readStages readUndo readUndos placeAfter placeOf
+second-place : recordsRead 1 (undoStart 20 0 1 [] (one 97 ++ one 98)) (readUndos 20 0 66 [] (one 97 ++ one 98)) ≡ S.Good 2 33
+unfolding eqList before lacks componentsFrom components okComponent okComponents okName compare modeText someStage need shift bind readText needSome modeIn readMode readStage readStages readUndo readUndos afterUndo undoStart
 second-place = refl
 
-not-rising : recordsRead 1 (placeOf 20 0 1 [] (one 97 ++ one 97)) (readUndos 20 0 66 [] (one 97 ++ one 97)) ≡ S.Bad
-unfolding eqList before lacks componentsFrom components okComponent okComponents okName compare modeText someStage need shift bind readText needSome modeIn readMode readStage readStages readUndo readUndos placeAfter placeOf
+not-rising : recordsRead 1 (undoStart 20 0 1 [] (one 97 ++ one 97)) (readUndos 20 0 66 [] (one 97 ++ one 97)) ≡ S.Bad
+unfolding eqList before lacks componentsFrom components okComponent okComponents okName compare modeText someStage need shift bind readText needSome modeIn readMode readStage readStages readUndo readUndos afterUndo undoStart
 not-rising = refl
 
 second-shown : shown 33 (undoAt 20 0 (drop 33 (one 97 ++ one 98)))

@@ -20,7 +20,8 @@ use Rattle.resolve_undo.specs.declared.Record.{Record}
 use Rattle.resolve_undo.specs.declared.RecordRead.the-variants as R
 use Rattle.resolve_undo.specs.declared.RecordsRead.{RecordsRead}
 use Rattle.resolve_undo.specs.declared.RecordsRead.the-variants as S
-use Rattle.resolve_undo.specs.Answers.{readThird, readSecond, readFirst, recordRead, placeAfter, placeOf, recordsRead}
+use Rattle.format.specs.Places.{afterUndo, undoStart}
+use Rattle.resolve_undo.specs.Answers.{readThird, readSecond, readFirst, recordRead, recordsRead}
 use Rattle.resolve_undo.proofs.Laws.{record-bad-inv, record-good-inv, stages-read, undo-is}
 
 -- ---- what one record says
@@ -56,7 +57,7 @@ recordsFrom want n place at more (good us k) = S.Good (n + length us) (cond (ltb
 -- the same of the records that the data d has from at on
 abbrev pub answerFrom : ℕ → ℕ → ℕ → ℕ → ℕ → List ℕ → List ℕ → RecordsRead
 answerFrom p want n place at previous d =
-    recordsFrom want n place at (placeOf 20 p (want - n) previous (drop at d)) (undosOf 20 p previous (drop at d))
+    recordsFrom want n place at (undoStart 20 p (want - n) previous (drop at d)) (undosOf 20 p previous (drop at d))
 
 from-none : (want place : ℕ) (r : Read (List Undo)) → recordsRead want place r ≡ recordsFrom want 0 0 0 place r
 from-none want place (bad n p) = refl
@@ -66,9 +67,9 @@ from-none want place (good us k) =
     let here : 0 + place ≡ place = omega arith in
     rw (low, sum, here)
 
-pub from-start : (p want : ℕ) (d : List ℕ) → recordsRead want (placeOf 20 p want [] d) (readUndos 20 p (length d) [] d) ≡ answerFrom p want 0 0 0 [] d
+pub from-start : (p want : ℕ) (d : List ℕ) → recordsRead want (undoStart 20 p want [] d) (readUndos 20 p (length d) [] d) ≡ answerFrom p want 0 0 0 [] d
 unfolding undosOf
-from-start p want d = let all : want - 0 ≡ want = omega arith in rw all (from-none want (placeOf 20 p want [] d) (readUndos 20 p (length d) [] d))
+from-start p want d = let all : want - 0 ≡ want = omega arith in rw all (from-none want (undoStart 20 p want [] d) (readUndos 20 p (length d) [] d))
 
 found-or-none : (want n place more : ℕ) → (n ≤ want → place ≡ 0) → cond (ltb want n) place (cond (ltb want n) more 0) ≡ place
 found-or-none want n place more empty = by-test (ltb want n) (λ t. rw t) λ t. rw t (sym (empty (ltb-false want n t)))
@@ -125,12 +126,12 @@ module _ (w p : ℕ) (previous s : List ℕ) (u : Undo) (k : ℕ) (q : readUndo 
   unfolding bind
   undos-after h = undosOf-step w p previous s h ∙ rw q
 
-  pub place-after : (n : ℕ) → placeOf w p (suc n) previous s ≡ k + placeOf w p n (u .path) (drop k s)
-  unfolding placeOf placeAfter
+  pub place-after : (n : ℕ) → undoStart w p (suc n) previous s ≡ k + undoStart w p n (u .path) (drop k s)
+  unfolding undoStart afterUndo
   place-after n = rw q
 
-place-first : (w p n : ℕ) (previous s : List ℕ) → n ≡ 0 → placeOf w p n previous s ≡ 0
-unfolding placeOf
+place-first : (w p n : ℕ) (previous s : List ℕ) → n ≡ 0 → undoStart w p n previous s ≡ 0
+unfolding undoStart
 place-first w p n previous s h = rw h
 
 -- where the record asked for has yet to come, no place is noted

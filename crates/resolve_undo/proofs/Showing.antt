@@ -20,7 +20,8 @@ use Rattle.spelling_extensions.proofs.Undo.{undosOf, undosOf-end, undosOf-step}
 use Rattle.resolve_undo.specs.declared.Record.{Record}
 use Rattle.resolve_undo.specs.declared.RecordRead.the-variants as R
 use Rattle.resolve_undo.specs.declared.RecordsRead.the-variants as S
-use Rattle.resolve_undo.specs.Answers.{objectLength, objectsLength, objectIn, readThird, readSecond, readFirst, recordRead, placeOf, item, recordsRead, valueOf, undoAt, nothing, shown}
+use Rattle.format.specs.Places.{undoStart}
+use Rattle.resolve_undo.specs.Answers.{objectLength, objectsLength, objectIn, readThird, readSecond, readFirst, recordRead, item, recordsRead, valueOf, undoAt, nothing, shown}
 use Rattle.resolve_undo.proofs.Laws.{record-bad-inv, record-good-inv, stages-read, undo-is}
 use Rattle.resolve_undo.proofs.Records.{undo-begins, place-after}
 
@@ -50,8 +51,8 @@ undos-inv w p previous (b ∷ s) us k q h f =
 
 -- record number n of the list is the one that the bytes at its place begin with
 pub place-item : (w p n : ℕ) (previous s : List ℕ) (us : List Undo) (k : ℕ) → undosOf w p previous s ≡ good us k → n < length us
-    → undoAt w p (drop (placeOf w p n previous s) s) ≡ item n us
-unfolding placeOf item undoAt valueOf
+    → undoAt w p (drop (undoStart w p n previous s) s) ≡ item n us
+unfolding undoStart item undoAt valueOf
 place-item w p zero previous s us k q h =
     undos-inv w p previous s us k q h λ u vs i j undoq undosq is.
     rw (← is, undo-alone w p previous s u i undoq)
@@ -59,22 +60,22 @@ place-item w p (suc n) previous s us k q h =
     undos-inv w p previous s us k q (omega arith) λ u vs i j undoq undosq is.
     let l = ap length is in
     let rest : n < length vs = omega arith in
-    rw (← is, place-after w p previous s u i undoq n, ← (drop-drop (placeOf w p n (u .path) (drop i s)) i s))
+    rw (← is, place-after w p previous s u i undoq n, ← (drop-drop (undoStart w p n (u .path) (drop i s)) i s))
     (place-item w p n (u .path) (drop i s) vs j undosq rest)
 
 -- the same of the whole data, as the format reads it, and of what the code answers
 pub shown-item : (p n : ℕ) (d : List ℕ) (us : List Undo) (k : ℕ) → readUndos 20 p (length d) [] d ≡ good us k → n < length us
-    → undoAt 20 p (drop (placeOf 20 p n [] d) d) ≡ item n us
+    → undoAt 20 p (drop (undoStart 20 p n [] d) d) ≡ item n us
 unfolding undosOf
 shown-item p n d us k q h = place-item 20 p n [] d us k q h
 
 pub read-item : (p n count place : ℕ) (d : List ℕ) (us : List Undo) (k : ℕ) → readUndos 20 p (length d) [] d ≡ good us k
-    → S.Good count place ≡ recordsRead n (placeOf 20 p n [] d) (readUndos 20 p (length d) [] d)
+    → S.Good count place ≡ recordsRead n (undoStart 20 p n [] d) (readUndos 20 p (length d) [] d)
     → (count ≡ length us) × (n < count → undoAt 20 p (drop place d) ≡ item n us)
 read-item p n count place d us k q e =
     let f = rw q at e in
     let number : count ≡ length us = cc in
-    let place-is : place ≡ cond (ltb n (length us)) (placeOf 20 p n [] d) 0 = cc in (
+    let place-is : place ≡ cond (ltb n (length us)) (undoStart 20 p n [] d) 0 = cc in (
       number,
       λ h.
           let l : n < length us = omega arith in

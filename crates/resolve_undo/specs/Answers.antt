@@ -81,16 +81,6 @@ RecordWithin at end (R.Good r) = (at < r .next) × (r .next ≤ end)
 
 -- ---- all records
 
--- a place after one record more
-unfoldable pub placeAfter : Read Undo → (Undo → ℕ → ℕ) → ℕ
-placeAfter (bad n p) k = 0
-placeAfter (good u m) k = m + k u m
-
--- the place in s of record number n, counted from 0, where one of the path previous stands before s; 0 where a record on the way is refused
-unfoldable pub placeOf : ℕ → ℕ → ℕ → List ℕ → List ℕ → ℕ
-placeOf w p zero previous s = 0
-placeOf w p (suc n) previous s = placeAfter (readUndo w p previous s) (λ u m. placeOf w p n (u .path) (drop m s))
-
 -- record number n of a list
 unfoldable pub item : ℕ → List Undo → Option Undo
 item n [] = none

@@ -7,7 +7,8 @@ ghost use lib.ListN.{length, take, drop};
 ghost use lib.Dec.{eqb};
 ghost use Rattle.format.specs.Names as Names;
 ghost use Rattle.format.specs.Reader.{modeIn, readMode, readStages, readUndo, readUndos};
-ghost use Rattle.resolve_undo.specs.Answers.{modeFound, modeRead, ModeWithin, objectLength, objectIn, readThird, readSecond, readFirst, recordRead, RecordWithin, placeOf, recordsRead, undoAt, nothing, shown};
+ghost use Rattle.format.specs.Places.{undoStart};
+ghost use Rattle.resolve_undo.specs.Answers.{modeFound, modeRead, ModeWithin, objectLength, objectIn, readThird, readSecond, readFirst, recordRead, RecordWithin, recordsRead, undoAt, nothing, shown};
 use format::Order;
 
 // The mode that a text says.
@@ -210,7 +211,7 @@ fn pick(number: u32, want: u32, at: usize, place: usize) -> usize
 // The whole data: how many records there are, and where record number want begins.
 pub fn read_undos(d: &[u8], want: u32) -> RecordsRead
     requires { ⌜ length (now d) ≤ 16777216 ⌝ }
-    ensures { λ r. ⌜ ((p : ℕ) → r ≡ recordsRead want (placeOf 20 p want [] (now (d .entry))) (readUndos 20 p (length (now (d .entry))) [] (now (d .entry)))) ⌝ }
+    ensures { λ r. ⌜ ((p : ℕ) → r ≡ recordsRead want (undoStart 20 p want [] (now (d .entry))) (readUndos 20 p (length (now (d .entry))) [] (now (d .entry)))) ⌝ }
 {
     let mut at: usize = 0;
     let mut prior: usize = 0;

@@ -6,7 +6,8 @@ use native.Mathlib.Omega.{arith}
 use lib.ListN.{length, take, drop}
 use borrow.Author.Needs.{needs}
 use Rattle.format.specs.Reader.{readUndos}
-use Rattle.resolve_undo.specs.Answers.{placeOf, recordsRead}
+use Rattle.format.specs.Places.{undoStart}
+use Rattle.resolve_undo.specs.Answers.{recordsRead}
 use Rattle.resolve_undo.proofs.Laws.{record-bounds}
 use Rattle.resolve_undo.proofs.Records.{answerFrom, from-start, from-end, from-bad, from-good, path-fits, still-none}
 use Rattle.resolve_undo.proofs.read_undos.Statement.{statement}
@@ -15,7 +16,7 @@ use Rattle.resolve_undo.proofs.read_undos.Tie as tie
 abbrev Inv-loop : tie.InvT-loop
 Inv-loop d want at₀ prior₀ size₀ records₀ place₀ at prior size records place =
     (at ≤ length d) × (prior + size ≤ length d) × (records ≤ at) × (records ≤ want → place ≡ 0)
-    × ((p : ℕ) → recordsRead want (placeOf 20 p want [] d) (readUndos 20 p (length d) [] d) ≡ answerFrom p want records place at (take size (drop prior d)) d)
+    × ((p : ℕ) → recordsRead want (undoStart 20 p want [] d) (readUndos 20 p (length d) [] d) ≡ answerFrom p want records place at (take size (drop prior d)) d)
 
 abbrev μ-loop : tie.MeasureT-loop
 μ-loop d want at₀ prior₀ size₀ records₀ place₀ at prior size records place = length d - at

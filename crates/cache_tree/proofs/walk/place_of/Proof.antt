@@ -4,14 +4,14 @@ use Prim.Native.Nat.{_+_, _≤_}
 use native.Mathlib.Omega.{arith}
 use borrow.Author.Needs.{needs}
 use lib.ListN.{length, drop}
-use Rattle.cache_tree.specs.Flat.{placeOf}
+use Rattle.format.specs.Places.{nodeStart}
 use Rattle.tree_nodes.proofs.Nodes.{node-is}
 use Rattle.cache_tree.proofs.Flat.{place-end, place-more, place-stop}
 use Rattle.cache_tree.proofs.walk.place_of.Statement.{statement}
 use Rattle.cache_tree.proofs.walk.place_of.Tie as tie
 
 abbrev Inv-loop : tie.InvT-loop
-Inv-loop d k place₀ left₀ place left = (place ≤ length d) × (placeOf k d ≡ place + placeOf left (drop place d))
+Inv-loop d k place₀ left₀ place left = (place ≤ length d) × (nodeStart 20 k d ≡ place + nodeStart 20 left (drop place d))
 
 abbrev μ-loop : tie.MeasureT-loop
 μ-loop d k place₀ left₀ place left = left
