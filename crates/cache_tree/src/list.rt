@@ -1,5 +1,5 @@
-// Lists of siblings. Reading a node means reading its list of subtrees, and each of these is a node: the two readers call each other,
-// one level further down each time.
+// Lists of siblings. Reading a node means reading its list of subtrees, and each of these is a node: the two readers call each other.
+// They end because fewer bytes remain: a node's list stands after the node. The levels are a limit of the format, and tested as such.
 use fields::find;
 use tree_nodes::node::NodeRead;
 use tree_nodes::node::read_node;

@@ -1,7 +1,9 @@
--- The proof that the two readers meet their contracts. The measure is the number of levels: a node asks for a list one level further
--- down. The list's loop keeps the answer for the whole list.
+-- The proof that the two readers meet their contracts. The measure is the number of bytes that remain, twice, and one more for a list: a
+-- list asks for a node at its own place or later, and a node asks for a list after its own bytes. The list's loop keeps the answer for
+-- the whole list.
 use mathlib.Core.Path.{_≡_, sym, ap, _∙_}
 use native.Mathlib.Omega.{arith}
+use denote.Ref.{now}
 use borrow.Author.Needs.{needs}
 use lib.ListN.{length, drop}
 use Rattle.format.specs.Reader.{readForest}
@@ -26,10 +28,10 @@ use Rattle.cache_tree.proofs.list.+read_list+read_subtree.{statement}
 use Rattle.cache_tree.proofs.list.+read_list+read_subtree.Tie.{close}
 
 abbrev μ-read-list : Measures 1 read-list-kinds.ps ℕ
-μ-read-list κs a = a .1 .1 .0 * 2 + 1
+μ-read-list κs a = 2 * (length (now (a .0)) - a .1 .0) + 1
 
 abbrev μ-read-subtree : Measures 1 read-subtree-kinds.ps ℕ
-μ-read-subtree κs a = a .1 .1 .0 * 2
+μ-read-subtree κs a = 2 * (length (now (a .0)) - a .1 .0)
 
 abbrev read-list-at : ℕ → In 1 read-list-kinds.ps
 read-list-at t = and 1 read-list-kinds.ps (is 1 read-list-kinds.ps μ-read-list t) read-list.Pre
@@ -375,7 +377,10 @@ read-subtree-read-list-requires : (t : ℕ) → read-subtree-lts.Need-read-list-
 ) (read-subtree-at t) read-subtree.Post
 read-subtree-read-list-requires t c κs =
     let n = read-subtree-node t (c .before .before .before .before) in
-    (omega arith, (n .within, omega arith, omega arith))
+    let named = n .named in
+    let ended = n .ended in
+    let within = n .within in
+    (omega arith, (within, omega arith, omega arith))
 
 read-subtree-sub-with-root : (t : ℕ) → read-subtree-lts.Need-sub-with-root (
   read-node-reads.Asked,
