@@ -20,9 +20,9 @@ module _ (w : ℕ) (hash : List ℕ → List ℕ) (work : List ℕ) (width : (b 
   demand2 room = record {
     refusals = file-refused w hash work width room;
     records = file-read w hash work width room;
-    rewritten = rewritten w hash work width room;
-    put-in = put-in w hash work width room;
-    removed = removed w hash work width room;
+    rewritten = λ f asked most is. rewritten w hash work width f asked most is;
+    put-in = λ f asked most e is. put-in w hash work width f asked most is e;
+    removed = λ f asked most k is. removed w hash work width f asked most is k;
   }
 
 pub demand3 : (w : ℕ) (hash : List ℕ → List ℕ) (work : List ℕ) → ((b : List ℕ) → length (hash b) ≡ w) → tooSmall work ≡ false → Demand3 w hash work

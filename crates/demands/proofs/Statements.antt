@@ -15,8 +15,8 @@ use Rattle.format.specs.Records.{Records, Entry, Key, Item, Undo}
 use Rattle.format.specs.Layout.{Spells}
 use Rattle.format.specs.Reading.{Read, bad, good}
 use Rattle.format.specs.Reader.{Contents, readFile}
-use Rattle.format.specs.Writer.{writeFile}
-use Rattle.format.specs.Requests.{putRecord, removeRecord, versionFor}
+use Rattle.format.specs.Requests.{putRecord, removeRecord}
+use Rattle.writing.specs.OneFile.{WritesBack}
 use Rattle.file.specs.declared.Summary.{Summary}
 use Rattle.file.specs.declared.Checked.{Checked}
 use Rattle.file.specs.declared.Checked.the-variants.{Refused, Accepted}
@@ -44,13 +44,6 @@ module _ (w : ℕ) (hash : List ℕ → List ℕ) (work : List ℕ) where
 
   abbrev pub remove : ℕ → Key → ℕ → List ℕ → Read (List ℕ)
   remove asked k room f = removeAnswer w hash work asked k room (readFile w hash f)
-
-  -- n bytes: the one file of the records r in the version v, which reads as these records
-  pub record OneFile (v : ℕ) (r : Records) (bytes : List ℕ) (n : ℕ) : Type 0 where
-    pub file : bytes ≡ writeFile w hash v r
-    pub size : n ≡ length bytes
-    pub spelled : Spells w hash r bytes
-    pub again : (end m : ℕ) × (readFile w hash bytes ≡ good (record { version = v; end = end; records = r }) m)
 
   -- Every call ends with an answer for every input and never touches a byte outside what it was lent: that is what a promise says, whatever else
   -- it says. Each refusal has a number and a place, leaves the output as it was, and the workspace as document 01 states.
@@ -92,17 +85,12 @@ module _ (w : ℕ) (hash : List ℕ → List ℕ) (work : List ℕ) where
         × (node k f ≡ listed (itemsOf (c .records .cacheTree)) k)
         × (undo k f ≡ listed (c .records .resolveUndo) k))
     -- what is written is the one file that document 01 names, and reading it gives the same records
-    pub rewritten :
-        (f : List ℕ) (c : Contents) (m asked room : ℕ) (bytes : List ℕ) (n : ℕ) → Bytes f → readFile w hash f ≡ good c m → rewrite asked room f ≡ good bytes n →
-        OneFile (versionFor asked (c .records .entries)) (c .records) bytes n
+    pub rewritten : (f : List ℕ) (asked room : ℕ) → Bytes f → WritesBack w hash f asked (λ r. r) (rewrite asked room f)
+    -- a record has ten numbers of 32 bits and an object name of w bytes: by its type, so that the promise of put says the same of every record
     pub put-in :
-        (f : List ℕ) (c : Contents) (m asked room : ℕ) (e : Entry) (bytes : List ℕ) (n : ℕ) → Bytes f → readFile w hash f ≡ good c m →
-        length (e .numbers) ≡ 10 → fit32 (e .numbers) ≡ true → length (e .object) ≡ w → put asked e room f ≡ good bytes n →
-        OneFile (versionFor asked (putRecord w e (c .records) .entries)) (putRecord w e (c .records)) bytes n
-    pub removed :
-        (f : List ℕ) (c : Contents) (m asked room : ℕ) (k : Key) (bytes : List ℕ) (n : ℕ) → Bytes f → readFile w hash f ≡ good c m →
-        remove asked k room f ≡ good bytes n →
-        OneFile (versionFor asked (removeRecord w k (c .records) .entries)) (removeRecord w k (c .records)) bytes n
+        (f : List ℕ) (asked room : ℕ) (e : Entry) → Bytes f → length (e .numbers) ≡ 10 → fit32 (e .numbers) ≡ true → length (e .object) ≡ w →
+        WritesBack w hash f asked (putRecord w e) (put asked e room f)
+    pub removed : (f : List ℕ) (asked room : ℕ) (k : Key) → Bytes f → WritesBack w hash f asked (removeRecord w k) (remove asked k room f)
 
   -- With the workspace that document 01 asks for:
   pub record Demand3 : Type 0 where

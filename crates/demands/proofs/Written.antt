@@ -1,56 +1,54 @@
 -- The proofs of the demands on what is written: the laws of crate writing, for the answers of the calls.
-use mathlib.Core.Path.{_≡_, refl, sym, _∙_}
-use mathlib.Core.Bool.{true, false}
+use mathlib.Core.Path.{_≡_, refl, sym}
+use mathlib.Core.Bool.{Bool, true, false, cond}
 use mathlib.Core.List.{List}
 use Prim.Native.Nat.{ℕ}
 use lib.ListN.{length, take, drop}
 use lib.Seq.{take-at, drop-at}
 use Rattle.format.specs.Bytes.{Bytes, fit32}
 use Rattle.format.specs.Records.{Records, Entry, Key}
-use Rattle.format.specs.Reading.{Read, good}
+use Rattle.format.specs.Reading.{Read, bad, good}
 use Rattle.format.specs.Reader.{Contents, readFile}
 use Rattle.format.specs.Requests.{putRecord, removeRecord, versionFor, rewriteRequest, putRequest, removeRequest}
 use Rattle.file.specs.Answers.{tooSmall}
-use Rattle.file.specs.Writing.{answered, rewriteAnswer, putAnswer, removeAnswer, outputAfter}
+use Rattle.file.specs.Writing.{requested, answered, rewriteAnswer, putAnswer, removeAnswer, outputAfter}
+use Rattle.format_laws.proofs.Readings.{bad-good}
 use Rattle.writing.specs.Sound.{Sound}
+use Rattle.writing.specs.OneFile.{OneFile, WritesBack}
 use Rattle.writing.proofs.File.{read-sound}
-use Rattle.writing.proofs.Answers.{Answered, answered-spelled, answered-read, rewrite-answers, put-answers, remove-answers}
-use Rattle.demands.proofs.Statements.{rewrite, put, remove, OneFile}
+use Rattle.writing.proofs.Answers.{Answered, answered-one, rewrite-answers, put-answers, remove-answers}
+use Rattle.demands.proofs.Statements.{rewrite, put, remove}
 
 pub filled : (out bytes : List ℕ) (n : ℕ) → n ≡ length bytes
     → (take n (outputAfter (good bytes n) out) ≡ bytes) × (drop n (outputAfter (good bytes n) out) ≡ drop n out)
 filled out bytes n e = (take-at bytes (drop n out) n (sym e), drop-at bytes (drop n out) n (sym e))
 
-module _ (w : ℕ) (hash : List ℕ → List ℕ) (work : List ℕ) (width : (b : List ℕ) → length (hash b) ≡ w) (room : tooSmall work ≡ false) where
-  -- with room, a request is asked of the records that were read
-  asked-of : (x : Read Contents) (c : Contents) (m : ℕ) (ask : Records → Read (List ℕ)) → x ≡ good c m → answered work x ask ≡ ask (c .records)
+module _ (w : ℕ) (hash : List ℕ → List ℕ) (work : List ℕ) (width : (b : List ℕ) → length (hash b) ≡ w) (f : List ℕ) (asked most : ℕ) (is : Bytes f) where
+  -- a request of the records that were read, where what it answers is the one file of the changed records
+  back : (ask : Records → Read (List ℕ)) (change : Records → Records)
+      → ((r : Records) (bytes : List ℕ) (n : ℕ) → Sound w r → ask r ≡ good bytes n → Answered w hash (versionFor asked (change r .entries)) (change r) most bytes n)
+      → WritesBack w hash f asked change (answered work (readFile w hash f) ask)
   unfolding answered
-  asked-of x c m ask e = rw (room, e) refl
+  back ask change law = record {
+    result = λ c m bytes n e. by (tooSmall work) c m bytes n e;
+  }
+    where
+      by : (small : Bool) (c : Contents) (m : ℕ) (bytes : List ℕ) (n : ℕ) → readFile w hash f ≡ good c m
+          → cond small (bad 19 0) (requested (readFile w hash f) ask) ≡ good bytes n
+          → OneFile w hash (versionFor asked (change (c .records) .entries)) (change (c .records)) bytes n
+      by true c m bytes n e q = bad-good _ _ _ _ q
+      by false c m bytes n e q = answered-one (law (c .records) bytes n (read-sound w hash width f c m is e) (rw e at q)) width
 
-  one-file : (v : ℕ) (r : Records) (most : ℕ) (bytes : List ℕ) (n : ℕ) → Answered w hash v r most bytes n → OneFile w hash work v r bytes n
-  one-file v r most bytes n h =
-      record { file = h .file; size = h .size; spelled = answered-spelled h; again = (_, _, answered-read h width) }
+  pub rewritten : WritesBack w hash f asked (λ r. r) (rewrite w hash work asked most f)
+  unfolding rewriteAnswer
+  rewritten = back (rewriteRequest w hash asked most) (λ r. r) λ r bytes n sound q. rewrite-answers asked most bytes n r sound q
 
-  module _ (f : List ℕ) (c : Contents) (m : ℕ) where
-    pub rewritten : (asked most : ℕ) (bytes : List ℕ) (n : ℕ) → Bytes f → readFile w hash f ≡ good c m → rewrite w hash work asked most f ≡ good bytes n
-        → OneFile w hash work (versionFor asked (c .records .entries)) (c .records) bytes n
-    unfolding rewriteAnswer
-    rewritten asked most bytes n is e q =
-        let sound : Sound w (c .records) = read-sound w hash width f c m is e in
-        one-file _ _ most bytes n (rewrite-answers asked most bytes n (c .records) sound (sym (asked-of (readFile w hash f) c m (rewriteRequest w hash asked most) e) ∙ q))
+  pub put-in : (x : Entry) → length (x .numbers) ≡ 10 → fit32 (x .numbers) ≡ true → length (x .object) ≡ w
+      → WritesBack w hash f asked (putRecord w x) (put w hash work asked x most f)
+  unfolding putAnswer
+  put-in x ten fit object =
+      back (putRequest w hash asked x most) (putRecord w x) λ r bytes n sound q. put-answers asked most bytes n x r sound ten fit object q
 
-    pub put-in : (asked most : ℕ) (x : Entry) (bytes : List ℕ) (n : ℕ) → Bytes f → readFile w hash f ≡ good c m
-        → length (x .numbers) ≡ 10 → fit32 (x .numbers) ≡ true → length (x .object) ≡ w → put w hash work asked x most f ≡ good bytes n
-        → OneFile w hash work (versionFor asked (putRecord w x (c .records) .entries)) (putRecord w x (c .records)) bytes n
-    unfolding putAnswer
-    put-in asked most x bytes n is e ten fit object q =
-        let sound : Sound w (c .records) = read-sound w hash width f c m is e in
-        one-file _ _ most bytes n
-        (put-answers asked most bytes n x (c .records) sound ten fit object (sym (asked-of (readFile w hash f) c m (putRequest w hash asked x most) e) ∙ q))
-
-    pub removed : (asked most : ℕ) (k : Key) (bytes : List ℕ) (n : ℕ) → Bytes f → readFile w hash f ≡ good c m → remove w hash work asked k most f ≡ good bytes n
-        → OneFile w hash work (versionFor asked (removeRecord w k (c .records) .entries)) (removeRecord w k (c .records)) bytes n
-    unfolding removeAnswer
-    removed asked most k bytes n is e q =
-        let sound : Sound w (c .records) = read-sound w hash width f c m is e in
-        one-file _ _ most bytes n (remove-answers asked most bytes n k (c .records) sound (sym (asked-of (readFile w hash f) c m (removeRequest w hash asked k most) e) ∙ q))
+  pub removed : (k : Key) → WritesBack w hash f asked (removeRecord w k) (remove w hash work asked k most f)
+  unfolding removeAnswer
+  removed k = back (removeRequest w hash asked k most) (removeRecord w k) λ r bytes n sound q. remove-answers asked most bytes n k r sound q

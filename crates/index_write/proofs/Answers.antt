@@ -1,20 +1,20 @@
 -- What the requests answer: by their tests, and by the reading of the file.
 use mathlib.Core.Path.{_≡_, refl, sym, _∙_}
-use mathlib.Core.List.{List, _++_}
+use mathlib.Core.List.{List, [], _∷_, _++_}
 use mathlib.Core.Bool.{Bool, true, false, cond}
 use Prim.Native.Nat.{ℕ, _+_, _≤_, _<_}
 use native.Mathlib.Omega.{arith}
 use lib.ListN.{length, drop, replicate}
 use lib.Dec.{ltb}
 use borrow.Author.Tests.{ltb-true}
-use Rattle.format.specs.Bytes.{Bytes}
+use Rattle.format.specs.Bytes.{Bytes, fit32}
 use Rattle.format.specs.Names.{okName}
 use Rattle.format.specs.Records.{modeOf, Key, Records}
 use Rattle.format.specs.Layout.{okMode}
 use Rattle.format.specs.Reading.{Read, bad, good, need}
 use Rattle.format.specs.Reader.{Contents, readFile}
 use Rattle.format.specs.Requests.{okAsked, putRecord, removeRecord, holds, writing, rewriteRequest, putRequest, removeRequest}
-use Rattle.format_laws.proofs.Tests.{by-test}
+use Rattle.format_laws.proofs.Tests.{and-inv, by-test}
 use Rattle.format_laws.proofs.Readings.{bad-good, good-inv}
 use Rattle.hash.specs.Sha1.{sha1}
 use Rattle.file.specs.declared.Fields.{Fields}
@@ -31,6 +31,13 @@ use Rattle.file_body.specs.Bodies.{changed, Ready}
 use Rattle.file_write.specs.Results.{FileWritten}
 use Rattle.index_write.specs.Calls.{Writes, Opened, Planned, recordNumber}
 use Rattle.index_write.proofs.Files.{has-of, count-few}
+
+-- ---- the numbers of a record
+
+pub fit-append : (a b : List ℕ) → fit32 a ≡ true → fit32 b ≡ true → fit32 (a ++ b) ≡ true
+unfolding fit32
+fit-append [] b h k = k
+fit-append (n ∷ a) b h k = let (own, rest) = and-inv (ltb n 4294967296) (fit32 a) h in rw (own, fit-append a b rest k) refl
 
 -- ---- the answer's parts
 

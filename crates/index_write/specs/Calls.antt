@@ -1,18 +1,21 @@
 -- What the calls that write an index leave behind.
 use mathlib.Core.Path.{_≡_}
-use mathlib.Core.List.{List}
-use mathlib.Core.Bool.{cond}
+use mathlib.Core.List.{List, []}
+use mathlib.Core.Bool.{true, cond}
 use Prim.Native.Nat.{ℕ, _≤_}
 use lib.ListN.{length}
 use lib.Dec.{ltb}
+use Rattle.format.specs.Bytes.{fit32}
 use Rattle.format.specs.Names.{okName}
+use Rattle.format.specs.Records.{Records}
 use Rattle.format.specs.Layout.{okMode}
 use Rattle.format.specs.Reading.{Read}
 use Rattle.format.specs.Reader.{readFile}
 use Rattle.hash.specs.Sha1.{sha1}
+use Rattle.writing.specs.OneFile.{WritesBack}
 use Rattle.file.specs.declared.Fields.{Fields}
 use Rattle.file.specs.declared.Written.{Written}
-use Rattle.file.specs.Answers.{cleared}
+use Rattle.file.specs.Answers.{cleared, entryWith}
 use Rattle.file.specs.Writing.{writtenOf, outputAfter}
 use Rattle.file_contents.specs.declared.Parts.{Parts}
 use Rattle.file_contents.specs.Contents.{bodyOf, Contains}
@@ -24,6 +27,16 @@ pub record Writes (x : Read (List ℕ)) (out work out′ work′ : List ℕ) (r 
   pub said : r ≡ writtenOf x
   pub filled : out′ ≡ outputAfter x out
   pub after : work′ ≡ cleared work
+
+-- and what was written: of the file f, in the version asked for, the one file of its records with a change
+pub record Saves (f : List ℕ) (asked : ℕ) (change : Records → Records) (x : Read (List ℕ)) (out work out′ work′ : List ℕ) (r : Written) : Type 0 where
+  pub writes : Writes x out work out′ work′ r
+  pub back : WritesBack 20 sha1 f asked change x
+
+-- what its type says of a record: each number has 32 bits, the object name 20 bytes
+pub record Typed (fields : Fields) : Type 0 where
+  pub numbers : fit32 (entryWith fields [] .numbers) ≡ true
+  pub object : length (fields .object) ≡ 20
 
 -- ---- between the reading of a file and the writing
 

@@ -1,15 +1,18 @@
 // The calls that write an index: rewrite it in a version, put one record, remove one name and stage.
 ghost use mathlib.Core.Path.{_≡_};
+ghost use mathlib.Core.List.{[], _∷_};
+ghost use mathlib.Core.Bool.{true};
 ghost use Prim.Native.Nat.{ℕ};
 ghost use lib.ListN.{length};
+ghost use Rattle.format.specs.Bytes.{fit32};
 ghost use Rattle.format.specs.Reading.{good};
 ghost use Rattle.format.specs.Reader.{Contents, readFile};
-ghost use Rattle.format.specs.Requests.{okAsked, writing, rewriteRequest, putRequest, removeRequest};
+ghost use Rattle.format.specs.Requests.{putRecord, removeRecord, okAsked, writing, rewriteRequest, putRequest, removeRequest};
 ghost use Rattle.hash.specs.Sha1.{sha1};
 ghost use Rattle.file.specs.Answers.{cleared, entryWith};
 ghost use Rattle.file.specs.Writing.{requested, rewriteAnswer, putAnswer, removeAnswer};
 ghost use Rattle.file_body.specs.Bodies.{changed};
-ghost use Rattle.index_write.specs.Calls.{Writes, Opened, Planned, recordNumber};
+ghost use Rattle.index_write.specs.Calls.{Writes, Saves, Typed, Opened, Planned, recordNumber};
 use entries_edit::Edit;
 use entries_place::find_place;
 use file::Fields;
@@ -31,6 +34,33 @@ fn asked_ok(asked: u32) -> bool
         return false;
     }
     asked <= 4
+}
+
+// Five numbers of 32 bits.
+fn five_typed(a: u32, b: u32, c: u32, d: u32, e: u32)
+    ensures { λ _. ⌜ fit32 (a ∷ b ∷ c ∷ d ∷ e ∷ []) ≡ true ⌝ }
+{}
+
+// An object name.
+fn object_typed(object: &[u8])
+    requires { ⌜ length (now object) ≡ 20 ⌝ }
+    ensures { λ _. ⌜ length (now (object .entry)) ≡ 20 ⌝ }
+{}
+
+// What its type says of a record. Nothing is done: it is said for the proof that a record that was put is read back.
+fn typed(fields: Fields)
+    ensures { λ _. ⌜ Typed fields ⌝ }
+{
+    five_typed(
+        fields.ctime_seconds,
+        fields.ctime_nanoseconds,
+        fields.mtime_seconds,
+        fields.mtime_nanoseconds,
+        fields.dev,
+    );
+    five_typed(fields.ino, fields.mode, fields.uid, fields.gid, fields.size);
+    let object = fields.object;
+    object_typed(&object);
 }
 
 // The refusal of a record that is to be put, 0 where it is sound.
@@ -167,7 +197,7 @@ fn remove_read(
 
 // The same records in a version: 2, 3, 4, or 0 for 2 where no record needs the extended word, else 3.
 pub fn rewrite(file: &[u8], work: &mut [u8], out: &mut [u8], asked: u32) -> Written
-    ensures { λ r. ⌜ Writes (rewriteAnswer 20 sha1 (now (work .entry)) asked (length (now (out .entry))) (readFile 20 sha1 (now (file .entry)))) (now (out .entry)) (now (work .entry)) (now (out .exit)) (now (work .exit)) r ⌝ }
+    ensures { λ r. ⌜ Saves (now (file .entry)) asked (λ q. q) (rewriteAnswer 20 sha1 (now (work .entry)) asked (length (now (out .entry))) (readFile 20 sha1 (now (file .entry)))) (now (out .entry)) (now (work .entry)) (now (out .exit)) (now (work .exit)) r ⌝ }
 {
     let whole = read_cleared(file, &mut *work, 0, 0);
     match whole {
@@ -185,8 +215,9 @@ pub fn put(
     name: &[u8],
     fields: Fields,
 ) -> Written
-    ensures { λ r. ⌜ Writes (putAnswer 20 sha1 (now (work .entry)) asked (entryWith fields (now (name .entry))) (length (now (out .entry))) (readFile 20 sha1 (now (file .entry)))) (now (out .entry)) (now (work .entry)) (now (out .exit)) (now (work .exit)) r ⌝ }
+    ensures { λ r. ⌜ Saves (now (file .entry)) asked (putRecord 20 (entryWith fields (now (name .entry)))) (putAnswer 20 sha1 (now (work .entry)) asked (entryWith fields (now (name .entry))) (length (now (out .entry))) (readFile 20 sha1 (now (file .entry)))) (now (out .entry)) (now (work .entry)) (now (out .exit)) (now (work .exit)) r ⌝ }
 {
+    typed(fields);
     let whole = read_cleared(file, &mut *work, 0, 0);
     match whole {
         Whole::Bad(n, p) => Written::Refused(n, p),
@@ -203,7 +234,7 @@ pub fn remove(
     name: &[u8],
     stage: u32,
 ) -> Written
-    ensures { λ r. ⌜ Writes (removeAnswer 20 sha1 (now (work .entry)) asked (record { name = now (name .entry); stage = stage }) (length (now (out .entry))) (readFile 20 sha1 (now (file .entry)))) (now (out .entry)) (now (work .entry)) (now (out .exit)) (now (work .exit)) r ⌝ }
+    ensures { λ r. ⌜ Saves (now (file .entry)) asked (removeRecord 20 (record { name = now (name .entry); stage = stage })) (removeAnswer 20 sha1 (now (work .entry)) asked (record { name = now (name .entry); stage = stage }) (length (now (out .entry))) (readFile 20 sha1 (now (file .entry)))) (now (out .entry)) (now (work .entry)) (now (out .exit)) (now (work .exit)) r ⌝ }
 {
     let whole = read_cleared(file, &mut *work, 0, 0);
     match whole {

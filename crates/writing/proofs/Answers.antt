@@ -17,6 +17,7 @@ use Rattle.format.specs.Requests.{putRecord, removeRecord, anyWord, okAsked, ve
 use Rattle.format_laws.proofs.Tests.{and-inv, by-test, by-cond}
 use Rattle.format_laws.proofs.Readings.{good-inv, need-inv}
 use Rattle.writing.specs.Sound.{SoundEntry, Sound, Writable}
+use Rattle.writing.specs.OneFile.{OneFile, WritesBack}
 use Rattle.writing.proofs.File.{written-spelled, read-written}
 use Rattle.writing.proofs.Edits.{put-sound, remove-sound}
 
@@ -52,13 +53,13 @@ module _ {w : ℕ} {hash : List ℕ → List ℕ} {v : ℕ} {r : Records} {room 
   file-short : length (writeFile w hash v r) ≤ 16777216
   file-short = rw (← (h .file), ← (h .size)) (h .short)
 
-  pub answered-spelled : Spells w hash r bytes
-  answered-spelled = rw (h .file) (written-spelled w hash v r (h .writable) file-short)
-
-  pub answered-read : ((b : List ℕ) → length (hash b) ≡ w)
-      → readFile w hash bytes
-      ≡ good (record { version = v; end = 12 + length (writeEntries w v [] (r .entries)); records = r }) (length (writeBody w v r))
-  answered-read width = rw (h .file) (read-written w hash width v r (h .writable) file-short)
+  pub answered-one : ((b : List ℕ) → length (hash b) ≡ w) → OneFile w hash v r bytes n
+  answered-one width = record {
+    file = h .file;
+    size = h .size;
+    spelled = rw (h .file) (written-spelled w hash v r (h .writable) file-short);
+    again = rw (h .file) (read-written w hash width v r (h .writable) file-short);
+  }
 
 -- ---- the requests
 

@@ -1,9 +1,18 @@
 -- The proof that `put` meets its contract.
+use mathlib.Core.Path.{refl}
+use native.Mathlib.Omega.{arith}
+use lib.ListN.{length}
+use Rattle.format.specs.Bytes.{Bytes}
 use Rattle.format.specs.Reader.{readFile}
+use Rattle.format.specs.Requests.{putRecord}
 use Rattle.hash.specs.Sha1.{sha1}
+use Rattle.hash.proofs.Bytes.{length-sha1}
+use Rattle.writing.specs.OneFile.{WritesBack}
+use Rattle.file.specs.Answers.{entryWith}
 use Rattle.file.specs.Writing.{putAnswer}
 use Rattle.file_contents.specs.Contents.{bodyOf, inRoom, Contains}
 use Rattle.index_write.proofs.Answers.{call-refused, call-opened, call-answered}
+use Rattle.demands.proofs.Written.{put-in}
 use borrow.Author.Needs.{needs}
 use Rattle.index_write.proofs.put.Statement.{statement}
 use Rattle.index_write.proofs.put.Tie as tie
@@ -11,9 +20,23 @@ use Rattle.index_write.proofs.put.Tie as tie
 -- the file is accepted
 accepted :
     (c : tie.After-whole2) →
-    let a = c .before .before .before .before .before .before .before .before .before .before .args in
+    let a = c .before .before .before .before .before .before .before .before .before .before .before .args in
     Contains 0 0 (inRoom (a .work .now) (readFile 20 sha1 (a .file .now))) (bodyOf (a .file .now)) (c .whole2 .given .0 .0)
 accepted c = rw (c .whole2 .given .1) at (c .before .before .before .before .read-cleared .ensures .0)
+
+-- what is written is the one file of the result's records
+back :
+    (c : tie.After-read-cleared) →
+    let a = c .before .before .before .before .before .before .before .args in
+    WritesBack 20 sha1 (a .file .now) (a .asked) (putRecord 20 (entryWith (a .fields) (a .name .now))) (putAnswer 20 sha1 (a .work .now) (a .asked) (entryWith (a .fields) (a .name .now)) (length (a .out .now)) (readFile 20 sha1 (a .file .now)))
+back c =
+    let known = c .before .before .before .before .before .before in
+    let a = known .before .args in
+    let bytes : Bytes (a .file .now) = λ i. omega (arith, known .shared-slice-known .given i) in
+    put-in 20 sha1 (a .work .now) length-sha1 (a .file .now) (a .asked) _ bytes (entryWith (a .fields) (a .name .now)) refl (c .before .before .typed .ensures .numbers) (c .before .before .typed .ensures .object)
+
+typed-requires : tie.Need-typed-requires
+typed-requires c κs = search needs
 
 read-cleared-requires : tie.Need-read-cleared-requires
 read-cleared-requires c κs = search needs
@@ -34,7 +57,7 @@ returns : tie.Need-returns
 unfolding putAnswer
 returns c =
     let q = c .before .before .before .before .before in
-    call-refused _ _ _ (q .read-cleared .ensures .1) _ _ _ _ (rw (c .before .whole .given .1) at (q .read-cleared .ensures .0))
+    record { writes = call-refused _ _ _ (q .read-cleared .ensures .1) _ _ _ _ (rw (c .before .whole .given .1) at (q .read-cleared .ensures .0)); back = back q }
 
 same-length-2 : tie.Need-same-length-2
 same-length-2 c = search needs
@@ -47,12 +70,14 @@ unfolding putAnswer
 returns-2 c =
     let r = c .before .before .before .before in
     let w = r .before .before .before .before in
-    call-answered _ _ _ (w .before .before .before .before .read-cleared .ensures .1) _ (accepted w) _ _ _ _ _ (r .put-read .ensures)
+    let q = w .before .before .before .before in
+    record { writes = call-answered _ _ _ (q .read-cleared .ensures .1) _ (accepted w) _ _ _ _ _ (r .put-read .ensures); back = back q }
 
 pub put-spec : {M : Type 1} → statement M
 put-spec =
     tie.close
     (tie.spec
+    typed-requires
     read-cleared-requires
     enum-known-whole
     enum-known-whole-2

@@ -1,9 +1,15 @@
 -- The proof that `rewrite` meets its contract.
+use native.Mathlib.Omega.{arith}
+use lib.ListN.{length}
+use Rattle.format.specs.Bytes.{Bytes}
 use Rattle.format.specs.Reader.{readFile}
 use Rattle.hash.specs.Sha1.{sha1}
+use Rattle.hash.proofs.Bytes.{length-sha1}
+use Rattle.writing.specs.OneFile.{WritesBack}
 use Rattle.file.specs.Writing.{rewriteAnswer}
 use Rattle.file_contents.specs.Contents.{bodyOf, inRoom, Contains}
 use Rattle.index_write.proofs.Answers.{call-refused, call-opened, call-answered}
+use Rattle.demands.proofs.Written.{rewritten}
 use borrow.Author.Needs.{needs}
 use Rattle.index_write.proofs.rewrite.Statement.{statement}
 use Rattle.index_write.proofs.rewrite.Tie as tie
@@ -14,6 +20,17 @@ accepted :
     let a = c .before .before .before .before .before .before .before .before .before .args in
     Contains 0 0 (inRoom (a .work .now) (readFile 20 sha1 (a .file .now))) (bodyOf (a .file .now)) (c .whole2 .given .0 .0)
 accepted c = rw (c .whole2 .given .1) at (c .before .before .before .before .read-cleared .ensures .0)
+
+-- what is written is the one file of the result's records
+back :
+    (c : tie.After-read-cleared) →
+    let a = c .before .before .before .before .before .args in
+    WritesBack 20 sha1 (a .file .now) (a .asked) (λ q. q) (rewriteAnswer 20 sha1 (a .work .now) (a .asked) (length (a .out .now)) (readFile 20 sha1 (a .file .now)))
+back c =
+    let known = c .before .before .before .before in
+    let a = known .before .args in
+    let bytes : Bytes (a .file .now) = λ i. omega (arith, known .shared-slice-known .given i) in
+    rewritten 20 sha1 (a .work .now) length-sha1 (a .file .now) (a .asked) _ bytes
 
 read-cleared-requires : tie.Need-read-cleared-requires
 read-cleared-requires c κs = search needs
@@ -34,7 +51,7 @@ returns : tie.Need-returns
 unfolding rewriteAnswer
 returns c =
     let q = c .before .before .before .before .before in
-    call-refused _ _ _ (q .read-cleared .ensures .1) _ _ _ _ (rw (c .before .whole .given .1) at (q .read-cleared .ensures .0))
+    record { writes = call-refused _ _ _ (q .read-cleared .ensures .1) _ _ _ _ (rw (c .before .whole .given .1) at (q .read-cleared .ensures .0)); back = back q }
 
 same-length-2 : tie.Need-same-length-2
 same-length-2 c = search needs
@@ -47,7 +64,8 @@ unfolding rewriteAnswer
 returns-2 c =
     let r = c .before .before .before .before in
     let w = r .before .before .before .before in
-    call-answered _ _ _ (w .before .before .before .before .read-cleared .ensures .1) _ (accepted w) _ _ _ _ _ (r .rewrite-read .ensures)
+    let q = w .before .before .before .before in
+    record { writes = call-answered _ _ _ (q .read-cleared .ensures .1) _ (accepted w) _ _ _ _ _ (r .rewrite-read .ensures); back = back q }
 
 pub rewrite-spec : {M : Type 1} → statement M
 rewrite-spec =
