@@ -2,9 +2,10 @@
 use mathlib.Core.Path.{_≡_, refl, _∙_}
 use mathlib.Core.List.{List, []}
 use mathlib.Core.Bool.{Bool, true, false}
-use Prim.Native.Nat.{ℕ, _+_}
+use Prim.Native.Nat.{ℕ, _+_, _-_}
 use native.Mathlib.Omega.{arith}
 use lib.ListN.{length}
+use Rattle.format.specs.Bytes.{be32}
 use Rattle.format.specs.Records.{Undo}
 use Rattle.format.specs.Layout.{Extension, resolveUndo}
 use Rattle.format.specs.Reading.{Read, bad, good, need, shift, bind}
@@ -12,9 +13,9 @@ use Rattle.format_laws.proofs.Lists.{part-length}
 use Rattle.format_laws.proofs.Readings.{same-size}
 use Rattle.spelling_extensions.proofs.Undo.{read-undos, undos-read}
 use Rattle.resolve_undo.specs.declared.RecordsRead.the-variants as S
-use Rattle.format.specs.Places.{undoStart}
+use Rattle.format.specs.Places.{undoStart, dataIn}
 use Rattle.resolve_undo.specs.Answers.{recordsRead}
-use Rattle.resolve_undo.proofs.Showing.{read-item}
+use Rattle.resolve_undo.proofs.Showing.{read-place, shown-item}
 use Rattle.extensions.specs.declared.Found.{Found}
 use Rattle.extensions.specs.declared.One.{One}
 use Rattle.extensions.specs.declared.One.the-variants as O
@@ -39,6 +40,14 @@ module _ {A : Type 0} (p : ℕ) (x : Read A) (kind : A → Extension) where
 -- what is answered of a reading is answered of one that is equal to it
 pub answered-as : (wn wr : ℕ) (b : List ℕ) (at : ℕ) (found : Found) {x y : Read Extension} (r : One) → x ≡ y → Answered wn wr b at found y r → Answered wn wr b at found x r
 answered-as wn wr b at found r e h = rw e h
+
+-- the data that end by their size
+pub data-sized : (b : List ℕ) (at end : ℕ) → Inside b at end → part b (at + 8) end ≡ dataIn (at + 8) b
+unfolding dataIn
+data-sized b at end inside =
+    let before : at + 8 - 4 ≡ at + 4 = omega arith in
+    let size : end - (at + 8) ≡ be32 b (at + 4) = omega arith in
+    rw (before, size)
 
 -- ---- resolve undo
 
@@ -66,12 +75,22 @@ module _ (want : ℕ) (b : List ℕ) (at end : ℕ) (inside : Inside b at end) (
       let l = part-length b (at + 8) end (inside .1) in
       let h = undos-read 20 at (length d) [] d us k q in
       let zero : undosIn 0 d ≡ good us (length d) = read-undos 20 0 (length d) (h .1) (omega arith) in
-      let item = read-item 0 want count place d us (length d) zero (e 0) in (
+      let item = read-place 0 want count place d us (length d) zero (e 0) in (
         resolveUndo us,
         known-good at _ resolveUndo _ new us k q ∙ same-size (omega arith),
         (
           new,
-          record { there = refl; order = inside .0; inside = inside .1; reads = zero; records = item .0; wanted = λ more. item .1 (omega arith) },
+          record {
+            there = refl;
+            order = omega arith;
+            inside = inside .1;
+            sized = data-sized b at end inside;
+            reads = zero;
+            records = item .0;
+            place = item .1;
+            wanted = λ more. rw (item .1 more) (shown-item 0 want d us (length d) zero more);
+          },
+          refl,
           refl,
         ),
       )

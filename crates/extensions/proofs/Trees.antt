@@ -23,7 +23,7 @@ use Rattle.extensions.specs.declared.Found.{Found}
 use Rattle.extensions.specs.declared.One.the-variants as O
 use Rattle.extensions.specs.Heads.{part, known, Inside}
 use Rattle.extensions.specs.Steps.{Answered}
-use Rattle.extensions.proofs.Known.{known-bad, known-good}
+use Rattle.extensions.proofs.Known.{known-bad, known-good, data-sized}
 
 -- what the data have been tested for
 shape-inv {ℓ} : {X : Type ℓ} (d : List ℕ) (t : Tree) (m : ℕ) → readShape 20 0 d ≡ good t m
@@ -87,7 +87,17 @@ module _ (want wr : ℕ) (b : List ℕ) (at end : ℕ) (inside : Inside b at end
           known-good at _ cacheTree _ new t (m + 0) reads ∙ same-size (omega arith),
           (
             new,
-            record { there = refl; order = inside .0; inside = inside .1; reads = nodes; nodes = number; node = place-is; level = level-is },
+            record {
+              there = refl;
+              order = omega arith;
+              inside = inside .1;
+              sized = data-sized b at end inside;
+              reads = nodes;
+              nodes = number;
+              node = place-is;
+              level = level-is;
+            },
+            refl,
             refl,
           ),
         )

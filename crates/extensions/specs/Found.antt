@@ -1,6 +1,6 @@
 -- What was found of a cache tree and of a resolve-undo list, against what the reader reads. b is the body.
 use mathlib.Core.Path.{_≡_}
-use mathlib.Core.List.{List}
+use mathlib.Core.List.{List, []}
 use mathlib.Core.Bool.{true, false, cond}
 use mathlib.Core.Option.{Option, none, some}
 use Prim.Native.Nat.{ℕ, suc, _≤_, _<_}
@@ -10,7 +10,7 @@ use Rattle.format.specs.Records.{Tree, treeItems, Undo}
 use Rattle.format.specs.Reading.{good}
 use Rattle.format.specs.Reader.{Seen, readNodes}
 use Rattle.cache_tree.specs.Answers.{levelIn}
-use Rattle.format.specs.Places.{nodeStart}
+use Rattle.format.specs.Places.{dataIn, nodeStart, undoStart}
 use Rattle.resolve_undo.specs.Answers.{undoAt, item}
 use Rattle.extensions.specs.declared.TreePlace.{TreePlace}
 use Rattle.extensions.specs.declared.UndoPlace.{UndoPlace}
@@ -27,6 +27,7 @@ pub record TreeIs (want : ℕ) (b : List ℕ) (t : Tree) (f : TreePlace) : Type 
   pub there : f .there ≡ true
   pub order : f .at ≤ f .end
   pub inside : f .end ≤ length b
+  pub sized : part b (f .at) (f .end) ≡ dataIn (f .at) b
   pub reads : readNodes 20 0 (part b (f .at) (f .end)) ≡ good t (length (part b (f .at) (f .end)))
   pub nodes : f .nodes ≡ length (treeItems t)
   pub node : f .node ≡ cond (ltb want (length (treeItems t))) (nodeStart 20 want (part b (f .at) (f .end))) 0
@@ -46,8 +47,10 @@ pub record UndoIs (want : ℕ) (b : List ℕ) (us : List Undo) (f : UndoPlace) :
   pub there : f .there ≡ true
   pub order : f .at ≤ f .end
   pub inside : f .end ≤ length b
+  pub sized : part b (f .at) (f .end) ≡ dataIn (f .at) b
   pub reads : undosIn 0 (part b (f .at) (f .end)) ≡ good us (length (part b (f .at) (f .end)))
   pub records : f .records ≡ length us
+  pub place : want < length us → f .«record_at» ≡ undoStart 20 0 want [] (part b (f .at) (f .end))
   pub wanted : want < length us → undoAt 20 0 (drop (f .«record_at») (part b (f .at) (f .end))) ≡ item want us
 
 abbrev pub UndoFound : ℕ → List ℕ → Option (List Undo) → UndoPlace → Type 0

@@ -4,6 +4,7 @@ use mathlib.Core.List.{List, []}
 use mathlib.Core.Bool.{Bool, not}
 use Prim.Native.Nat.{ℕ, _+_, _-_, _≤_}
 use lib.ListN.{length, take, drop}
+use Rattle.format.specs.Bytes.{be32}
 use Rattle.format.specs.Records.{Undo}
 use Rattle.format.specs.Layout.{Extension, cacheTree, resolveUndo, other}
 use Rattle.format.specs.Reading.{Read, bad, good, need, shift, bind}
@@ -30,9 +31,9 @@ told ns k b at (H.Tree e) = known (k .cacheTree) at (readTree 20 ns at (part b (
 told ns k b at (H.Undo e) = known (k .resolveUndo) at (undosIn at (part b (at + 8) e)) resolveUndo
 told ns k b at (H.Other e) = good (other (take 4 (drop at b)) (part b (at + 8) e)) (e - at)
 
--- the data end in the body
+-- the data of the extension at a place end at e, by the size that stands before them, and in the body
 abbrev pub Inside : List ℕ → ℕ → ℕ → Type 0
-Inside b at e = (at + 8 ≤ e) × (e ≤ length b)
+Inside b at e = (e ≡ at + 8 + be32 b (at + 4)) × (e ≤ length b)
 
 abbrev pub HeadInside : List ℕ → ℕ → Head → Type 0
 HeadInside b at (H.Bad n) = Unit

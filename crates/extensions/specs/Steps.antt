@@ -1,13 +1,14 @@
 -- One extension and all of them: what the code answers, against what the reader answers. b is the body, work the workspace.
 use mathlib.Core.Path.{_≡_}
 use mathlib.Core.List.{List}
-use mathlib.Core.Bool.{false}
-use Prim.Native.Nat.{ℕ, _-_}
+use mathlib.Core.Bool.{true, false}
+use Prim.Native.Nat.{ℕ, _+_, _-_}
 use lib.ListN.{length, drop}
 use Rattle.format.specs.Records.{Entry, start}
-use Rattle.format.specs.Layout.{Extension, cacheTree, resolveUndo, other, trees, undos, names}
+use Rattle.format.specs.Layout.{Extension, cacheTree, resolveUndo, other, TREE, REUC, trees, undos, names}
 use Rattle.format.specs.Reading.{Read, bad, good}
 use Rattle.format.specs.Reader.{noneSeen, readEntries, readExtensions, first}
+use Rattle.format.specs.Places.{dataPlace}
 use Rattle.extensions.specs.declared.Extended.{Extended}
 use Rattle.extensions.specs.declared.Extended.the-variants as E
 use Rattle.extensions.specs.declared.Found.{Found}
@@ -18,16 +19,16 @@ use Rattle.extensions.specs.Found.{TreeIs, TreeFound, UndoIs, UndoFound}
 
 -- ---- one extension. wn is the number of the node that is wanted, wr that of the record
 
--- f is what was found, and this extension besides
-abbrev pub Added : ℕ → ℕ → List ℕ → Found → Found → Extension → Type 0
-Added wn wr b found f (cacheTree t) = (found .tree .there ≡ false) × TreeIs wn b t (f .tree) × (f .undo ≡ found .undo)
-Added wn wr b found f (resolveUndo us) = (found .undo .there ≡ false) × UndoIs wr b us (f .undo) × (f .tree ≡ found .tree)
-Added wn wr b found f (other s d) = f ≡ found
+-- f is what was found, and the extension at a place besides
+abbrev pub Added : ℕ → ℕ → List ℕ → ℕ → Found → Found → Extension → Type 0
+Added wn wr b at found f (cacheTree t) = (found .tree .there ≡ false) × TreeIs wn b t (f .tree) × (f .tree .at ≡ at + 8) × (f .undo ≡ found .undo)
+Added wn wr b at found f (resolveUndo us) = (found .undo .there ≡ false) × UndoIs wr b us (f .undo) × (f .undo .at ≡ at + 8) × (f .tree ≡ found .tree)
+Added wn wr b at found f (other s d) = f ≡ found
 
 -- the reading x of the extension at a place, answered
 abbrev pub Answered : ℕ → ℕ → List ℕ → ℕ → Found → Read Extension → One → Type 0
 Answered wn wr b at found x (O.Bad n) = x ≡ bad n at
-Answered wn wr b at found x (O.Good next f) = (e : Extension) × (x ≡ good e (next - at)) × Added wn wr b found f e
+Answered wn wr b at found x (O.Good next f) = (e : Extension) × (x ≡ good e (next - at)) × Added wn wr b at found f e
 
 -- the place after it is in the body
 abbrev pub OneInside : List ℕ → ℕ → One → Type 0
@@ -43,12 +44,14 @@ pub record Passed (read : List (List ℕ) → Read Extension) (wn wr v count : �
 
 -- ---- all extensions
 
--- the list xs was read to the end of the body
+-- the list was read from a place to the end of the body; what was found stands in the first extension with its signature
 pub record Whole (wn wr : ℕ) (b : List ℕ) (at : ℕ) (x : Read (List Extension)) (f : Found) : Type 0 where
   pub list : List Extension
   pub reads : x ≡ good list (length b - at)
   pub tree : TreeFound wn b (first (trees list)) (f .tree)
   pub undo : UndoFound wr b (first (undos list)) (f .undo)
+  pub tree-at : f .tree .there ≡ true → f .tree .at ≡ dataPlace TREE at b
+  pub undo-at : f .undo .there ≡ true → f .undo .at ≡ dataPlace REUC at b
 
 abbrev pub AllAnswered : ℕ → ℕ → List ℕ → ℕ → Read (List Extension) → Extended → Type 0
 AllAnswered wn wr b at x (E.Bad n p) = x ≡ bad n p

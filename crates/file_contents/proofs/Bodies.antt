@@ -74,6 +74,8 @@ module _ (v : ℕ) (b : List ℕ) (count : ℕ) (counted : count ≡ be32 b 8) w
             entries = entries ∙ ap (good es) taken;
             tree = h .tree;
             undo = h .undo;
+            tree-at = h .tree-at;
+            undo-at = h .undo-at;
           }
 
   -- after the run of entries, which ends at a place

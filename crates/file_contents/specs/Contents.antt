@@ -1,13 +1,14 @@
 -- What the reading of a whole file has, and what the code answers of it.
 use mathlib.Core.Path.{_≡_}
 use mathlib.Core.List.{List}
-use mathlib.Core.Bool.{cond}
+use mathlib.Core.Bool.{true, cond}
 use Prim.Native.Nat.{ℕ, _-_, _≤_}
 use lib.ListN.{length, take, drop}
 use Rattle.format.specs.Records as F
+use Rattle.format.specs.Layout.{TREE, REUC}
 use Rattle.format.specs.Reading.{Read, bad, good}
 use Rattle.format.specs.Reader.{Contents, readEntries}
-use Rattle.format.specs.Places.{bodyIn}
+use Rattle.format.specs.Places.{bodyIn, dataPlace}
 use Rattle.file.specs.Answers.{tooSmall}
 use Rattle.extensions.specs.Found.{TreeFound, UndoFound}
 use Rattle.file_contents.specs.declared.Parts.{Parts}
@@ -36,6 +37,8 @@ pub record Contains (wn wr : ℕ) (x : Read Contents) (b : List ℕ) (parts : Pa
   pub entries : readEntries 20 (parts .version) (parts .count) F.start 12 (drop 12 b) ≡ good (contents .records .entries) (parts .end - 12)
   pub tree : TreeFound wn b (contents .records .cacheTree) (parts .found .tree)
   pub undo : UndoFound wr b (contents .records .resolveUndo) (parts .found .undo)
+  pub tree-at : parts .found .tree .there ≡ true → parts .found .tree .at ≡ dataPlace TREE (parts .end) b
+  pub undo-at : parts .found .undo .there ≡ true → parts .found .undo .at ≡ dataPlace REUC (parts .end) b
 
 abbrev pub WholeOf : ℕ → ℕ → Read Contents → List ℕ → Whole → Type 0
 WholeOf wn wr x b (W.Bad n p) = x ≡ bad n p

@@ -63,24 +63,19 @@ place-item w p (suc n) previous s us k q h =
     rw (← is, place-after w p previous s u i undoq n, ← (drop-drop (undoStart w p n (u .path) (drop i s)) i s))
     (place-item w p n (u .path) (drop i s) vs j undosq rest)
 
--- the same of the whole data, as the format reads it, and of what the code answers
+-- the same of the whole data, as the format reads it; how many there are and the place of one, of what the code answers
 pub shown-item : (p n : ℕ) (d : List ℕ) (us : List Undo) (k : ℕ) → readUndos 20 p (length d) [] d ≡ good us k → n < length us
     → undoAt 20 p (drop (undoStart 20 p n [] d) d) ≡ item n us
 unfolding undosOf
 shown-item p n d us k q h = place-item 20 p n [] d us k q h
 
-pub read-item : (p n count place : ℕ) (d : List ℕ) (us : List Undo) (k : ℕ) → readUndos 20 p (length d) [] d ≡ good us k
+pub read-place : (p n count place : ℕ) (d : List ℕ) (us : List Undo) (k : ℕ) → readUndos 20 p (length d) [] d ≡ good us k
     → S.Good count place ≡ recordsRead n (undoStart 20 p n [] d) (readUndos 20 p (length d) [] d)
-    → (count ≡ length us) × (n < count → undoAt 20 p (drop place d) ≡ item n us)
-read-item p n count place d us k q e =
+    → (count ≡ length us) × (n < length us → place ≡ undoStart 20 p n [] d)
+read-place p n count place d us k q e =
     let f = rw q at e in
-    let number : count ≡ length us = cc in
-    let place-is : place ≡ cond (ltb n (length us)) (undoStart 20 p n [] d) 0 = cc in (
-      number,
-      λ h.
-          let l : n < length us = omega arith in
-          rw (place-is, lt-ltb n (length us) l) (shown-item p n d us k q l),
-    )
+    let place-is : place ≡ cond (ltb n (length us)) (undoStart 20 p n [] d) 0 = cc in
+    (cc, λ h. place-is ∙ rw (lt-ltb n (length us) h))
 
 value-inv {ℓ} : {X : Type ℓ} (r : Read Undo) (u : Undo) → valueOf r ≡ some u → ((k : ℕ) → r ≡ good u k → X) → X
 unfolding valueOf

@@ -153,7 +153,7 @@ read-extension w ns k p {x} {a} rest h new =
     rw (whole, number, eight, fits, may, signature, past, take-append-seam d rest, read-data w ns k p x sig d (h .says) new) (same-size (omega arith))
 
 -- of any list, whether or not its elements are bytes
-extension-data : (w : ℕ) (ns : List (List ℕ)) (k : Seen) (p : ℕ) (s : List ℕ) (x : Extension) (m : ℕ) → readExtension w ns k p s ≡ good x m
+pub extension-data : (w : ℕ) (ns : List (List ℕ)) (k : Seen) (p : ℕ) (s : List ℕ) (x : Extension) (m : ℕ) → readExtension w ns k p s ≡ good x m
     → (8 + be32 s 4 ≤ length s) × (m ≡ 8 + be32 s 4) × Says w ns x (take 4 s) (take (be32 s 4) (drop 8 s)) × (isNew x k ≡ true)
 unfolding readExtension
 extension-data w ns k p s x m q =

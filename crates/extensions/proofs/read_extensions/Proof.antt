@@ -6,10 +6,11 @@ use native.Mathlib.Omega.{arith}
 use borrow.Author.Needs.{needs}
 use lib.ListN.{length, drop}
 use Rattle.format.specs.Records.{Entry, start}
-use Rattle.format.specs.Layout.{names}
+use Rattle.format.specs.Layout.{TREE, REUC, names}
 use Rattle.format.specs.Reading.{good}
 use Rattle.format.specs.Reader.{readEntries}
 use Rattle.spelling_extensions.proofs.Extensions.{extensionsOf}
+use Rattle.extensions.proofs.Places.{seeks-end}
 use Rattle.extensions.proofs.Runs.{Behind, behind-none, behind-end, behind-bad, behind-more}
 use Rattle.extensions.proofs.read_extensions.Statement.{statement}
 use Rattle.extensions.proofs.read_extensions.Tie as tie
@@ -104,6 +105,8 @@ returns-2 c =
             reads = behind-end (a .want-node) (a .want-record) (a .b .now) (names es) (a .at) (l .loop .place) (l .loop .found) h (c .loop-test .left) (l .loop .inv .0);
             tree = h .tree;
             undo = h .undo;
+            tree-at = seeks-end TREE (a .b .now) (a .at) (l .loop .place) _ _ (h .tree-at) (l .loop .inv .0);
+            undo-at = seeks-end REUC (a .b .now) (a .at) (l .loop .place) _ _ (h .undo-at) (l .loop .inv .0);
           };
       long = l .loop .inv .1;
       past = l .loop .inv .2;
