@@ -85,16 +85,17 @@ head-inv v p s h e f g =
     good-inv _ _ _ _ q₆ λ h-is m-is. f set longer h-is)
     (λ clear q₄. good-inv _ _ _ _ q₄ λ h-is m-is. g clear h-is)
 
-size-set : (x y : ℕ) → isSet 16384 x ≡ true → Size (record { length = 64; flags = x; word = y })
-unfolding fixedLength
-size-set x y e = record { is = rw e; least = omega arith; most = omega arith }
+module _ (s : List ℕ) (x : ℕ) (flags : x ≡ be16 s 60) where
+  size-set : (y : ℕ) → isSet 16384 x ≡ true → Size s (record { length = 64; flags = x; word = y })
+  unfolding fixedLength
+  size-set y e = record { flags = flags; is = rw e; least = omega arith; most = omega arith }
 
-size-clear : (x : ℕ) → isSet 16384 x ≡ false → Size (record { length = 62; flags = x; word = 0 })
-unfolding fixedLength
-size-clear x e = record { is = rw e; least = omega arith; most = omega arith }
+  size-clear : isSet 16384 x ≡ false → Size s (record { length = 62; flags = x; word = 0 })
+  unfolding fixedLength
+  size-clear e = record { flags = flags; is = rw e; least = omega arith; most = omega arith }
 
-pub head-size : (v p : ℕ) (s : List ℕ) (h : Head) → fixedOf (readHead 20 v p s) ≡ F.Good h → Size h
-head-size v p s h e = head-inv v p s h e (λ set longer is. rw (← is) (size-set _ _ set)) (λ clear is. rw (← is) (size-clear _ clear))
+pub head-size : (v p : ℕ) (s : List ℕ) (h : Head) → fixedOf (readHead 20 v p s) ≡ F.Good h → Size s h
+head-size v p s h e = head-inv v p s h e (λ set longer is. rw (← is) (size-set s _ refl _ set)) (λ clear is. rw (← is) (size-clear s _ refl clear))
 
 head-bads : (n p q : ℕ) → Alike fixedOf (bad n p) (bad n q)
 unfolding fixedOf
@@ -195,7 +196,7 @@ module _ (b : List ℕ) (at : ℕ) where
           same = λ v p h e. head-inv v p (drop at b) h e
               (λ set longer is. clash set (rw (flags-is, ne-eqb _ _ clear)))
               (λ unset is. ap F.Good (rw flags-is at is));
-          sized = λ h e. let is : record { length = 62; flags = x; word = 0 } ≡ h = cc in rw (← is) (size-clear x (ne-eqb _ _ clear));
+          sized = λ h e. let is : record { length = 62; flags = x; word = 0 } ≡ h = cc in rw (← is) (size-clear (drop at b) x (sym flags-is) (ne-eqb _ _ clear));
           there = omega arith;
         }
 
@@ -219,6 +220,6 @@ module _ (b : List ℕ) (at : ℕ) where
             same = λ v p h e. head-inv v p (drop at b) h e
                 (λ on enough is. ap F.Good (rw (flags-is, word-is) at is))
                 (λ unset is. clash (rw (flags-is, eq-eqb _ _ set)) unset);
-            sized = λ h e. let is : record { length = 64; flags = x; word = y } ≡ h = cc in rw (← is) (size-set x y (eq-eqb _ _ set));
+            sized = λ h e. let is : record { length = 64; flags = x; word = y } ≡ h = cc in rw (← is) (size-set (drop at b) x (sym flags-is) y (eq-eqb _ _ set));
             there = omega arith;
           }

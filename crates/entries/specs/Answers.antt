@@ -38,8 +38,9 @@ abbrev pub headLength : Fixed → ℕ
 headLength (F.Bad n) = 0
 headLength (F.Good h) = h .length
 
--- how long it is
-pub record Size (h : Head) : Type 0 where
+-- how long it is, at the start of the bytes s, whose flags it has
+pub record Size (s : List ℕ) (h : Head) : Type 0 where
+  pub flags : h .flags ≡ be16 s 60
   pub is : h .length ≡ fixedLength 20 (isSet 16384 (h .flags))
   pub least : 62 ≤ h .length
   pub most : h .length ≤ 64
@@ -47,7 +48,7 @@ pub record Size (h : Head) : Type 0 where
 -- at a place of the body b, where readHead reads it, the same without its tests
 pub record HeadPassed (b : List ℕ) (at : ℕ) (r : Fixed) : Type 0 where
   pub same : (v p : ℕ) (h : Head) → fixedOf (readHead 20 v p (drop at b)) ≡ F.Good h → r ≡ F.Good h
-  pub sized : (h : Head) → r ≡ F.Good h → Size h
+  pub sized : (h : Head) → r ≡ F.Good h → Size (drop at b) h
   pub there : at + headLength r ≤ length b
 
 -- a name by its length, with the bytes taken

@@ -193,8 +193,10 @@ module _ (b w : List ℕ) (c : Cursor) (h : Head) (n took z : ℕ) (w′ : List 
           answered-good _ 4 b w c w′ long past (λ v. false-true (sym v)) _ (λ p. rest-good 4 b w c h p _ _ (named p) (sym order-is ∙ e) ∙ rw (shown, taken))
           (record {
             next = record { small = q .cursor .small; inside = omega (arith, r .inside); behind = omega arith; short = r .short };
+            flags = q .flags;
             head = q .is;
             least = q .least;
+            begins = λ v. false-true (sym v);
             ahead = omega arith;
             stage = refl;
             common = r .rebuilt .common ∙ unfold nameAt in rw shown;

@@ -98,8 +98,10 @@ module _ (v : ℕ) (b w : List ℕ) (old : eqb v 4 ≡ false) where
           (λ p. rest-good v b w c h p _ m (named p) (sym order-is ∙ e) ∙ rw (nameAt-plain v b w (c .at + h .length) n old, taken))
           (record {
             next = record { small = q .cursor .small; inside = r .more; behind = omega arith; short = sized .1 };
+            flags = q .flags;
             head = q .is;
             least = q .least;
+            begins = λ u. refl;
             ahead = omega (arith, sized .0);
             stage = refl;
             common = r .stands .common ∙ rw (before-is, after-is n, nameAt-plain v b w (c .at + h .length) n old);

@@ -27,8 +27,8 @@ use Rattle.entries_run.proofs.Names.{nameAt-short}
 
 -- ---- what stands before the name
 
-pub headed-as : (b : List ℕ) (c : Cursor) (h : Head) → Inside b c → Size h → c .at + h .length ≤ length b → Headed b c h
-headed-as b c h inside size there = record { cursor = inside; is = size .is; least = size .least; most = size .most; there = there }
+pub headed-as : (b : List ℕ) (c : Cursor) (h : Head) → Inside b c → Size (drop (c .at) b) h → c .at + h .length ≤ length b → Headed b c h
+headed-as b c h inside size there = record { cursor = inside; flags = size .flags; is = size .is; least = size .least; most = size .most; there = there }
 
 -- ---- what answers say
 

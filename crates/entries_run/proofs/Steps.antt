@@ -1,5 +1,5 @@
 -- Laws of the run of entries, one step after another, for loops over entries.
-use mathlib.Core.Path.{_≡_, refl, sym, ap, _∙_}
+use mathlib.Core.Path.{_≡_, refl, sym, ap, subst₂, _∙_}
 use mathlib.Core.List.{List, [], _∷_, _++_, append-nil}
 use mathlib.Core.Bool.{Bool, true, false, cond}
 use mathlib.Core.Option.{some}
@@ -12,6 +12,7 @@ use lib.Dec.{eqb}
 use Rattle.format.specs.Records.{Entry, Key, keyOf, start}
 use Rattle.format.specs.Reading.{Read, bad, good, bind}
 use Rattle.format.specs.Reader.{entryOf, readEntry, readEntries}
+use Rattle.format.specs.Places.{entryPlace, namePlace}
 use Rattle.format_laws.proofs.Readings.{bad-good, bind-inv, inFront, front-none, front-one, front-front, front-inv}
 use Rattle.spelling_entries.proofs.Entries.{entry-named}
 use Rattle.fields.specs.Begun.{Begun}
@@ -116,6 +117,11 @@ module _ (v : ℕ) (b : List ℕ) where
         let taken : c .at - 12 + 0 ≡ c .at - 12 = omega arith in
         rw none-more at (h .whole 0) ∙ rw (run-none v b w c, append-nil es, taken)
 
+    -- entry number length es begins at the cursor
+    walked-place : c .at ≡ entryPlace 20 v (length es) b
+    unfolding entryPlace
+    walked-place = rw walked-end (omega (arith, h .after))
+
     walked-on : (count : ℕ) → length es ≤ count → readEntries 20 v count start 12 (drop 12 b) ≡ inFront es (c .at - 12) (runFrom v (count - length es) b w c)
     walked-on count few = let sum : length es + (count - length es) ≡ count = omega arith in rw sum at (h .whole (count - length es))
 
@@ -154,6 +160,11 @@ module _ (v : ℕ) (b : List ℕ) where
 
 -- ---- what callers read from answers
 
+-- where the name begins that a step found
+found-name : (v : ℕ) (b w : List ℕ) (c : Cursor) (w′ : List ℕ) (st : Step) → Found v b w c w′ st → eqb v 4 ≡ false → st .next .start ≡ namePlace 20 (c .at) b
+unfolding namePlace
+found-name v b w c w′ st f old = f .begins old ∙ rw (f .head, f .flags)
+
 module _ (v : ℕ) (b w : List ℕ) (at : ℕ) (st : Step) where
   pub entryAt-name : entryAt v b w at st .name ≡ nameAt v b w (st .next .start) (st .next .len)
   unfolding entryOf
@@ -169,13 +180,23 @@ runOf-good (good es m) end e f = f es m refl (cc)
 
 -- ---- entry number k
 
+bad-sought : {X : Type 0} {n p at : ℕ} {st : Step} → S.Bad n p ≡ S.Good at st → X
+bad-sought e = let z : _≡_ {A = ℕ} 0 1 = cc in absurd (omega arith)
+
+good-sought : (P : ℕ → Step → Type 0) (at at′ : ℕ) (st st′ : Step) → S.Good at st ≡ S.Good at′ st′ → P at st → P at′ st′
+good-sought P at at′ st st′ q =
+    let there : at ≡ at′ = cc in
+    let same : st ≡ st′ = cc in subst₂ P there same
+
 module _ (v : ℕ) (b : List ℕ) (k : ℕ) (es : List Entry) (w : List ℕ) (c : Cursor) (h : Walked v b es w c)
     (w′ w₀ : List ℕ) (long : length w′ ≡ length w₀) (past : drop 8192 w′ ≡ drop 8192 w₀) where
   pub sought-bad : (n p : ℕ) → length es ≤ k → Stepped v b w c w′ (N.Bad n) → Reaches v b w₀ k w′ (S.Bad n p)
   sought-bad n p few t =
       record {
         entry = λ count all m e more. bad-good _ _ _ _ (sym (walked-bad v b es w c h w′ n t count (omega arith)) ∙ e);
-        placed = λ at st q. let z : _≡_ {A = ℕ} 0 1 = cc in absurd (omega arith);
+        placed = λ at st q. bad-sought q;
+        place = λ at st q. bad-sought q;
+        name = λ at st q. bad-sought q;
         long = long;
         past = past;
       }
@@ -186,9 +207,9 @@ module _ (v : ℕ) (b : List ℕ) (k : ℕ) (es : List Entry) (w : List ℕ) (c 
       let parts : Placed b (c .at) st = record { fixed = omega arith; name = omega arith; short = f .next .short; stage = f .stage } in
       record {
         entry = λ count all m e more. rw all-of at (walked-entry v b es w c h w′ st t count all m e (omega arith));
-        placed = λ at other q.
-            let there : c .at ≡ at = cc in
-            let same : st ≡ other = cc in rw (there, same) at parts;
+        placed = λ at other q. good-sought (Placed b) _ at _ other q parts;
+        place = λ at other q. good-sought (λ a s. a ≡ entryPlace 20 v k b) _ at _ other q (rw all-of at (walked-place v b es w c h));
+        name = λ at other q. good-sought (λ a s. eqb v 4 ≡ false → s .next .start ≡ namePlace 20 a b) _ at _ other q (found-name v b w c w′ st f);
         long = long;
         past = past;
       }

@@ -6,11 +6,13 @@ use mathlib.Core.Option.{Option, none, some}
 use Prim.Native.Nat.{ℕ, _+_, _-_, _/_, _%_, _≤_, _<_}
 use lib.ListN.{length, take, drop, getElem?}
 use lib.Dec.{eqb}
+use Rattle.format.specs.Bytes.{be16}
 use Rattle.format.specs.Names.{compare, common, rises}
 use Rattle.format.specs.Records.{Entry, Key, start}
 use Rattle.format.specs.Layout.{fixedLength}
 use Rattle.format.specs.Reading.{Read, bad, good, shift}
 use Rattle.format.specs.Reader.{isSet, readN, entryOf, readTail, readEntry, readEntries}
+use Rattle.format.specs.Places.{entryPlace, namePlace}
 use Rattle.fields.specs.Begun.{Begun}
 use Rattle.entries.specs.declared.Head.{Head}
 use Rattle.entries.specs.declared.Fixed.{Fixed}
@@ -58,6 +60,7 @@ pub record Inside (b : List ℕ) (c : Cursor) : Type 0 where
 -- and the bytes h before the name of the entry there
 pub record Headed (b : List ℕ) (c : Cursor) (h : Head) : Type 0 where
   pub cursor : Inside b c
+  pub flags : h .flags ≡ be16 (drop (c .at) b) 60
   pub is : h .length ≡ fixedLength 20 (isSet 16384 (h .flags))
   pub least : 62 ≤ h .length
   pub most : h .length ≤ 64
@@ -67,7 +70,7 @@ pub record Headed (b : List ℕ) (c : Cursor) (h : Head) : Type 0 where
 pub record HeadRead (again : Bool) (v : ℕ) (b : List ℕ) (at : ℕ) (r : Fixed) : Type 0 where
   pub first : again ≡ false → (p : ℕ) → r ≡ fixedOf (readHead 20 v p (drop at b))
   pub later : again ≡ true → HeadPassed b at r
-  pub sized : (h : Head) → r ≡ F.Good h → Size h
+  pub sized : (h : Head) → r ≡ F.Good h → Size (drop at b) h
   pub there : at + headLength r ≤ length b
 
 -- and the number N after them, in version 4
@@ -118,8 +121,10 @@ said v b work at p (N.Good st) = good (entryAt v b work at st) (st .next .at - a
 -- the parts of a step
 pub record Found (v : ℕ) (b work : List ℕ) (c : Cursor) (work′ : List ℕ) (st : Step) : Type 0 where
   pub next : Inside b (st .next)
+  pub flags : st .flags ≡ be16 (drop (c .at) b) 60
   pub head : st .head ≡ fixedLength 20 (isSet 16384 (st .flags))
   pub least : 62 ≤ st .head
+  pub begins : eqb v 4 ≡ false → st .next .start ≡ c .at + st .head
   pub ahead : c .at + st .head < st .next .at
   pub stage : st .next .stage ≡ st .flags / 4096 % 4
   pub common : st .common ≡ common (nameAt v b work (c .start) (c .len)) (nameAt v b work′ (st .next .start) (st .next .len))
@@ -199,10 +204,12 @@ pub record Placed (b : List ℕ) (at : ℕ) (st : Step) : Type 0 where
   pub short : st .next .len ≤ 8192
   pub stage : st .next .stage ≡ st .flags / 4096 % 4
 
--- of a body with more than k entries, entry k was found
+-- of a body with more than k entries, entry k was found: its place and, in versions 2 and 3, that of its name
 pub record Reaches (v : ℕ) (b work : List ℕ) (k : ℕ) (work′ : List ℕ) (r : Sought) : Type 0 where
   pub entry : (count : ℕ) (es : List Entry) (m : ℕ) → readEntries 20 v count start 12 (drop 12 b) ≡ good es m → k < count
       → getElem? es k ≡ soughtIn v b work′ r
   pub placed : (at : ℕ) (st : Step) → r ≡ S.Good at st → Placed b at st
+  pub place : (at : ℕ) (st : Step) → r ≡ S.Good at st → at ≡ entryPlace 20 v k b
+  pub name : (at : ℕ) (st : Step) → r ≡ S.Good at st → eqb v 4 ≡ false → st .next .start ≡ namePlace 20 at b
   pub long : length work′ ≡ length work
   pub past : drop 8192 work′ ≡ drop 8192 work

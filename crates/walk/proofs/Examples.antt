@@ -7,8 +7,10 @@ use Rattle.format.specs.Names.{componentsFrom, components, okComponent, okCompo
 use Rattle.format.specs.Layout.{okMode, fixedLength, entryLength}
 use Rattle.format.specs.Reading.{need, shift, bind}
 use Rattle.format.specs.Reader.{isSet, okWord, plainLength, readPlain, readName, entryOf, readTail, readFixed, readEntry}
+use Rattle.format.specs.Places.{bodyIn, namePlace}
 use Rattle.format.proofs.Examples.{fileEntry, listing}
-use Rattle.file.specs.Answers.{refused, inFile}
+use Rattle.file.specs.declared.Shown.the-variants.{InFile}
+use Rattle.file.specs.Answers.{refused, inFile, entryShown}
 use Rattle.walk.specs.Walks.{placeAt, firstPlace, walkable, walkRead, walkAnswer, placeAfter, placeAfterAll, walkOver}
 
 -- both entries, then 18
@@ -21,6 +23,13 @@ listing-walked = refl
 listing-places : (placeAfterAll 20 listing 1 (firstPlace 2) ≡ placeAt 76 1) × (placeAfterAll 20 listing 4 (firstPlace 2) ≡ placeAt 148 0)
 unfolding listing be16 be32 be32s eqList before lacks zeros componentsFrom components okComponent okComponents okName lengthField compare okMode fixedLength entryLength need shift bind isSet okWord plainLength readPlain readName entryOf readTail readFixed readEntry walkable walkRead placeAfter placeAfterAll
 listing-places = (refl, refl)
+
+-- their names begin 62 bytes on: one byte at 74, three at 138
+listing-names :
+    (entryShown (namePlace 20 12 (bodyIn 20 listing)) (walkAnswer 20 listing 12 2) .shown ≡ InFile 74 1)
+    × (entryShown (namePlace 20 76 (bodyIn 20 listing)) (walkAnswer 20 listing 76 1) .shown ≡ InFile 138 3)
+unfolding listing be16 be32 be32s eqList before lacks zeros componentsFrom components okComponent okComponents okName lengthField compare okMode fixedLength entryLength need shift bind isSet okWord plainLength readPlain readName entryOf readTail readFixed readEntry namePlace walkable walkRead walkAnswer
+listing-names = (refl, refl)
 
 -- any place at which a sound entry stands will do
 second-alone : walkOver 20 listing 2 (placeAt 76 9) ≡ inFile (fileEntry 0x81ed 0x22 (98 ∷ 47 ∷ 99 ∷ [])) ∷ refused 18 0 ∷ []

@@ -11,6 +11,7 @@ use Rattle.format.specs.Bytes.{be32}
 use Rattle.format.specs.Records.{start}
 use Rattle.format.specs.Reading.{Read, bad, good}
 use Rattle.format.specs.Reader.{Contents, readEntries, readBody, readFile}
+use Rattle.format.specs.Places.{bodyIn}
 use Rattle.format_laws.proofs.Tests.{by-test, and-inv, and-both, cond-inv}
 use Rattle.format_laws.proofs.Readings.{good-inv, need-inv, shift-inv, bind-inv}
 use Rattle.hash.specs.Sha1.{sha1}
@@ -18,7 +19,7 @@ use Rattle.file.specs.Answers.{tooSmall, pick, given, entryAnswer}
 use Rattle.file.proofs.Laws.{item-none}
 use Rattle.file_contents.proofs.Bodies.{entries-length}
 use Rattle.walk.specs.declared.Started.the-variants.{Refused, Ready}
-use Rattle.walk.specs.Walks.{startedOf, startAnswer, bodyIn, walkable}
+use Rattle.walk.specs.Walks.{startedOf, startAnswer, walkable}
 use Rattle.walk.proofs.Steps.{steps-show, steps-show-all}
 use Rattle.walk.proofs.Statements.{WholeWalk}
 

@@ -6,7 +6,7 @@ use Prim.Native.Nat.{ℕ, _+_, _-_, _%_, _≤_, _<_}
 use native.Mathlib.Nat.{add-zero}
 use native.Mathlib.Omega.{arith}
 use lib.ListN.{length, take, drop, length-take, length-drop}
-use lib.Seq.{drop-drop}
+use lib.Seq.{length-take-le, drop-drop}
 use lib.Dec.{eqb, ltb}
 use borrow.Author.Tests.{eq-eqb, ne-eqb, lt-ltb, le-leb, lt-leb}
 use Rattle.format.specs.Bytes.{be32, eqList}
@@ -14,22 +14,23 @@ use Rattle.format.specs.Records.{Entry, start}
 use Rattle.format.specs.Layout.{fixedLength, DIRC}
 use Rattle.format.specs.Reading.{Read, bad, need, shift}
 use Rattle.format.specs.Reader.{readPlain, entryOf, readEntry}
+use Rattle.format.specs.Places.{bodyIn, namePlace}
 use Rattle.spelling_entries.proofs.Entries.{entry-takes}
 use Rattle.entries.specs.declared.Head.{Head}
 use Rattle.entries.specs.declared.Fixed.the-variants as F
 use Rattle.entries.specs.declared.Text.the-variants as T
 use Rattle.entries.specs.Answers.{readHead, fixedOf, textOf}
-use Rattle.entries.proofs.Before.{readEntry-bad, readEntry-good}
+use Rattle.entries.proofs.Before.{readEntry-bad, readEntry-good, head-size}
 use Rattle.entries.proofs.Names.{readPlain-bad, readPlain-good}
 use Rattle.file.specs.declared.EntryAnswer.{EntryAnswer}
 use Rattle.file.specs.declared.Fields.{Fields}
 use Rattle.file.specs.declared.Shown.{Shown}
 use Rattle.file.specs.declared.Shown.the-variants as S
-use Rattle.file.specs.Answers.{View, refused, inFile, partIn, nameIn, entryWith, entrySaid, refusedEntry}
-use Rattle.file.proofs.Laws.{part-in, part-within, same-refusal}
+use Rattle.file.specs.Answers.{View, refused, inFile, partIn, nameIn, entryWith, entrySaid, refusedEntry, entryShown}
+use Rattle.file.proofs.Laws.{part-in, part-within, fields-are}
 use Rattle.walk.specs.declared.Sight.{Sight}
 use Rattle.walk.specs.declared.Sight.the-variants.{Nothing, Found}
-use Rattle.walk.specs.Walks.{placeAt, bodyIn, walkable, or18, walkRead, walkAnswer, nameShown, placeAfter, StepShows}
+use Rattle.walk.specs.Walks.{placeAt, walkable, or18, walkRead, walkAnswer, nameShown, placeAfter, StepShows}
 use Rattle.walk.specs.Sights.{sightRead, Stands, Sees}
 use Rattle.walk.proofs.Plain.{tail-bad, tail-start}
 use Rattle.walk.proofs.Steps.{walk-on, view-is, place-is}
@@ -67,6 +68,11 @@ module _ (v : ℕ) (b : List ℕ) (at : ℕ) (old : eqb v 4 ≡ false) where
         let rest = tail-bad 20 v at old (h .length) (h .flags) (h .word) (drop at b) start n (rw drop-drop name) in
         refused-at n (readEntry-good 20 v start at (drop at b) h (sym (head at)) ∙ rw rest)
 
+    -- the name begins after them
+    head-end : at + h .length ≡ namePlace 20 at b
+    unfolding namePlace
+    head-end = let size = head-size v at (drop at b) h (sym (head at)) in rw (size .is, size .flags)
+
     pub a-name : (n m : ℕ) → ((p : ℕ) → T.Good n m ≡ textOf (readPlain (h .length) p (h .flags % 4096) (drop (at + h .length) b)))
         → n ≤ m → at + h .length + m ≤ length b → Sees (or18 (readEntry 20 v start at (drop at b))) b at (Found h n m)
     unfolding shift
@@ -76,7 +82,7 @@ module _ (v : ℕ) (b : List ℕ) (at : ℕ) (old : eqb v 4 ≡ false) where
         let is : readEntry 20 v start at (drop at b) ≡ sightRead b at (Found h n m) =
         readEntry-good 20 v start at (drop at b) h (sym (head at)) ∙ rw (rest, add-zero m) in
         let least : 62 ≤ h .length + m = entry-takes 20 v start at (drop at b) _ _ is in
-        sees-found _ b at h n m (ap or18 is) (record { fixed = omega arith; name = omega arith; end = end })
+        sees-found _ b at h n m (ap or18 is) (record { fixed = omega arith; start = head-end; name = omega arith; end = end })
 
 -- ---- of a file
 
@@ -131,10 +137,11 @@ module _ (f : List ℕ) where
 
 module _ (f : List ℕ) (at left : ℕ) where
   pub step-refused : (r : EntryAnswer) → Sees (walkRead 20 f at left) (bodyIn 20 f) at Nothing
-      → ((file work : List ℕ) → entrySaid r file work ≡ refused 18 0) × (r ≡ refusedEntry 18 0) → StepShows (walkAnswer 20 f at left) f r
+      → ((file work : List ℕ) → entrySaid r file work ≡ refused 18 0) × (r ≡ refusedEntry 18 0)
+      → StepShows (namePlace 20 at (bodyIn 20 f)) (walkAnswer 20 f at left) f r
   step-refused r s (said, is) =
       let v : walkAnswer 20 f at left ≡ refused 18 0 = view-is 20 f at left _ (s .same) in
-      record { said = λ work. said f work ∙ sym v; bare = λ i j q. same-refusal refusedEntry _ 18 0 i j r v is q }
+      record { whole = is ∙ sym (ap (entryShown _) v); said = λ work. said f work ∙ sym v; inside = λ work. rw is tt }
 
   pub place-stays : (less : ℕ) → Sees (walkRead 20 f at left) (bodyIn 20 f) at Nothing → less ≡ left - 1
       → placeAt at less ≡ placeAfter 20 f at left
@@ -151,18 +158,20 @@ module _ (f : List ℕ) (at left : ℕ) where
     body-long = let l = length-take (length f - 20) f in let t = found-stands in omega arith
 
     pub step-shows : (x : Fields) → ((name : List ℕ) → entryWith x name ≡ entryOf 20 (drop at (bodyIn 20 f)) (h .flags) (h .word) name)
-        → StepShows (walkAnswer 20 f at left) f (record { shown = S.InFile (at + h .length) n; fields = x })
-    unfolding entrySaid nameIn
+        → StepShows (namePlace 20 at (bodyIn 20 f)) (walkAnswer 20 f at left) f (record { shown = S.InFile (at + h .length) n; fields = x })
+    unfolding entrySaid nameIn entryOf
     step-shows x fields =
         let v = view-is 20 f at left _ (s .same) in
         let t = found-stands in
-        let whole = body-long in
-        let inside : at + h .length + n ≤ length f - 20 = omega arith in
-        let name : partIn (at + h .length) n f ≡ take n (drop (at + h .length) (bodyIn 20 f)) =
-        part-in _ _ f (omega arith) ∙ sym (part-within (length f - 20) (at + h .length) n f inside) in
+        let long = body-long in
+        let within : at + h .length + n ≤ length f - 20 = omega arith in
+        let bytes : List ℕ = take n (drop (at + h .length) (bodyIn 20 f)) in
+        let name : partIn (at + h .length) n f ≡ bytes = part-in _ _ f (omega arith) ∙ sym (part-within (length f - 20) (at + h .length) n f within) in
+        let size : length bytes ≡ n = length-take-le n (drop (at + h .length) (bodyIn 20 f)) (rw length-drop (omega arith)) in
         record {
+          whole = rw (v, size, ← (t .start)) (ap (λ (y : Fields). record { shown = S.InFile (at + h .length) n; fields = y }) (fields-are x bytes _ (fields bytes)));
           said = λ work. ap inFile (fields (partIn (at + h .length) n f) ∙ rw name) ∙ sym v;
-          bare = λ i j q. let z : _≡_ {A = ℕ} 0 1 = cc in absurd (omega arith);
+          inside = λ work. omega arith;
         }
 
 -- the name that an answer points at is the one of what it shows
@@ -172,5 +181,5 @@ said-name x (S.Refused n p) f work = refl
 said-name x (S.InFile at n) f work = refl
 said-name x (S.InWorkspace n) f work = refl
 
-pub shown-name : (v : View Entry) (f : List ℕ) (r : EntryAnswer) → StepShows v f r → nameIn (r .shown) f [] ≡ nameShown v
-shown-name v f r h = said-name (r .fields) (r .shown) f [] ∙ ap nameShown (h .said [])
+pub shown-name : (at : ℕ) (v : View Entry) (f : List ℕ) (r : EntryAnswer) → StepShows at v f r → nameIn (r .shown) f [] ≡ nameShown v
+shown-name at v f r h = said-name (r .fields) (r .shown) f [] ∙ ap nameShown (h .said [])

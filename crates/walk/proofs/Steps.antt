@@ -14,11 +14,12 @@ use Rattle.format.specs.Records.{Entry, Key, keyOf, start}
 use Rattle.format.specs.Layout.{DIRC}
 use Rattle.format.specs.Reading.{Read, good, bad, need}
 use Rattle.format.specs.Reader.{readEntry, readEntries}
+use Rattle.format.specs.Places.{bodyIn, taken}
 use Rattle.format_laws.proofs.Tests.{and-inv₃, or-inv}
 use Rattle.format_laws.proofs.Readings.{good-inv, bind-inv}
 use Rattle.file.specs.Answers.{View, inFile, pick}
 use Rattle.walk.specs.declared.Place.{Place}
-use Rattle.walk.specs.Walks.{placeAt, bodyIn, walkable, or18, walkRead, viewIn, takenIn, walkAnswer, placeAfter, placeAfterAll, walkOver}
+use Rattle.walk.specs.Walks.{placeAt, walkable, or18, walkRead, viewIn, walkAnswer, placeAfter, placeAfterAll, walkOver}
 use Rattle.walk.proofs.Plain.{any-key}
 
 -- ---- a header of version 2 or 3
@@ -49,7 +50,7 @@ module _ (w : ℕ) (f : List ℕ) (at : ℕ) where
     unfolding walkAnswer
     view-is x e = ap viewIn e
 
-    pub place-is : (x : Read Entry) → walkRead w f at left ≡ x → placeAfter w f at left ≡ placeAt (at + takenIn x) (left - 1)
+    pub place-is : (x : Read Entry) → walkRead w f at left ≡ x → placeAfter w f at left ≡ placeAt (at + taken x) (left - 1)
     unfolding placeAfter
     place-is x e = rw e
 

@@ -6,6 +6,7 @@ use lib.ListN.{length, take, drop}
 use Rattle.format.specs.Records.{Entry}
 use Rattle.format.specs.Reading.{Read, bad, good}
 use Rattle.format.specs.Reader.{entryOf}
+use Rattle.format.specs.Places.{namePlace}
 use Rattle.entries.specs.declared.Head.{Head}
 use Rattle.walk.specs.declared.Sight.{Sight}
 use Rattle.walk.specs.declared.Sight.the-variants.{Nothing, Found}
@@ -18,6 +19,7 @@ sightRead b at (Found h n m) = good (entryOf 20 (drop at b) (h .flags) (h .word)
 -- where the parts of the entry stand
 pub record Stands (b : List ℕ) (at : ℕ) (h : Head) (n m : ℕ) : Type 0 where
   pub fixed : at + 62 ≤ length b
+  pub start : at + h .length ≡ namePlace 20 at b
   pub name : at + h .length + n ≤ length b
   pub end : at + h .length + m ≤ length b
 

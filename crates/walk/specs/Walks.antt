@@ -10,8 +10,9 @@ use Rattle.format.specs.Records.{Entry, start}
 use Rattle.format.specs.Layout.{DIRC}
 use Rattle.format.specs.Reading.{Read, bad, good, need}
 use Rattle.format.specs.Reader.{Contents, readEntry}
+use Rattle.format.specs.Places.{bodyIn, taken}
 use Rattle.file.specs.declared.EntryAnswer.{EntryAnswer}
-use Rattle.file.specs.Answers.{View, refused, inFile, inWorkspace, tooSmall, entrySaid, refusedEntry}
+use Rattle.file.specs.Answers.{View, refused, inFile, inWorkspace, tooSmall, entrySaid, entryShown, Inside}
 use Rattle.walk.specs.declared.Started.{Started}
 use Rattle.walk.specs.declared.Started.the-variants.{Refused, Ready}
 use Rattle.walk.specs.declared.Place.{Place}
@@ -34,10 +35,6 @@ firstPlace n = placeAt 12 n
 
 -- ---- one step, whatever the file, the place and the number of entries that remain
 
--- the body: all bytes but the checksum
-abbrev pub bodyIn : ℕ → List ℕ → List ℕ
-bodyIn w f = take (length f - w) f
-
 -- whether the header is one of version 2 or 3
 unfoldable pub walkable : ℕ → List ℕ → Bool
 walkable w f = leb (12 + w) (length f) && (eqList (take 4 f) DIRC && (eqb (be32 f 4) 2 || eqb (be32 f 4) 3))
@@ -55,10 +52,6 @@ abbrev pub viewIn : Read Entry → View Entry
 viewIn (bad n p) = refused n p
 viewIn (good e m) = inFile e
 
-abbrev pub takenIn : Read Entry → ℕ
-takenIn (bad n p) = 0
-takenIn (good e m) = m
-
 -- what the next entry shows
 unfoldable pub walkAnswer : ℕ → List ℕ → ℕ → ℕ → View Entry
 walkAnswer w f at left = viewIn (walkRead w f at left)
@@ -71,7 +64,7 @@ nameShown (inWorkspace e) = e .name
 
 -- the place after it, with one fewer to come; where there is none, the place stays
 unfoldable pub placeAfter : ℕ → List ℕ → ℕ → ℕ → Place
-placeAfter w f at left = placeAt (at + takenIn (walkRead w f at left)) (left - 1)
+placeAfter w f at left = placeAt (at + taken (walkRead w f at left)) (left - 1)
 
 -- ---- many steps
 
@@ -85,8 +78,13 @@ unfoldable pub walkOver : ℕ → List ℕ → ℕ → Place → List (View Entr
 walkOver w f zero p = []
 walkOver w f (suc k) p = walkAnswer w f (p .at) (p .left) ∷ walkOver w f k (placeAfter w f (p .at) (p .left))
 
--- ---- what the answer of the code shows: v, whose name is a part of the file; a refusal has zeros and false in all other fields
+-- ---- what the answer of the code shows
 
-pub record StepShows (v : View Entry) (f : List ℕ) (r : EntryAnswer) : Type 0 where
+-- v, whose name is the part of the file at the place at
+pub record StepShows (at : ℕ) (v : View Entry) (f : List ℕ) (r : EntryAnswer) : Type 0 where
+  -- the answer, whole
+  pub whole : r ≡ entryShown at v
+  -- the bytes that it points at are the name
   pub said : (work : List ℕ) → entrySaid r f work ≡ v
-  pub bare : (n p : ℕ) → v ≡ refused n p → r ≡ refusedEntry n p
+  -- which lies in the file
+  pub inside : (work : List ℕ) → Inside (r .shown) f work

@@ -6,9 +6,10 @@ ghost use lib.ListN.{length, drop};
 ghost use lib.Dec.{eqb};
 ghost use Rattle.format.specs.Records as F;
 ghost use Rattle.format.specs.Reader.{readEntry, readFile};
+ghost use Rattle.format.specs.Places.{bodyIn, namePlace};
 ghost use Rattle.hash.specs.Sha1.{sha1};
 ghost use Rattle.file.specs.Answers.{cleared};
-ghost use Rattle.walk.specs.Walks.{startAnswer, placeAt, firstPlace, bodyIn, or18, walkRead, walkAnswer, nameShown, placeAfter, StepShows};
+ghost use Rattle.walk.specs.Walks.{startAnswer, placeAt, firstPlace, or18, walkRead, walkAnswer, nameShown, placeAfter, StepShows};
 ghost use Rattle.walk.specs.Walks as W;
 ghost use Rattle.walk.specs.Sights.{Sees};
 use entries::Fixed;
@@ -115,7 +116,7 @@ fn fewer(left: u32) -> u32
 
 // The next entry of a file at a place, where so many remain, and the place after it, with one fewer to come. Where there is none, the entry is 18 and the place stays.
 pub fn step_at(file: &[u8], at: usize, left: u32) -> Step
-    ensures { λ r. ⌜ StepShows (walkAnswer 20 (now (file .entry)) at left) (now (file .entry)) (r .answer) × (r .next ≡ placeAfter 20 (now (file .entry)) at left) ⌝ }
+    ensures { λ r. ⌜ StepShows (namePlace 20 at (bodyIn 20 (now (file .entry)))) (walkAnswer 20 (now (file .entry)) at left) (now (file .entry)) (r .answer) × (r .next ≡ placeAfter 20 (now (file .entry)) at left) ⌝ }
 {
     let sight = see(file, at, left);
     let less = fewer(left);
@@ -144,7 +145,7 @@ pub fn step_at(file: &[u8], at: usize, left: u32) -> Step
 
 // The entry alone.
 pub fn entry_at(file: &[u8], at: usize, left: u32) -> EntryAnswer
-    ensures { λ r. ⌜ StepShows (walkAnswer 20 (now (file .entry)) at left) (now (file .entry)) r ⌝ }
+    ensures { λ r. ⌜ StepShows (namePlace 20 at (bodyIn 20 (now (file .entry)))) (walkAnswer 20 (now (file .entry)) at left) (now (file .entry)) r ⌝ }
 {
     let step = step_at(file, at, left);
     let answer = step.answer;
@@ -202,7 +203,7 @@ pub fn new<'a>(file: &'a [u8], entries: u32) -> Walk<'a>
 
 // The next entry; 18 where none remain.
 pub fn next<'a>(w: Walk<'a>) -> EntryAnswer
-    ensures { λ r. ⌜ StepShows (walkAnswer 20 (now (w .entry .file)) (w .entry .at) (w .entry .left)) (now (w .entry .file)) r ⌝ }
+    ensures { λ r. ⌜ StepShows (namePlace 20 (w .entry .at) (bodyIn 20 (now (w .entry .file)))) (walkAnswer 20 (now (w .entry .file)) (w .entry .at) (w .entry .left)) (now (w .entry .file)) r ⌝ }
 {
     entry_at(w.file, w.at, w.left)
 }

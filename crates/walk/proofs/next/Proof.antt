@@ -31,6 +31,7 @@ use denote.Triple.Table.{entered, cited}
 use denote.Triple.Walked.{says, Stays, stay-none, walkOf, goes-none, Walks, ends-at, walked, walk-meets}
 use denote.Exit.{yes}
 use denote.Triple.Clauses.{ensured, lasts}
+use Rattle.format.specs.Places.{bodyIn, namePlace}
 use Rattle.walk.specs.Walks.{walkAnswer, StepShows}
 use Rattle.walk.specs.declared.Walk.{Walk}
 use Rattle.file.specs.declared.EntryAnswer.{EntryAnswer}
@@ -58,7 +59,7 @@ module _ {M : Type 1} (𝓤 : URA M) (H : Heap 𝓤) (A : Atoms 𝓤) (mem : Mem
 module _ {M : Type 1} (𝓤 : URA M) (H : Heap 𝓤) (A : Atoms 𝓤) (W : Given 𝓤 H A) (mem : Memory → SProp 𝓤) (run : Routine → Fun 𝓤) (κ : Lft) (q : Share) (d : Walk) where
   -- what is promised of the answer
   abbrev Shows : EntryAnswer → Type 0
-  Shows r = StepShows (walkAnswer 20 (now (d .file)) (d .at) (d .left)) (now (d .file)) r
+  Shows r = StepShows (namePlace 20 (d .at) (bodyIn 20 (now (d .file)))) (walkAnswer 20 (now (d .file)) (d .at) (d .left)) (now (d .file)) r
 
   abbrev Post : Val → SProp 𝓤
   Post = walkOf 𝓤 H A next.ended stayed (next.clauses 𝓤 H A mem run) .post (((κ, tt), (q, tt), tt, (d, tt), (mach d ∷ [], tt)), tt)

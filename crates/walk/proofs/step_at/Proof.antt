@@ -5,8 +5,9 @@ use native.Mathlib.Omega.{arith}
 use lib.ListN.{length}
 use lib.Seq.{length-take-le}
 use borrow.Author.Needs.{needs}
+use Rattle.format.specs.Places.{bodyIn}
 use Rattle.walk.specs.declared.Sight.the-variants.{Found}
-use Rattle.walk.specs.Walks.{bodyIn, walkRead}
+use Rattle.walk.specs.Walks.{walkRead}
 use Rattle.walk.specs.Sights.{Sees}
 use Rattle.walk.proofs.Seeing.{found-stands, body-long, step-refused, step-shows, place-stays, place-moves}
 use Rattle.walk.proofs.step_at.Statement.{statement}
