@@ -5,7 +5,7 @@ use mathlib.Core.Bool.{true, false}
 use mathlib.Core.Option.{Option, some}
 use Prim.Native.Nat.{ℕ, _+_, _-_, _≤_}
 use native.Mathlib.Omega.{arith}
-use lib.ListN.{length, take, drop, replicate, length-take}
+use lib.ListN.{length, take, drop, replicate, length-append, length-take, length-drop}
 use lib.Seq.{length-take-le}
 use lib.Dec.{eqb}
 use Rattle.format.specs.Records as F
@@ -15,15 +15,20 @@ use Rattle.entries_run.specs.Steps.{nameAt, entryAt}
 use Rattle.file.specs.declared.EntryAnswer.{EntryAnswer}
 use Rattle.file.specs.declared.Fields.{Fields}
 use Rattle.file.specs.declared.Shown.the-variants as S
-use Rattle.file.specs.Answers.{View, refused, inFile, inWorkspace, pick, cleared, holding, workAfter, nameIn, entryWith, entrySaid}
-use Rattle.file.proofs.Laws.{cleared-large, cleared-past, holding-after, holding-name, part-in, part-within}
+use Rattle.file.specs.Answers.{View, refused, inFile, inWorkspace, pick, cleared, holding, workAfter, nameIn, entryWith, entrySaid, fieldsOf}
+use Rattle.file.proofs.Laws.{cleared-large, cleared-past, holding-after, holding-name, part-in, part-within, fields-are}
 use Rattle.file_contents.specs.Contents.{bodyOf}
 use Rattle.index.specs.Calls.{EntryShows}
 use Rattle.index.proofs.Views.{pick-file, pick-work}
 
+-- a name lies in the workspace that holds it
+held-inside : (name work : List ℕ) → length name ≤ length (holding name work)
+unfolding holding
+held-inside name work = simp length-append (omega arith)
+
 module _ (v : ℕ) (f written : List ℕ) (at : ℕ) (st : Step) (o : Option F.Entry) (found : o ≡ some (entryAt v (bodyOf f) written at st))
     (x : Fields) (fields : (name : List ℕ) → entryWith x name ≡ R.entryOf 20 (drop at (bodyOf f)) (st .flags) (st .word) name)
-    (work work′ : List ℕ) where
+    (work work′ : List ℕ) (place : ℕ) where
   entry : F.Entry
   entry = entryAt v (bodyOf f) written at st
 
@@ -37,24 +42,30 @@ module _ (v : ℕ) (f written : List ℕ) (at : ℕ) (st : Step) (o : Option F.E
 
   -- versions 2 and 3: the name is a part of the file
   pub shown-file : eqb v 4 ≡ false → st .next .start + st .next .len ≤ length (bodyOf f) → work′ ≡ cleared work
-      → EntryShows (pick (eqb v 4) o) f work work′ (record { shown = S.InFile (st .next .start) (st .next .len); fields = x })
+      → st .next .start ≡ place → EntryShows place (pick (eqb v 4) o) f work work′ (record { shown = S.InFile (st .next .start) (st .next .len); fields = x })
   unfolding entrySaid nameIn nameAt entry
-  shown-file old inside after =
+  shown-file old inside after placed =
       let b : length (bodyOf f) ≤ length f - 20 = simp length-take (omega arith) in
       let fits : st .next .start + st .next .len ≤ length f = omega arith in
       let is : pick (eqb v 4) o ≡ inFile entry = pick-file (eqb v 4) o entry old found in
       let name : nameIn (S.InFile (st .next .start) (st .next .len)) f work′ ≡ nameAt v (bodyOf f) written (st .next .start) (st .next .len) =
       part-in _ _ f fits ∙ rw old (sym (part-within (length f - 20) (st .next .start) (st .next .len) f (omega arith))) in
+      let there : nameAt v (bodyOf f) written (st .next .start) (st .next .len) ≡ take (st .next .len) (drop (st .next .start) (bodyOf f)) = rw old in
+      let long : length (take (st .next .len) (drop (st .next .start) (bodyOf f))) ≡ st .next .len =
+      length-take-le _ _ (omega (arith, length-drop (st .next .start) (bodyOf f))) in
+      let size : st .next .len ≡ length (entry .name) = sym (ap length (entry-name ∙ there) ∙ long) in
+      let own : x ≡ fieldsOf entry = fields-are x _ entry (entry-with _ name) in
       record {
+        whole = rw (is, ← placed, ← size, ← own) refl;
         said = ap inFile (entry-with _ name) ∙ sym is;
+        inside = fits;
         after = rw is after;
-        bare = λ n p q. let z : _≡_ {A = ℕ} 0 1 = cc in absurd (omega arith);
       }
 
   -- version 4: the name stands first in the workspace
   pub shown-work : eqb v 4 ≡ true → st .next .len ≤ 8192 → length written ≡ length work → 8192 ≤ length work → drop 8192 written ≡ drop 8192 work
       → work′ ≡ take (st .next .len) written ++ (replicate (8192 - st .next .len) 0 ++ drop 8192 written)
-      → EntryShows (pick (eqb v 4) o) f work work′ (record { shown = S.InWorkspace (st .next .len); fields = x })
+      → EntryShows place (pick (eqb v 4) o) f work work′ (record { shown = S.InWorkspace (st .next .len); fields = x })
   unfolding entrySaid nameAt entry
   shown-work new short same room rest held =
       let fits : st .next .len ≤ length written = omega arith in
@@ -64,10 +75,13 @@ module _ (v : ℕ) (f written : List ℕ) (at : ℕ) (st : Step) (o : Option F.E
       let holds : work′ ≡ holding name work = held ∙ holding-after work written rest (st .next .len) fits in
       let own : nameAt v (bodyOf f) written (st .next .start) (st .next .len) ≡ name = rw new in
       let named : nameIn (S.InWorkspace (st .next .len)) f work′ ≡ name = rw holds (rw long at (holding-name name f work)) in
+      let size : st .next .len ≡ length (entry .name) = sym (ap length (entry-name ∙ own) ∙ long) in
+      let fields-own : x ≡ fieldsOf entry = fields-are x _ entry (entry-with _ (named ∙ sym own)) in
       record {
+        whole = rw (is, ← size, ← fields-own) refl;
         said = ap inWorkspace (entry-with _ (named ∙ sym own)) ∙ sym is;
+        inside = rw holds (rw long at (held-inside name work));
         after = rw is (holds ∙ ap (λ (s : List ℕ). holding s work) (sym (entry-name ∙ own)));
-        bare = λ n p q. let z : _≡_ {A = ℕ} 0 1 = cc in absurd (omega arith);
       }
 
 -- ---- where the workspace was cleared before
@@ -79,8 +93,8 @@ after-same (refused n p) work written rest room same = rw (cleared-large written
 after-same (inFile e) work written rest room same = rw (cleared-large written same, cleared-large work room, rest)
 after-same (inWorkspace e) work written rest room same = rw rest
 
-pub shown-again : (v u : View F.Entry) (f work written work′ : List ℕ) (r : EntryAnswer) → v ≡ u → EntryShows u f written work′ r
-    → written ≡ cleared work → 8192 ≤ length work → 8192 ≤ length written → EntryShows v f work work′ r
-shown-again v u f work written work′ r e h clean room same =
+pub shown-again : (v u : View F.Entry) (f work written work′ : List ℕ) (at : ℕ) (r : EntryAnswer) → v ≡ u → EntryShows at u f written work′ r
+    → written ≡ cleared work → 8192 ≤ length work → 8192 ≤ length written → EntryShows at v f work work′ r
+shown-again v u f work written work′ at r e h clean room same =
     let rest : drop 8192 written ≡ drop 8192 work = ap (drop 8192) clean ∙ cleared-past work room in
-    rw e (record { said = h .said; after = h .after ∙ after-same u work written rest room same; bare = h .bare })
+    rw e (record { whole = h .whole; said = h .said; inside = h .inside; after = h .after ∙ after-same u work written rest room same })

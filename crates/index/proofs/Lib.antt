@@ -1,5 +1,6 @@
 -- Laws that the proofs of the functions cite.
 pub mod Views
+pub mod Places
 pub mod Entries
 pub mod Nodes
 pub mod Records

@@ -18,13 +18,13 @@ use Rattle.format_laws.proofs.Readings.{bind-inv}
 use Rattle.tree_nodes.specs.declared.node.Node as Code
 use Rattle.tree_nodes.specs.declared.node.NodeRead.the-variants as N
 use Rattle.tree_nodes.specs.Answers.{counted, objectLength, nodeOf, nodeAt}
-use Rattle.format.specs.Places.{nodeStart}
+use Rattle.format.specs.Places.{dataIn, nodeStart}
 use Rattle.tree_nodes.proofs.Readings.{node-took}
 use Rattle.tree_nodes.proofs.Nodes.{node-named, object-valid, node-object}
 use Rattle.cache_tree.proofs.Flat.{Shown}
 use Rattle.cache_tree.proofs.Shape.{tree-item, level-is}
 use Rattle.file.specs.declared.Shown.the-variants as S
-use Rattle.file.specs.Answers.{View, refused, inFile, listed, itemsOf, partIn, nameIn, countWith, nodeSaid}
+use Rattle.file.specs.Answers.{View, refused, inFile, listed, itemsOf, partIn, nameIn, countWith, nodeSaid, countNumber}
 use Rattle.file.proofs.Laws.{part-in, part-within, item-none}
 use Rattle.extensions.specs.declared.TreePlace.{TreePlace}
 use Rattle.extensions.specs.Heads.{part}
@@ -46,14 +46,15 @@ pub record Within (f : List ℕ) (tree : TreePlace) : Type 0 where
   pub place : tree .node < tree .end - tree .at
 
 -- and the item that it is
-pub record Stands (f : List ℕ) (tree : TreePlace) (i : F.Item) : Type 0 where
+pub record Stands (k : ℕ) (f : List ℕ) (tree : TreePlace) (i : F.Item) : Type 0 where
   pub within : Within f tree
+  pub place : tree .at + nodeStart 20 k (dataIn (tree .at) (bodyOf f)) ≡ tree .at + tree .node
   pub level : i .level ≡ tree .level
   pub taken : ℕ
   pub reads : readNode 20 0 (drop (tree .node) (part f (tree .at) (tree .end))) ≡ good (record { node = i .node; subtrees = i .subtrees }) taken
 
 module _ (k : ℕ) (f : List ℕ) (tree : TreePlace) where
-  stands-is : (t : F.Tree) → TreeIs k (bodyOf f) t tree → k < tree .nodes → Stands f tree (getD (F.treeItems t) k (root t))
+  stands-is : (t : F.Tree) → TreeIs k (bodyOf f) t tree → k < tree .nodes → Stands k f tree (getD (F.treeItems t) k (root t))
   stands-is t is more =
       let d : List ℕ = part f (tree .at) (tree .end) in
       let same : part (bodyOf f) (tree .at) (tree .end) ≡ d = part-of-body f (tree .at) (tree .end) (is .order) (is .inside) in
@@ -68,6 +69,7 @@ module _ (k : ℕ) (f : List ℕ) (tree : TreePlace) where
       let long : length d ≡ tree .end - tree .at = simp (length-take, length-drop) (omega arith) in
       record {
         within = record { order = order; inside = omega arith; long = long; place = omega (arith, took, length-drop (nodeStart 20 k d) d) };
+        place = ap (λ n. tree .at + n) (sym (place ∙ ap (nodeStart 20 k) (sym same ∙ is .sized)));
         level = sym (is .level ∙ level-is k (F.treeItems t) (root t) few);
         taken = shown .taken;
         reads = rw place (shown .reads);
@@ -75,14 +77,14 @@ module _ (k : ℕ) (f : List ℕ) (tree : TreePlace) where
 
   -- by what was found
   pub stands {ℓ} : {X : Type ℓ} (o : Option F.Tree) → TreeFound k (bodyOf f) o tree → k < tree .nodes
-      → ((i : F.Item) → listed (itemsOf o) k ≡ inFile i → Stands f tree i → X) → X
+      → ((i : F.Item) → listed (itemsOf o) k ≡ inFile i → tree .there ≡ true → Stands k f tree i → X) → X
   stands none is more g = let z : tree .nodes ≡ 0 = ap (λ (x : TreePlace). x .nodes) is in absurd (omega arith)
   stands (some t) is more g =
       let few : k < length (F.treeItems t) = omega (arith, is .nodes) in
-      g (getD (F.treeItems t) k (root t)) (pick-file false _ _ refl (item-some (F.treeItems t) k (root t) few)) (stands-is t is more)
+      g (getD (F.treeItems t) k (root t)) (pick-file false _ _ refl (item-some (F.treeItems t) k (root t) few)) (is .there) (stands-is t is more)
 
   pub within : (o : Option F.Tree) → TreeFound k (bodyOf f) o tree → k < tree .nodes → Within f tree
-  within o is more = stands o is more λ i v h. h .within
+  within o is more = stands o is more λ i v there h. h .within
 
   pub no-node-there : (o : Option F.Tree) → TreeFound k (bodyOf f) o tree → tree .nodes ≤ k → listed (itemsOf o) k ≡ refused 18 0
   no-node-there none is few = refl
@@ -94,13 +96,19 @@ module _ (k : ℕ) (f : List ℕ) (tree : TreePlace) where
 pub record NodeParts (d : List ℕ) (at : ℕ) (i : F.Item) (n : Code.Node) : Type 0 where
   pub named : at ≤ n .nul
   pub inside : n .nul ≤ length d
+  pub size : n .nul - at ≡ length (i .node .name)
   pub name : i .node .name ≡ take (n .nul - at) (drop at d)
-  pub count : countWith (n .valid) (n .count) ≡ i .node .count
+  pub valid : n .valid ≡ isValid (i .node .count)
+  pub count : n .count ≡ countNumber (i .node .count)
   pub subtrees : n .subtrees ≡ i .subtrees
   pub there : n .valid ≡ true → n .object + 20 ≤ length d
   pub object : i .node .object ≡ cond (n .valid) (take 20 (drop (n .object) d)) (replicate 20 0)
 
-with-count : (c : F.Count) → countWith (isValid c) (counted c) ≡ c
+count-number : (c : F.Count) → counted c ≡ countNumber c
+count-number (F.valid n) = refl
+count-number F.invalid = refl
+
+with-count : (c : F.Count) → countWith (isValid c) (countNumber c) ≡ c
 with-count (F.valid n) = refl
 with-count F.invalid = refl
 
@@ -146,8 +154,10 @@ module _ (d : List ℕ) (at : ℕ) (i : F.Item) (taken : ℕ)
       record {
         named = omega arith;
         inside = omega arith;
+        size = omega arith;
         name = g .0 ∙ rw end;
-        count = with-count (i .node .count);
+        valid = refl;
+        count = count-number (i .node .count);
         subtrees = refl;
         there = λ v.
             let long = node-takes 20 0 (drop at d) _ taken reads v in
@@ -166,15 +176,16 @@ pub places : (k : ℕ) (f : List ℕ) (tree : TreePlace) (o : Option F.Tree) →
     → (n : Code.Node) → N.Good n ≡ nodeAt (tree .node) (readNode 20 0 (drop (tree .node) (part f (tree .at) (tree .end))))
     → (tree .node ≤ n .nul) × (n .valid ≡ true → n .object + 20 ≤ length (part f (tree .at) (tree .end)))
 places k f tree o is more n e =
-    stands k f tree o is more λ i v h.
+    stands k f tree o is more λ i v there h.
     let p = node-parts (part f (tree .at) (tree .end)) (tree .node) i (h .taken) (h .reads) n e in (p .named, p .there)
 
 -- ---- the answer
 
-pub node-shows : (f : List ℕ) (tree : TreePlace) (v : View F.Item) (i : F.Item) → v ≡ inFile i → Stands f tree i
+pub node-shows : (k : ℕ) (f : List ℕ) (tree : TreePlace) (at : ℕ) (v : View F.Item) (i : F.Item) → v ≡ inFile i → Stands k f tree i
+    → tree .at + nodeStart 20 k (dataIn (tree .at) (bodyOf f)) ≡ at
     → (n : Code.Node) → NodeParts (part f (tree .at) (tree .end)) (tree .node) i n
     → (object : List ℕ) → object ≡ cond (n .valid) (take 20 (drop (n .object) (part f (tree .at) (tree .end)))) (replicate 20 0)
-    → NodeShows v f
+    → NodeShows at v f
     (record {
       shown = S.InFile (tree .at + tree .node) (n .nul - tree .node);
       level = tree .level;
@@ -184,7 +195,7 @@ pub node-shows : (f : List ℕ) (tree : TreePlace) (v : View F.Item) (i : F.Item
       object = object;
     })
 unfolding nodeSaid nameIn
-node-shows f tree v i is h n p object o =
+node-shows k f tree at v i is h placed n p object o =
     let d : List ℕ = part f (tree .at) (tree .end) in
     let w = h .within in
     let named = p .named in
@@ -196,7 +207,10 @@ node-shows f tree v i is h n p object o =
     (p .name
     ∙ part-within (tree .end - tree .at) (tree .node) (n .nul - tree .node) (drop (tree .at) f) (omega arith)
     ∙ ap (take (n .nul - tree .node)) (drop-drop (tree .node) (tree .at) f)) in
+    let own : tree .at + tree .node ≡ at = sym (h .place) ∙ placed in
+    let same : object ≡ i .node .object = o ∙ sym (p .object) in
     record {
-      said = λ work. rw (name, p .count, p .subtrees, o, ← (p .object), ← (h .level), is) refl;
-      bare = λ a b q. let z : _≡_ {A = ℕ} 0 1 = cc in absurd (omega arith);
+      whole = rw (is, own, p .size, same, p .valid, p .count, p .subtrees, ← (h .level)) refl;
+      said = λ work. rw (name, same, p .valid, p .count, with-count (i .node .count), p .subtrees, ← (h .level), is) refl;
+      inside = λ work. fits;
     }

@@ -1,7 +1,7 @@
 -- Laws of a resolve-undo record that is shown.
 use mathlib.Core.Path.{_≡_, refl, sym, ap, _∙_}
 use mathlib.Core.List.{List, [], _∷_}
-use mathlib.Core.Bool.{false}
+use mathlib.Core.Bool.{true, false}
 use mathlib.Core.Option.{Option, none, some}
 use Prim.Native.Nat.{ℕ, zero, suc, _+_, _-_, _≤_, _<_}
 use native.Mathlib.Omega.{arith}
@@ -9,6 +9,7 @@ use lib.ListN.{length, take, drop, getD, getElem?, length-take}
 use lib.Seq.{drop-drop}
 use lib.Dec.{lit≤}
 use Rattle.format.specs.Records as F
+use Rattle.format.specs.Places.{dataIn, undoStart}
 use Rattle.resolve_undo.specs.declared.Shown as Code
 use Rattle.resolve_undo.specs.Answers.{undoAt, item, shown}
 use Rattle.resolve_undo.proofs.Showing.{shown-path}
@@ -35,8 +36,9 @@ pub record Within (f : List ℕ) (undo : UndoPlace) : Type 0 where
   pub inside : undo .end ≤ length f
 
 -- and in them the record that was wanted
-pub record Stands (f : List ℕ) (undo : UndoPlace) (u : F.Undo) : Type 0 where
+pub record Stands (k : ℕ) (f : List ℕ) (undo : UndoPlace) (u : F.Undo) : Type 0 where
   pub within : Within f undo
+  pub place : undo .at + undoStart 20 0 k [] (dataIn (undo .at) (bodyOf f)) ≡ undo .at + undo .«record_at»
   pub reads : undoAt 20 0 (drop (undo .«record_at») (part f (undo .at) (undo .end))) ≡ some u
 
 no-record : F.Undo
@@ -45,18 +47,18 @@ no-record = record { path = []; first = record { mode = 0; object = [] }; second
 module _ (k : ℕ) (f : List ℕ) (undo : UndoPlace) where
   -- by what was found
   pub stands {ℓ} : {X : Type ℓ} (o : Option (List F.Undo)) → UndoFound k (bodyOf f) o undo → k < undo .records
-      → ((u : F.Undo) → listed o k ≡ inFile u → Stands f undo u → X) → X
+      → ((u : F.Undo) → listed o k ≡ inFile u → undo .there ≡ true → Stands k f undo u → X) → X
   stands none is more g = let z : undo .records ≡ 0 = ap (λ (x : UndoPlace). x .records) is in absurd (omega arith)
   stands (some us) is more g =
       let few : k < length us = omega (arith, is .records) in
       let b : length (bodyOf f) ≤ length f = simp length-take (omega arith) in
       let there : getElem? us k ≡ some (getD us k no-record) = item-some us k no-record few in
       let same = part-of-body f (undo .at) (undo .end) (is .order) (is .inside) in
-      g (getD us k no-record) (pick-file false _ _ refl there)
-      (record { within = record { order = is .order; inside = omega (arith, is .inside) }; reads = rw same at (is .wanted few) ∙ item-is k us ∙ there })
+      g (getD us k no-record) (pick-file false _ _ refl there) (is .there)
+      (record { within = record { order = is .order; inside = omega (arith, is .inside) }; place = ap (λ n. undo .at + n) (sym (is .place few ∙ ap (undoStart 20 0 k []) (is .sized))); reads = rw same at (is .wanted few) ∙ item-is k us ∙ there })
 
   pub within : (o : Option (List F.Undo)) → UndoFound k (bodyOf f) o undo → k < undo .records → Within f undo
-  within o is more = stands o is more λ u v h. h .within
+  within o is more = stands o is more λ u v there h. h .within
 
   pub no-record-there : (o : Option (List F.Undo)) → UndoFound k (bodyOf f) o undo → undo .records ≤ k → listed o k ≡ refused 18 0
   no-record-there none is few = refl
@@ -64,10 +66,11 @@ module _ (k : ℕ) (f : List ℕ) (undo : UndoPlace) where
 
 -- ---- the answer
 
-module _ (f : List ℕ) (undo : UndoPlace) (v : View F.Undo) (u : F.Undo) (is : v ≡ inFile u) (h : Stands f undo u) (s : Code.Shown)
+module _ (k : ℕ) (f : List ℕ) (undo : UndoPlace) (place : ℕ) (v : View F.Undo) (u : F.Undo) (is : v ≡ inFile u) (h : Stands k f undo u)
+    (placed : undo .at + undoStart 20 0 k [] (dataIn (undo .at) (bodyOf f)) ≡ place) (s : Code.Shown)
     (shows : s ≡ shown (undo .«record_at») (undoAt 20 0 (drop (undo .«record_at») (part f (undo .at) (undo .end)))))
     (inside : s .path + s .«path_length» ≤ length (part f (undo .at) (undo .end))) where
-  pub undo-shows : UndoShows v f
+  pub undo-shows : UndoShows place v f
       (record {
         shown = S.InFile (undo .at + s .path) (s .«path_length»);
         «first_mode» = s .first;
@@ -91,7 +94,9 @@ module _ (f : List ℕ) (undo : UndoPlace) (v : View F.Undo) (u : F.Undo) (is : 
       ∙ ap (take (s .«path_length»)) (sym (drop-drop (s .path) (undo .at) f))
       ∙ sym (part-within (undo .end - undo .at) (s .path) (s .«path_length») (drop (undo .at) f) (omega arith))
       ∙ rw (at, size) (shown-path 20 0 (drop (undo .«record_at») d) u (lit≤ tt) (h .reads)) in
+      let own : undo .at + s .path ≡ place = ap (λ n. undo .at + n) at ∙ sym (h .place) ∙ placed in
       record {
+        whole = rw (is, own, q) refl;
         said = λ work. rw (name, q, is) refl;
-        bare = λ a b e. let z : _≡_ {A = ℕ} 0 1 = cc in absurd (omega arith);
+        inside = λ work. fits;
       }

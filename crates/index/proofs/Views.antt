@@ -14,7 +14,7 @@ use Rattle.file.specs.declared.EntryAnswer.{EntryAnswer}
 use Rattle.file.specs.declared.NodeAnswer.{NodeAnswer}
 use Rattle.file.specs.declared.UndoAnswer.{UndoAnswer}
 use Rattle.file.specs.Answers.{tooSmall, View, refused, inFile, inWorkspace, pick, given, cleared, checkedOf, checkAnswer, entryOf, entryAnswer, nodeOf, nodeAnswer, undoOf, undoAnswer, entrySaid, nodeSaid, undoSaid, refusedEntry, refusedNode, refusedUndo}
-use Rattle.file.proofs.Laws.{part-within, same-refusal}
+use Rattle.file.proofs.Laws.{part-within}
 use Rattle.extensions.specs.Heads.{part}
 use Rattle.file_contents.specs.Contents.{bodyOf, inRoom}
 use Rattle.index.specs.Calls.{EntryShows, NodeShows, UndoShows}
@@ -74,20 +74,20 @@ module _ (work : List ℕ) (k : ℕ) (x y : Read Contents) (e : inRoom work x �
 
 -- ---- refusals
 
-module _ (n p : ℕ) (f : List ℕ) where
+module _ (n p : ℕ) (f : List ℕ) (at : ℕ) where
   pub entry-refused :
       (v : View F.Entry) (work work′ : List ℕ) (r : EntryAnswer) → v ≡ refused n p →
       ((file work : List ℕ) → entrySaid r file work ≡ refused n p) × (r ≡ refusedEntry n p) → work′ ≡ cleared work →
-      EntryShows v f work work′ r
+      EntryShows at v f work work′ r
   entry-refused v work work′ r e (said, is) after =
-      record { said = said f work′ ∙ sym e; after = rw e after; bare = λ i j q. same-refusal refusedEntry v n p i j r e is q }
+      record { whole = rw e is; said = said f work′ ∙ sym e; inside = rw is tt; after = rw e after }
 
   pub node-refused :
       (v : View F.Item) (r : NodeAnswer) → v ≡ refused n p → ((file work : List ℕ) → nodeSaid r file work ≡ refused n p) × (r ≡ refusedNode n p) →
-      NodeShows v f r
-  node-refused v r e (said, is) = record { said = λ work. said f work ∙ sym e; bare = λ i j q. same-refusal refusedNode v n p i j r e is q }
+      NodeShows at v f r
+  node-refused v r e (said, is) = record { whole = rw e is; said = λ work. said f work ∙ sym e; inside = λ work. rw is tt }
 
   pub undo-refused :
       (v : View F.Undo) (r : UndoAnswer) → v ≡ refused n p → ((file work : List ℕ) → undoSaid r file work ≡ refused n p) × (r ≡ refusedUndo n p) →
-      UndoShows v f r
-  undo-refused v r e (said, is) = record { said = λ work. said f work ∙ sym e; bare = λ i j q. same-refusal refusedUndo v n p i j r e is q }
+      UndoShows at v f r
+  undo-refused v r e (said, is) = record { whole = rw e is; said = λ work. said f work ∙ sym e; inside = λ work. rw is tt }

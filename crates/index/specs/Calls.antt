@@ -1,4 +1,4 @@
--- What the calls leave behind: what is shown. A refusal has its number and its place, and zeros and false in all other fields.
+-- What the calls leave behind: what is shown, the answer whole. A name that is shown from the file stands at the place at.
 use mathlib.Core.Path.{_≡_}
 use mathlib.Core.List.{List}
 use Prim.Native.Nat.{ℕ}
@@ -6,19 +6,23 @@ use Rattle.format.specs.Records as F
 use Rattle.file.specs.declared.EntryAnswer.{EntryAnswer}
 use Rattle.file.specs.declared.NodeAnswer.{NodeAnswer}
 use Rattle.file.specs.declared.UndoAnswer.{UndoAnswer}
-use Rattle.file.specs.Answers.{View, refused, workAfter, entrySaid, nodeSaid, undoSaid, refusedEntry, refusedNode, refusedUndo}
+use Rattle.file.specs.Answers.{View, workAfter, entrySaid, nodeSaid, undoSaid, entryShown, nodeShown, undoShown, Inside}
 
--- the answer r shows v; work′ is the workspace after it, work the one before
-pub record EntryShows (v : View F.Entry) (f work work′ : List ℕ) (r : EntryAnswer) : Type 0 where
+-- the answer r shows v: it is the one that does, the bytes that it points at are the name, and they lie in their buffer. work′ is the workspace
+-- after it, work the one before
+pub record EntryShows (at : ℕ) (v : View F.Entry) (f work work′ : List ℕ) (r : EntryAnswer) : Type 0 where
+  pub whole : r ≡ entryShown at v
   pub said : entrySaid r f work′ ≡ v
+  pub inside : Inside (r .shown) f work′
   pub after : work′ ≡ workAfter v work
-  pub bare : (n p : ℕ) → v ≡ refused n p → r ≡ refusedEntry n p
 
 -- the names of nodes and records are parts of the file: the workspace does not matter
-pub record NodeShows (v : View F.Item) (f : List ℕ) (r : NodeAnswer) : Type 0 where
+pub record NodeShows (at : ℕ) (v : View F.Item) (f : List ℕ) (r : NodeAnswer) : Type 0 where
+  pub whole : r ≡ nodeShown at v
   pub said : (work : List ℕ) → nodeSaid r f work ≡ v
-  pub bare : (n p : ℕ) → v ≡ refused n p → r ≡ refusedNode n p
+  pub inside : (work : List ℕ) → Inside (r .shown) f work
 
-pub record UndoShows (v : View F.Undo) (f : List ℕ) (r : UndoAnswer) : Type 0 where
+pub record UndoShows (at : ℕ) (v : View F.Undo) (f : List ℕ) (r : UndoAnswer) : Type 0 where
+  pub whole : r ≡ undoShown at v
   pub said : (work : List ℕ) → undoSaid r f work ≡ v
-  pub bare : (n p : ℕ) → v ≡ refused n p → r ≡ refusedUndo n p
+  pub inside : (work : List ℕ) → Inside (r .shown) f work

@@ -1,6 +1,6 @@
 // The calls on an index: check it, show an entry, a node of its cache tree, a resolve-undo record.
 ghost use mathlib.Core.Path.{_≡_};
-ghost use mathlib.Core.List.{List};
+ghost use mathlib.Core.List.{List, []};
 ghost use mathlib.Core.Bool.{true, cond};
 ghost use mathlib.Core.Option.{Option};
 ghost use Prim.Native.Nat.{ℕ, _+_, _≤_, _<_};
@@ -9,6 +9,7 @@ ghost use lib.Dec.{eqb};
 ghost use Rattle.format.specs.Records as F;
 ghost use Rattle.format.specs.Reading.{good};
 ghost use Rattle.format.specs.Reader.{readEntries, readFile};
+ghost use Rattle.format.specs.Places.{entryPlace, namePlace, entryNamePlace, dataIn, nodeStart, nodePlace, undoStart, undoPlace};
 ghost use Rattle.hash.specs.Sha1.{sha1};
 ghost use Rattle.entries_run.specs.Steps.{Room};
 ghost use Rattle.extensions.specs.Found.{TreeFound, UndoFound};
@@ -40,7 +41,7 @@ use tree_nodes::node::read_node;
 // Entry number k of a file of version v. Where all entries were read and k is below their number, it is found.
 fn show_entry(file: &[u8], v: u32, work: &mut [u8], k: u32) -> EntryAnswer
     requires { ⌜ Room (bodyOf (now file)) (now work) ⌝ }
-    ensures { λ r. ⌜ ((count : ℕ) (es : List F.Entry) (m : ℕ) → readEntries 20 v count F.start 12 (drop 12 (bodyOf (now (file .entry)))) ≡ good es m → k < count → EntryShows (pick (eqb v 4) (getElem? es k)) (now (file .entry)) (now (work .entry)) (now (work .exit)) r) ⌝ }
+    ensures { λ r. ⌜ ((count : ℕ) (es : List F.Entry) (m : ℕ) → readEntries 20 v count F.start 12 (drop 12 (bodyOf (now (file .entry)))) ≡ good es m → k < count → EntryShows (namePlace 20 (entryPlace 20 v k (bodyOf (now (file .entry)))) (bodyOf (now (file .entry)))) (pick (eqb v 4) (getElem? es k)) (now (file .entry)) (now (work .entry)) (now (work .exit)) r) ⌝ }
 {
     let n = file.len() - 20;
     let sought = entries_run::seek_entry(&file[..n], v, &mut *work, k);
@@ -82,7 +83,7 @@ fn node_object(d: &[u8], node: Node) -> [u8; 20]
 // Node number k of the cache tree, which was wanted when the file was read. Where there is one, it reads well again.
 fn show_node(file: &[u8], tree: TreePlace, k: u32) -> NodeAnswer
     requires { ⌜ ((o : Option F.Tree) × TreeFound k (bodyOf (now file)) o tree) ⌝ }
-    ensures { λ r. ⌜ ((o : Option F.Tree) → TreeFound k (bodyOf (now (file .entry))) o tree → NodeShows (listed (itemsOf o) k) (now (file .entry)) r) ⌝ }
+    ensures { λ r. ⌜ ((o : Option F.Tree) (at : ℕ) → TreeFound k (bodyOf (now (file .entry))) o tree → (tree .there ≡ true → tree .at + nodeStart 20 k (dataIn (tree .at) (bodyOf (now (file .entry)))) ≡ at) → NodeShows at (listed (itemsOf o) k) (now (file .entry)) r) ⌝ }
 {
     if tree.nodes <= k {
         return refused_node(18, 0);
@@ -106,7 +107,7 @@ fn show_node(file: &[u8], tree: TreePlace, k: u32) -> NodeAnswer
 // Record number k of the resolve-undo records, which was wanted when the file was read.
 fn show_record(file: &[u8], undo: UndoPlace, k: u32) -> UndoAnswer
     requires { ⌜ ((o : Option (List F.Undo)) × UndoFound k (bodyOf (now file)) o undo) ⌝ }
-    ensures { λ r. ⌜ ((o : Option (List F.Undo)) → UndoFound k (bodyOf (now (file .entry))) o undo → UndoShows (listed o k) (now (file .entry)) r) ⌝ }
+    ensures { λ r. ⌜ ((o : Option (List F.Undo)) (at : ℕ) → UndoFound k (bodyOf (now (file .entry))) o undo → (undo .there ≡ true → undo .at + undoStart 20 0 k [] (dataIn (undo .at) (bodyOf (now (file .entry)))) ≡ at) → UndoShows at (listed o k) (now (file .entry)) r) ⌝ }
 {
     if undo.records <= k {
         return refused_undo(18, 0);
@@ -158,7 +159,7 @@ pub fn check(file: &[u8], work: &mut [u8]) -> Checked
 
 // Entry number k. A name of version 4 is left at the start of the workspace.
 pub fn entry(file: &[u8], work: &mut [u8], k: u32) -> EntryAnswer
-    ensures { λ r. ⌜ EntryShows (entryAnswer (now (work .entry)) k (readFile 20 sha1 (now (file .entry)))) (now (file .entry)) (now (work .entry)) (now (work .exit)) r ⌝ }
+    ensures { λ r. ⌜ EntryShows (entryNamePlace 20 k (now (file .entry))) (entryAnswer (now (work .entry)) k (readFile 20 sha1 (now (file .entry)))) (now (file .entry)) (now (work .entry)) (now (work .exit)) r ⌝ }
 {
     let whole = read_cleared(file, &mut *work, 0, 0);
     match whole {
@@ -174,7 +175,7 @@ pub fn entry(file: &[u8], work: &mut [u8], k: u32) -> EntryAnswer
 
 // Node number k of the cache tree.
 pub fn tree_node(file: &[u8], work: &mut [u8], k: u32) -> NodeAnswer
-    ensures { λ r. ⌜ NodeShows (nodeAnswer (now (work .entry)) k (readFile 20 sha1 (now (file .entry)))) (now (file .entry)) r × (now (work .exit) ≡ cleared (now (work .entry))) ⌝ }
+    ensures { λ r. ⌜ NodeShows (nodePlace 20 k (now (file .entry))) (nodeAnswer (now (work .entry)) k (readFile 20 sha1 (now (file .entry)))) (now (file .entry)) r × (now (work .exit) ≡ cleared (now (work .entry))) ⌝ }
 {
     let whole = read_cleared(file, work, k, 0);
     match whole {
@@ -185,7 +186,7 @@ pub fn tree_node(file: &[u8], work: &mut [u8], k: u32) -> NodeAnswer
 
 // Resolve-undo record number k.
 pub fn undo_record(file: &[u8], work: &mut [u8], k: u32) -> UndoAnswer
-    ensures { λ r. ⌜ UndoShows (undoAnswer (now (work .entry)) k (readFile 20 sha1 (now (file .entry)))) (now (file .entry)) r × (now (work .exit) ≡ cleared (now (work .entry))) ⌝ }
+    ensures { λ r. ⌜ UndoShows (undoPlace 20 k (now (file .entry))) (undoAnswer (now (work .entry)) k (readFile 20 sha1 (now (file .entry)))) (now (file .entry)) r × (now (work .exit) ≡ cleared (now (work .entry))) ⌝ }
 {
     let whole = read_cleared(file, work, 0, k);
     match whole {

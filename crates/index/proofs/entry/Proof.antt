@@ -1,12 +1,14 @@
 -- The proof that `entry` meets its contract.
-use mathlib.Core.Path.{_∙_}
+use mathlib.Core.Path.{_≡_, _∙_}
 use native.Mathlib.Omega.{arith}
 use Rattle.format.specs.Reader.{readFile}
+use Rattle.format.specs.Places.{entryPlace, namePlace, entryNamePlace}
 use Rattle.hash.specs.Sha1.{sha1}
 use Rattle.file_contents.specs.Contents.{bodyOf, inRoom, Contains}
 use Rattle.file_contents.proofs.Room.{room-of}
 use Rattle.file.proofs.Laws.{item-none}
 use Rattle.index.proofs.Views.{pick-none, entry-is, entry-refused}
+use Rattle.index.proofs.Places.{name-place}
 use Rattle.index.proofs.Entries.{shown-again}
 use borrow.Author.Needs.{needs}
 use Rattle.index.proofs.entry.Statement.{statement}
@@ -44,7 +46,7 @@ returns c =
     let q = w .before .before .before .before in
     let a = q .before .before .before .before .args in
     let h = accepted w in
-    entry-refused 18 0 (a .file .now) _ (a .work .now) _ _
+    entry-refused 18 0 (a .file .now) _ _ (a .work .now) _ _
     (entry-is _ (a .k) _ _ (h .read) ∙ pick-none _ _ (item-none (h .contents .records .entries) (a .k) (omega (arith, h .counted, t .if1 .taken))))
     (c .refused-entry2 .ensures) (q .read-cleared .ensures .1)
 
@@ -62,7 +64,7 @@ returns-2 c =
     let q = w .before .before .before .before in
     let a = q .before .before .before .before .args in
     let refusal = rw (w .whole .given .1) at (q .read-cleared .ensures .0) in
-    entry-refused _ _ (a .file .now) _ (a .work .now) _ _ (entry-is _ (a .k) _ _ refusal) (c .refused-entry .ensures) (q .read-cleared .ensures .1)
+    entry-refused _ _ (a .file .now) _ _ (a .work .now) _ _ (entry-is _ (a .k) _ _ refusal) (c .refused-entry .ensures) (q .read-cleared .ensures .1)
 
 same-length-3 : tie.Need-same-length-3
 same-length-3 c = search needs
@@ -76,8 +78,10 @@ returns-3 c =
     let a = q .before .before .before .before .args in
     let h = accepted w in
     let room = room-of _ _ _ _ (h .read) in
-    shown-again _ _ (a .file .now) (a .work .now) _ _ _ (entry-is _ (a .k) _ _ (h .read) ∙ rw (h .version))
-    (m .show-entry .ensures _ _ _ (h .entries) (t .if1 .left)) (q .read-cleared .ensures .1) room (omega arith)
+    let same : namePlace 20 (entryPlace 20 (w .whole2 .given .0 .0 .version) (a .k) (bodyOf (a .file .now))) (bodyOf (a .file .now)) ≡ entryNamePlace 20 (a .k) (a .file .now) =
+    name-place _ _ _ _ _ h (a .k) in
+    rw (← same) (shown-again _ _ (a .file .now) (a .work .now) _ _ _ _ (entry-is _ (a .k) _ _ (h .read) ∙ rw (h .version))
+    (m .show-entry .ensures _ _ _ (h .entries) (t .if1 .left)) (q .read-cleared .ensures .1) room (omega arith))
 
 pub entry-spec : {M : Type 1} → statement M
 entry-spec =

@@ -1,9 +1,11 @@
 -- The proof that `show_entry` meets its contract.
-use mathlib.Core.Path.{sym}
+use mathlib.Core.Path.{sym, ap, _∙_}
+use Prim.Native.Nat.{ℕ}
 use native.Mathlib.Omega.{arith}
 use lib.Seq.{length-take-le}
 use lib.Dec.{eqb}
 use borrow.Author.Tests.{eq-eqb, ne-eqb}
+use Rattle.format.specs.Places.{namePlace}
 use Rattle.entries_run.specs.Steps.{Placed}
 use Rattle.file_contents.specs.Contents.{bodyOf}
 use Rattle.file_contents.proofs.Room.{cleared-by, file-long}
@@ -66,7 +68,7 @@ returns c =
     let a = st .args in
     λ count es n e more.
     let found = rw (s .sought .given .1) at (q .seek-entry .ensures .entry count es n e more) in
-    shown-work (a .v) (a .file .now) _ (s .sought .given .0 .0) (s .sought .given .0 .1 .0) _ found _ (t .before .fields-at .ensures) (a .work .now) _ (eq-eqb _ _ (t .if1 .taken)) (placed s .short)
+    shown-work (a .v) (a .file .now) _ (s .sought .given .0 .0) (s .sought .given .0 .1 .0) _ found _ (t .before .fields-at .ensures) (a .work .now) _ _ (eq-eqb _ _ (t .if1 .taken)) (placed s .short)
     (q .seek-entry .ensures .long) (st .pre .room)
     (q .seek-entry .ensures .past) (m .clear-from .ensures)
 
@@ -85,7 +87,7 @@ returns-2 c =
     let a = st .args in
     λ count es n e more.
     let none-found = rw (t .enum-told .given .1) at (q .seek-entry .ensures .entry count es n e more) in
-    entry-refused 18 0 (a .file .now) _ (a .work .now) _ _ (pick-none (eqb (a .v) 4) _ none-found) (c .refused-entry .ensures)
+    entry-refused 18 0 (a .file .now) _ _ (a .work .now) _ _ (pick-none (eqb (a .v) 4) _ none-found) (c .refused-entry .ensures)
     (cleared-by (a .work .now) _ _ (st .pre .room) (m .clear .ensures) (q .seek-entry .ensures .past))
 
 same-length-3 : tie.Need-same-length-3
@@ -101,8 +103,10 @@ returns-3 c =
     let a = st .args in
     λ count es n e more.
     let found = rw (s .sought .given .1) at (q .seek-entry .ensures .entry count es n e more) in
-    shown-file (a .v) (a .file .now) _ (s .sought .given .0 .0) (s .sought .given .0 .1 .0) _ found _ (t .before .fields-at .ensures) (a .work .now) _ (ne-eqb _ _ (t .if1 .left)) (placed s .name)
+    shown-file (a .v) (a .file .now) _ (s .sought .given .0 .0) (s .sought .given .0 .1 .0) _ found _ (t .before .fields-at .ensures) (a .work .now) _ _ (ne-eqb _ _ (t .if1 .left)) (placed s .name)
     (cleared-by (a .work .now) _ _ (st .pre .room) (m .clear2 .ensures) (q .seek-entry .ensures .past))
+    (q .seek-entry .ensures .name _ _ (s .sought .given .1) (ne-eqb _ _ (t .if1 .left))
+    ∙ ap (λ (p : ℕ). namePlace 20 p (bodyOf (a .file .now))) (q .seek-entry .ensures .place _ _ (s .sought .given .1)))
 
 pub show-entry-spec : {M : Type 1} → statement M
 show-entry-spec =

@@ -35,7 +35,7 @@ refused-node-requires c κs = search needs
 returns : tie.Need-returns
 returns c =
     let a = c .before .before .before .before .args in
-    λ o is. node-refused 18 0 (a .file .now) _ _ (no-node-there (a .k) (a .file .now) (a .tree) o is (c .before .if1 .taken)) (c .refused-node .ensures)
+    λ o at is placed. node-refused 18 0 (a .file .now) at _ _ (no-node-there (a .k) (a .file .now) (a .tree) o is (c .before .if1 .taken)) (c .refused-node .ensures)
 
 sub-read-node : tie.Need-sub-read-node
 sub-read-node c = inside c .order
@@ -81,8 +81,8 @@ returns-2 c =
     let q = c .before .before .before in
     let t = q .before .before in
     let a = t .before .before .before .args in
-    λ o is.
-    stands (a .k) (a .file .now) (a .tree) o is (t .if1 .left) λ i v h.
+    λ o at is placed.
+    stands (a .k) (a .file .now) (a .tree) o is (t .if1 .left) λ i v there h.
     absurd (node-there _ _ i (h .taken) (h .reads) (sym (c .before .enum-told .given .1) ∙ q .read-node .ensures))
 
 returns-3 : tie.Need-returns-3
@@ -91,9 +91,9 @@ returns-3 c =
     let q = s .before .before in
     let t = q .before .before in
     let a = t .before .before .before .args in
-    λ o is.
-    stands (a .k) (a .file .now) (a .tree) o is (t .if1 .left) λ i v h.
-    node-shows (a .file .now) (a .tree) _ i v h _ (node-parts _ _ i (h .taken) (h .reads) _ (sym (s .read .given .1) ∙ q .read-node .ensures)) _
+    λ o at is placed.
+    stands (a .k) (a .file .now) (a .tree) o is (t .if1 .left) λ i v there h.
+    node-shows (a .k) (a .file .now) (a .tree) at _ i v h (placed there) _ (node-parts _ _ i (h .taken) (h .reads) _ (sym (s .read .given .1) ∙ q .read-node .ensures)) _
     (c .node-object .ensures)
 
 pub show-node-spec : {M : Type 1} → statement M

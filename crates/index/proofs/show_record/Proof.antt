@@ -18,7 +18,7 @@ refused-undo-requires c κs = search needs
 returns : tie.Need-returns
 returns c =
     let a = c .before .before .before .before .args in
-    λ o is. undo-refused 18 0 (a .file .now) _ _ (no-record-there (a .k) (a .file .now) (a .undo) o is (c .before .if1 .taken)) (c .refused-undo .ensures)
+    λ o at is placed. undo-refused 18 0 (a .file .now) at _ _ (no-record-there (a .k) (a .file .now) (a .undo) o is (c .before .if1 .taken)) (c .refused-undo .ensures)
 
 sub-show-undo : tie.Need-sub-show-undo
 sub-show-undo c = inside c .order
@@ -40,9 +40,9 @@ returns-2 c =
     let q = c .before .before .before .before in
     let t = q .before .before in
     let a = t .before .before .before .args in
-    λ o is.
-    stands (a .k) (a .file .now) (a .undo) o is (t .if1 .left) λ u v h.
-    undo-shows (a .file .now) (a .undo) _ u v h _ (q .show-undo .ensures .0 0) (q .show-undo .ensures .1)
+    λ o at is placed.
+    stands (a .k) (a .file .now) (a .undo) o is (t .if1 .left) λ u v there h.
+    undo-shows (a .k) (a .file .now) (a .undo) at _ u v h (placed there) _ (q .show-undo .ensures .0 0) (q .show-undo .ensures .1)
 
 pub show-record-spec : {M : Type 1} → statement M
 show-record-spec =

@@ -3,6 +3,7 @@ use Rattle.format.specs.Reader.{readFile}
 use Rattle.hash.specs.Sha1.{sha1}
 use Rattle.file_contents.specs.Contents.{bodyOf, inRoom, Contains}
 use Rattle.index.proofs.Views.{node-is, node-refused}
+use Rattle.index.proofs.Places.{node-place}
 use borrow.Author.Needs.{needs}
 use Rattle.index.proofs.tree_node.Statement.{statement}
 use Rattle.index.proofs.tree_node.Tie as tie
@@ -38,7 +39,7 @@ returns c =
     let q = w .before .before .before .before in
     let a = q .before .before .before .before .args in
     let refusal = rw (w .whole .given .1) at (q .read-cleared .ensures .0) in
-    (node-refused _ _ (a .file .now) _ _ (node-is _ (a .k) _ _ refusal) (c .refused-node .ensures), q .read-cleared .ensures .1)
+    (node-refused _ _ (a .file .now) _ _ _ (node-is _ (a .k) _ _ refusal) (c .refused-node .ensures), q .read-cleared .ensures .1)
 
 same-length-2 : tie.Need-same-length-2
 same-length-2 c = search needs
@@ -49,7 +50,7 @@ returns-2 c =
     let q = w .before .before .before .before in
     let a = q .before .before .before .before .args in
     let h = accepted w in
-    (rw (node-is (a .work .now) (a .k) _ _ (h .read)) (c .show-node .ensures (h .contents .records .cacheTree) (h .tree)), q .read-cleared .ensures .1)
+    (rw (node-is (a .work .now) (a .k) _ _ (h .read)) (c .show-node .ensures (h .contents .records .cacheTree) _ (h .tree) (node-place _ _ _ _ _ h (a .k))), q .read-cleared .ensures .1)
 
 pub tree-node-spec : {M : Type 1} → statement M
 tree-node-spec =

@@ -3,6 +3,7 @@ use Rattle.format.specs.Reader.{readFile}
 use Rattle.hash.specs.Sha1.{sha1}
 use Rattle.file_contents.specs.Contents.{bodyOf, inRoom, Contains}
 use Rattle.index.proofs.Views.{undo-is, undo-refused}
+use Rattle.index.proofs.Places.{undo-place}
 use borrow.Author.Needs.{needs}
 use Rattle.index.proofs.undo_record.Statement.{statement}
 use Rattle.index.proofs.undo_record.Tie as tie
@@ -38,7 +39,7 @@ returns c =
     let q = w .before .before .before .before in
     let a = q .before .before .before .before .args in
     let refusal = rw (w .whole .given .1) at (q .read-cleared .ensures .0) in
-    (undo-refused _ _ (a .file .now) _ _ (undo-is _ (a .k) _ _ refusal) (c .refused-undo .ensures), q .read-cleared .ensures .1)
+    (undo-refused _ _ (a .file .now) _ _ _ (undo-is _ (a .k) _ _ refusal) (c .refused-undo .ensures), q .read-cleared .ensures .1)
 
 same-length-2 : tie.Need-same-length-2
 same-length-2 c = search needs
@@ -49,7 +50,7 @@ returns-2 c =
     let q = w .before .before .before .before in
     let a = q .before .before .before .before .args in
     let h = accepted w in
-    (rw (undo-is (a .work .now) (a .k) _ _ (h .read)) (c .show-record .ensures (h .contents .records .resolveUndo) (h .undo)), q .read-cleared .ensures .1)
+    (rw (undo-is (a .work .now) (a .k) _ _ (h .read)) (c .show-record .ensures (h .contents .records .resolveUndo) _ (h .undo) (undo-place _ _ _ _ _ h (a .k))), q .read-cleared .ensures .1)
 
 pub undo-record-spec : {M : Type 1} → statement M
 undo-record-spec =
