@@ -5,14 +5,14 @@
 -- promises in crates/index_write/src/lib.rt say.
 use mathlib.Core.Path.{_≡_}
 use mathlib.Core.Logic.{_↔_, _⊎_}
-use mathlib.Core.Bool.{true, false}
-use mathlib.Core.List.{List}
-use Prim.Native.Nat.{ℕ, _+_, _-_, _<_}
-use lib.ListN.{length, take, drop, getElem?, replicate}
+use mathlib.Core.Bool.{Bool, true, false}
+use mathlib.Core.List.{List, [], _∷_}
+use Prim.Native.Nat.{ℕ, _+_, _-_, _≤_, _<_}
+use lib.ListN.{length, take, drop, getElem?, getD, replicate}
 use lib.Dec.{eqb}
 use Rattle.format.specs.Bytes.{Bytes, fit32}
 use Rattle.format.specs.Records.{Records, Entry, Key, Item, Undo}
-use Rattle.format.specs.Layout.{Spells}
+use Rattle.format.specs.Layout.{when, Plain, Packed, Entries, entries-end, entries-more, Spells}
 use Rattle.format.specs.Reading.{Read, bad, good}
 use Rattle.format.specs.Reader.{Contents, readFile}
 use Rattle.format.specs.Writer.{writeFile}
@@ -22,6 +22,16 @@ use Rattle.file.specs.declared.Checked.{Checked}
 use Rattle.file.specs.declared.Checked.the-variants.{Refused, Accepted}
 use Rattle.file.specs.Answers.{tooSmall, cleared, workAfter, treeCount, undoCount, summaryOf, checkAnswer, entryAnswer, nodeAnswer, undoAnswer, View, refused, inWorkspace, pick, listed, itemsOf}
 use Rattle.file.specs.Writing.{rewriteAnswer, putAnswer, removeAnswer, outputAfter}
+
+-- the number N of a name in version 4; 0 in versions 2 and 3, which have none
+abbrev pub numberN : (f : ℕ) (previous name a : List ℕ) (packed : Bool) → when packed (Packed previous name a) (Plain f name a) → ℕ
+numberN f previous name a true h = h .n
+numberN f previous name a false h = 0
+
+-- of each entry
+unfoldable pub numbersN : {w v : ℕ} {k : Key} {es : List Entry} {a : List ℕ} → Entries w v k es a → List ℕ
+numbersN entries-end = []
+numbersN {v = v} (entries-more is more) = numberN _ _ _ _ (eqb v 4) (is .named) ∷ numbersN more
 
 module _ (w : ℕ) (hash : List ℕ → List ℕ) (work : List ℕ) where
   abbrev pub check : List ℕ → Checked
@@ -45,12 +55,16 @@ module _ (w : ℕ) (hash : List ℕ → List ℕ) (work : List ℕ) where
   abbrev pub remove : ℕ → Key → ℕ → List ℕ → Read (List ℕ)
   remove asked k room f = removeAnswer w hash work asked k room (readFile w hash f)
 
-  -- n bytes: the one file of the records r in the version v, which reads as these records
+  -- n bytes: the one file of the records r in the version v, which reads as these records and has the smallest numbers N
   pub record OneFile (v : ℕ) (r : Records) (bytes : List ℕ) (n : ℕ) : Type 0 where
     pub file : bytes ≡ writeFile w hash v r
     pub size : n ≡ length bytes
     pub spelled : Spells w hash r bytes
     pub again : (end m : ℕ) × (readFile w hash bytes ≡ good (record { version = v; end = end; records = r }) m)
+    -- no file that these records spell in the version v has a smaller N at any entry
+    pub smallest :
+        (f : List ℕ) (g : Spells w hash r bytes) (h : Spells w hash r f) → h .body-is .version ≡ v →
+        (i : ℕ) → getD (numbersN (g .body-is .entries-are)) i 0 ≤ getD (numbersN (h .body-is .entries-are)) i 0
 
   -- Every call ends with an answer for every input and never touches a byte outside what it was lent: that is what a promise says, whatever else
   -- it says. Each refusal has a number and a place, leaves the output as it was, and the workspace as document 01 states.

@@ -15,6 +15,7 @@ use Rattle.file.specs.Writing.{answered, rewriteAnswer, putAnswer, removeAnswer
 use Rattle.writing.specs.Sound.{Sound}
 use Rattle.writing.proofs.File.{read-sound}
 use Rattle.writing.proofs.Answers.{Answered, answered-spelled, answered-read, rewrite-answers, put-answers, remove-answers}
+use Rattle.demands.proofs.Smallest.{smallest}
 use Rattle.demands.proofs.Statements.{rewrite, put, remove, OneFile}
 
 pub filled : (out bytes : List ℕ) (n : ℕ) → n ≡ length bytes
@@ -29,7 +30,13 @@ module _ (w : ℕ) (hash : List ℕ → List ℕ) (work : List ℕ) (width : (b 
 
   one-file : (v : ℕ) (r : Records) (most : ℕ) (bytes : List ℕ) (n : ℕ) → Answered w hash v r most bytes n → OneFile w hash work v r bytes n
   one-file v r most bytes n h =
-      record { file = h .file; size = h .size; spelled = answered-spelled h; again = (_, _, answered-read h width) }
+      record {
+        file = h .file;
+        size = h .size;
+        spelled = answered-spelled h;
+        again = (_, _, answered-read h width);
+        smallest = smallest w hash width v r bytes n most h;
+      }
 
   module _ (f : List ℕ) (c : Contents) (m : ℕ) where
     pub rewritten : (asked most : ℕ) (bytes : List ℕ) (n : ℕ) → Bytes f → readFile w hash f ≡ good c m → rewrite w hash work asked most f ≡ good bytes n
