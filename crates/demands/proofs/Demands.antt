@@ -29,8 +29,8 @@ pub demand3 : (w : ℕ) (hash : List ℕ → List ℕ) (work : List ℕ) → ((b
 demand3 w hash work width room = record {
   exact = λ f bytes. ((λ a. accepted-spelled w hash work width room f (a .0) bytes (a .1)), (λ p. (_, checked w hash work width room f (p .0) (p .1))));
   one = λ f r q. one w hash width r q f;
-  counts = λ f r h. (_, checked w hash work width room f r h, refl, refl, refl);
-  entries = λ f r k h. (_, checked w hash work width room f r h, entry-shown w hash work width room f r h k);
+  counts = checked w hash work width room;
+  entries = λ f r k h. entry-shown w hash work width room f r h k;
   nodes = λ f r k h. node-shown w hash work width room f r h k;
   undos = λ f r k h. undo-shown w hash work width room f r h k;
   cuts = λ f c s bytes _ e. cut-rule w hash work width room f c s bytes e;

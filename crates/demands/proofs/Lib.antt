@@ -1,4 +1,4 @@
--- The demands: Statements states them, Proved and Written have the proofs, Demands joins the two.
+-- The demands: Statements states them, Proved and Written have the proofs, Demands joins the two, Witness has closed cases.
 pub mod Statements
 pub mod Proved
 pub mod Written

@@ -7,7 +7,7 @@ use mathlib.Core.Path.{_≡_}
 use mathlib.Core.Logic.{_↔_, _⊎_}
 use mathlib.Core.Bool.{true, false}
 use mathlib.Core.List.{List}
-use Prim.Native.Nat.{ℕ, _-_, _<_}
+use Prim.Native.Nat.{ℕ, _+_, _-_, _<_}
 use lib.ListN.{length, take, drop, getElem?, replicate}
 use lib.Dec.{eqb}
 use Rattle.format.specs.Bytes.{Bytes, fit32}
@@ -98,17 +98,21 @@ module _ (w : ℕ) (hash : List ℕ → List ℕ) (work : List ℕ) where
     pub exact : (f : List ℕ) → Bytes f → ((s : Summary) × (check f ≡ Accepted s)) ↔ ((r : Records) × Spells w hash r f)
     -- no file is spelled by two different sets
     pub one : (f : List ℕ) (r q : Records) → Spells w hash r f → Spells w hash q f → r ≡ q
-    -- check's counts are those of the set that spells it
+    -- check's counts are those of the set that spells it; the version and the byte where entries end are those of the spelling
     pub counts :
-        (f : List ℕ) (r : Records) → Spells w hash r f →
-        (s : Summary) × (check f ≡ Accepted s)
-        × (s .entries ≡ length (r .entries))
-        × (s .nodes ≡ treeCount (r .cacheTree))
-        × (s .records ≡ undoCount (r .resolveUndo))
-    -- entry k, tree node k and resolve-undo record k show item k of its lists
+        (f : List ℕ) (r : Records) (h : Spells w hash r f) →
+        check f
+        ≡ Accepted
+        (record {
+          version = h .body-is .version;
+          entries = length (r .entries);
+          end = 12 + length (h .body-is .entryBytes);
+          nodes = treeCount (r .cacheTree);
+          records = undoCount (r .resolveUndo);
+        })
+    -- entry k, tree node k and resolve-undo record k show item k of its lists, an entry of version 4 in the workspace
     pub entries :
-        (f : List ℕ) (r : Records) (k : ℕ) → Spells w hash r f →
-        (s : Summary) × (check f ≡ Accepted s) × (entry k f ≡ pick (eqb (s .version) 4) (getElem? (r .entries) k))
+        (f : List ℕ) (r : Records) (k : ℕ) (h : Spells w hash r f) → entry k f ≡ pick (eqb (h .body-is .version) 4) (getElem? (r .entries) k)
     pub nodes : (f : List ℕ) (r : Records) (k : ℕ) → Spells w hash r f → node k f ≡ listed (itemsOf (r .cacheTree)) k
     pub undos : (f : List ℕ) (r : Records) (k : ℕ) → Spells w hash r f → undo k f ≡ listed (r .resolveUndo) k
     -- whichever shorter length an accepted file is cut to, check refuses it, or accepts it with the same entry count, and then entry k of both

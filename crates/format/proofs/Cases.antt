@@ -1,21 +1,29 @@
 -- The cases that the requirements mark P: one table over the definitions.
 use mathlib.Core.Path.{_≡_, refl}
 use mathlib.Core.List.{List, [], _∷_, _++_}
-use Prim.Native.Nat.{ℕ, _+_}
+use mathlib.Core.Option.{none, some}
+use Prim.Native.Nat.{ℕ}
 use lib.ListN.{length, replicate}
 use Rattle.format.specs.declared.Order.the-variants.{Below, Above}
-use Rattle.format.specs.Bytes.{two, putN, eqList, before, lacks, digits, decimal, valueFrom, value}
-use Rattle.format.specs.Names.{lengthField, compare, common}
-use Rattle.format.specs.Records.{valid, invalid, nil, tree, Tree, width}
-use Rattle.format.specs.Layout.{entryLength, okNodeName, has, distinct, under, inside, files, allValid, sum, okCount, okCounts, okTreeCounts}
+use Rattle.format.specs.Bytes.{put16, put32, put32s, putN, be16, be32, be32s, two, eqList, before, lacks, zeros, digits, decimal, valueFrom, value}
+use Rattle.format.specs.Names.{componentsFrom, components, okComponent, okComponents, okName, lengthField, compare, common}
+use Rattle.format.specs.Records.{modeOf, valid, invalid, nil, tree, Tree, width, Records}
+use Rattle.format.specs.Layout.{okMode, fixedLength, entryLength, flagsOf, wordOf, okNodeName, has, distinct, under, inside, files, allValid, sum, okCount, okCounts, okTreeCounts, optional, trees, undos, names}
 use Rattle.format.specs.Reading.{good, need, shift, bind}
-use Rattle.format.specs.Writer.{writePacked, digitsOf, decimalOf, writeCount, writeObject, writeNode, writeForest, writeTree}
-use Rattle.format.specs.Requests.{invalidNode, invalidWay, invalidTree}
-use Rattle.format.specs.Reader.{readN, joined, readText, countIn, needSome, readCount, readSubtrees, readObject, readNode, readSiblings, readForest, readNodes, readTree}
+use Rattle.format.specs.Reader.{isSet, okWord, plainLength, readPlain, readN, joined, readName, entryOf, readTail, readFixed, readEntry, readEntries, readText, countIn, needSome, readCount, readSubtrees, readObject, readNode, readSiblings, readForest, readNodes, readTree, readData, readExtension, readExtensions, readBody, readFile}
+use Rattle.format.specs.Writer.{needsWord, writePlain, writePacked, writeName, writeRest, writeEntry, writeEntries, digitsOf, decimalOf, writeCount, writeObject, writeNode, writeForest, writeTree, writeExtension, writeCacheTree, writeResolveUndo, writeExtensions, writeHeader, writeBody, writeFile}
+use Rattle.format.specs.Requests.{goesBefore, sameKey, putEntry, invalidNode, invalidWay, invalidTree, invalidCacheTree, putRecord, anyWord, okAsked, versionFor, fitting, writing, putRequest}
+use Rattle.format.proofs.Examples.{hash, fileEntry}
 
--- "a-b", "a/b" and "a/c", the entries' names
-entryNames : List (List ℕ)
-entryNames = (97 ∷ 45 ∷ 98 ∷ []) ∷ (97 ∷ 47 ∷ 98 ∷ []) ∷ (97 ∷ 47 ∷ 99 ∷ []) ∷ []
+-- the names of the entries
+abbrev a-b : List ℕ
+a-b = 97 ∷ 45 ∷ 98 ∷ []
+
+abbrev a/b : List ℕ
+a/b = 97 ∷ 47 ∷ 98 ∷ []
+
+abbrev a/c : List ℕ
+a/c = 97 ∷ 47 ∷ 99 ∷ []
 
 -- the root "3 1" and "a" "2 0", and the bytes that say so
 whole : Tree
@@ -36,6 +44,21 @@ cleared = record {
 
 clearedBytes : List ℕ
 clearedBytes = 0 ∷ 45 ∷ 49 ∷ 32 ∷ 49 ∷ 10 ∷ 97 ∷ 0 ∷ 45 ∷ 49 ∷ 32 ∷ 48 ∷ 10 ∷ []
+
+-- the index of the three entries, a/c with the object name of twenty bytes b, and of a cache tree
+abbrev index : ℕ → Tree → Records
+index b t = record { entries = fileEntry 0x81a4 3 a-b ∷ fileEntry 0x81a4 4 a/b ∷ fileEntry 0x81a4 b a/c ∷ []; cacheTree = some t; resolveUndo = none }
+
+-- the bytes in version 2 of fileEntry 0x81a4 b name, for a name of three bytes
+abbrev entryBytes : ℕ → List ℕ → List ℕ
+entryBytes b name =
+    0 ∷ 0 ∷ 0 ∷ 1 ∷ 0 ∷ 0 ∷ 0 ∷ 2 ∷ 0 ∷ 0 ∷ 0 ∷ 3 ∷ 0 ∷ 0 ∷ 0 ∷ 4 ∷ 0 ∷ 0 ∷ 0 ∷ 5 ∷ 0 ∷ 0 ∷ 0 ∷ 6 ∷ 0 ∷ 0 ∷ 129 ∷ 164 ∷ 0 ∷ 0 ∷ 0 ∷ 7 ∷ 0 ∷ 0 ∷ 0 ∷ 8 ∷ 0 ∷ 0 ∷ 0 ∷ 9 ∷ (replicate 20 b ++ (0 ∷ 3 ∷ (name ++ replicate 7 0)))
+
+-- the index as a file, its nodes given as bytes; the checksum is that of the stand-in for the hash
+abbrev indexBytes : ℕ → List ℕ → List ℕ
+indexBytes b nodes =
+    68 ∷ 73 ∷ 82 ∷ 67 ∷ 0 ∷ 0 ∷ 0 ∷ 2 ∷ 0 ∷ 0 ∷ 0 ∷ 3 ∷ (entryBytes 3 a-b ++ (entryBytes 4 a/b ++ (entryBytes b a/c
+    ++ (84 ∷ 82 ∷ 69 ∷ 69 ∷ 0 ∷ 0 ∷ 0 ∷ length nodes ∷ (nodes ++ replicate 20 0)))))
 
 -- "saw/cut.txt", "saw/cutter.txt", and what the second has after the common beginning
 cut : List ℕ
@@ -66,17 +89,18 @@ Table =
     × (putN 8192 ≡ 0xbf ∷ 0x00 ∷ [])
     × (joined cut 4 (rest ++ (0 ∷ [])) ≡ cutter)
     × (writePacked cut cutter ≡ 4 ∷ (rest ++ (0 ∷ [])))
-    × (compare (97 ∷ 45 ∷ 98 ∷ []) (97 ∷ 47 ∷ 98 ∷ []) ≡ Below)
-    × (compare (97 ∷ 47 ∷ 98 ∷ []) (97 ∷ 48 ∷ []) ≡ Below)
-    × (compare (97 ∷ 47 ∷ 98 ∷ []) (97 ∷ 45 ∷ 98 ∷ []) ≡ Above)
+    × (compare a-b a/b ≡ Below)
+    × (compare a/b (97 ∷ 48 ∷ []) ≡ Below)
+    × (compare a/b a-b ≡ Above)
     × (length wholeBytes ≡ 51)
-    × (readTree 20 entryNames 0 wholeBytes ≡ good whole 51)
     × (writeTree whole ≡ wholeBytes)
+    × (readFile 20 hash (indexBytes 5 wholeBytes) ≡ good (record { version = 2; end = 228; records = index 5 whole }) 287)
     × (length clearedBytes ≡ 13)
-    × (readTree 20 entryNames 0 clearedBytes ≡ good cleared 13)
-    × (invalidTree 20 (97 ∷ 47 ∷ 99 ∷ []) whole ≡ cleared)
     × (writeTree cleared ≡ clearedBytes)
+    × (putRecord 20 (fileEntry 0x81a4 6 a/c) (index 5 whole) ≡ index 6 cleared)
+    × (putRequest 20 hash 0 (fileEntry 0x81a4 6 a/c) 269 (index 5 whole) ≡ good (indexBytes 6 clearedBytes) 269)
+    × (readFile 20 hash (indexBytes 6 clearedBytes) ≡ good (record { version = 2; end = 228; records = index 6 cleared }) 249)
 
 table : Table
-unfolding entryLength lengthField readN two putN joined before compare common cut cutter rest writePacked digitsOf decimalOf writeCount writeObject writeNode writeForest writeTree invalidNode invalidWay invalidTree entryNames whole wholeBytes cleared clearedBytes need shift bind eqList lacks digits decimal valueFrom value width okNodeName has distinct under inside files allValid sum okCount okCounts okTreeCounts readText countIn needSome readCount readSubtrees readObject readNode readSiblings readForest readNodes readTree
-table = (refl, refl, refl, refl, refl, refl, refl, refl, refl, refl, refl, refl, refl, refl, refl, refl, refl, refl, refl, refl, refl, refl, refl, refl, refl, refl, refl)
+unfolding whole wholeBytes cleared clearedBytes cut cutter rest hash put16 put32 put32s putN be16 be32 be32s two eqList before lacks zeros digits decimal valueFrom value componentsFrom components okComponent okComponents okName lengthField compare common modeOf width okMode fixedLength entryLength flagsOf wordOf okNodeName has distinct under inside files allValid sum okCount okCounts okTreeCounts optional trees undos names need shift bind isSet okWord plainLength readPlain readN joined readName entryOf readTail readFixed readEntry readEntries readText countIn needSome readCount readSubtrees readObject readNode readSiblings readForest readNodes readTree readData readExtension readExtensions readBody readFile needsWord writePlain writePacked writeName writeRest writeEntry writeEntries digitsOf decimalOf writeCount writeObject writeNode writeForest writeTree writeExtension writeCacheTree writeResolveUndo writeExtensions writeHeader writeBody writeFile goesBefore sameKey putEntry invalidNode invalidWay invalidTree invalidCacheTree putRecord anyWord okAsked versionFor fitting writing putRequest
+table = (refl, refl, refl, refl, refl, refl, refl, refl, refl, refl, refl, refl, refl, refl, refl, refl, refl, refl, refl, refl, refl, refl, refl, refl, refl, refl, refl, refl)

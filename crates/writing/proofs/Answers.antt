@@ -20,6 +20,7 @@ use Rattle.writing.specs.Sound.{SoundEntry, Sound, Writable}
 use Rattle.writing.specs.OneFile.{OneFile, WritesBack}
 use Rattle.writing.proofs.File.{written-spelled, read-written}
 use Rattle.writing.proofs.Edits.{put-sound, remove-sound}
+use Rattle.writing.proofs.Smallest.{smallest}
 
 -- ---- the version
 
@@ -54,12 +55,17 @@ module _ {w : ℕ} {hash : List ℕ → List ℕ} {v : ℕ} {r : Records} {room 
   file-short = rw (← (h .file), ← (h .size)) (h .short)
 
   pub answered-one : ((b : List ℕ) → length (hash b) ≡ w) → OneFile w hash v r bytes n
-  answered-one width = record {
-    file = h .file;
-    size = h .size;
-    spelled = rw (h .file) (written-spelled w hash v r (h .writable) file-short);
-    again = rw (h .file) (read-written w hash width v r (h .writable) file-short);
-  }
+  answered-one width =
+      let read : readFile w hash bytes
+      ≡ good (record { version = v; end = 12 + length (writeEntries w v [] (r .entries)); records = r }) (length (writeBody w v r)) =
+      rw (h .file) (read-written w hash width v r (h .writable) file-short) in
+      record {
+        file = h .file;
+        size = h .size;
+        spelled = rw (h .file) (written-spelled w hash v r (h .writable) file-short);
+        again = read;
+        smallest = smallest w hash width v r bytes _ read;
+      }
 
 -- ---- the requests
 
