@@ -213,4 +213,5 @@ node-shows k f tree at v i is h placed n p object o =
       whole = rw (is, own, p .size, same, p .valid, p .count, p .subtrees, ← (h .level)) refl;
       said = λ work. rw (name, same, p .valid, p .count, with-count (i .node .count), p .subtrees, ← (h .level), is) refl;
       inside = λ work. fits;
+      zeros = λ e. o ∙ rw e;
     }

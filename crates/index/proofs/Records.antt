@@ -12,7 +12,7 @@ use Rattle.format.specs.Records as F
 use Rattle.format.specs.Places.{dataIn, undoStart}
 use Rattle.resolve_undo.specs.declared.Shown as Code
 use Rattle.resolve_undo.specs.Answers.{undoAt, item, shown}
-use Rattle.resolve_undo.proofs.Showing.{shown-path}
+use Rattle.resolve_undo.proofs.Showing.{shown-path, missing-zeros}
 use Rattle.file.specs.declared.Shown.the-variants as S
 use Rattle.file.specs.Answers.{View, refused, inFile, listed, partIn, nameIn, undoSaid}
 use Rattle.file.proofs.Laws.{part-in, part-within, item-none}
@@ -99,4 +99,5 @@ module _ (k : ℕ) (f : List ℕ) (undo : UndoPlace) (place : ℕ) (v : View F.U
         whole = rw (is, own, q) refl;
         said = λ work. rw (name, q, is) refl;
         inside = λ work. fits;
+        zeros = rw q (missing-zeros 20 0 (drop (undo .«record_at») d) u (lit≤ tt) (h .reads));
       }

@@ -85,9 +85,9 @@ module _ (n p : ℕ) (f : List ℕ) (at : ℕ) where
   pub node-refused :
       (v : View F.Item) (r : NodeAnswer) → v ≡ refused n p → ((file work : List ℕ) → nodeSaid r file work ≡ refused n p) × (r ≡ refusedNode n p) →
       NodeShows at v f r
-  node-refused v r e (said, is) = record { whole = rw e is; said = λ work. said f work ∙ sym e; inside = λ work. rw is tt }
+  node-refused v r e (said, is) = record { whole = rw e is; said = λ work. said f work ∙ sym e; inside = λ work. rw is tt; zeros = λ _. rw is refl }
 
   pub undo-refused :
       (v : View F.Undo) (r : UndoAnswer) → v ≡ refused n p → ((file work : List ℕ) → undoSaid r file work ≡ refused n p) × (r ≡ refusedUndo n p) →
       UndoShows at v f r
-  undo-refused v r e (said, is) = record { whole = rw e is; said = λ work. said f work ∙ sym e; inside = λ work. rw is tt }
+  undo-refused v r e (said, is) = record { whole = rw e is; said = λ work. said f work ∙ sym e; inside = λ work. rw is tt; zeros = (λ _. rw is refl, λ _. rw is refl, λ _. rw is refl) }

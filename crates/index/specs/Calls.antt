@@ -1,7 +1,9 @@
 -- What the calls leave behind: what is shown, the answer whole. A name that is shown from the file stands at the place at.
 use mathlib.Core.Path.{_≡_}
 use mathlib.Core.List.{List}
+use mathlib.Core.Bool.{false}
 use Prim.Native.Nat.{ℕ}
+use lib.ListN.{replicate}
 use Rattle.format.specs.Records as F
 use Rattle.file.specs.declared.EntryAnswer.{EntryAnswer}
 use Rattle.file.specs.declared.NodeAnswer.{NodeAnswer}
@@ -21,8 +23,15 @@ pub record NodeShows (at : ℕ) (v : View F.Item) (f : List ℕ) (r : NodeAnswer
   pub whole : r ≡ nodeShown at v
   pub said : (work : List ℕ) → nodeSaid r f work ≡ v
   pub inside : (work : List ℕ) → Inside (r .shown) f work
+  -- an invalid node has zeros for its object name
+  pub zeros : r .valid ≡ false → r .object ≡ replicate 20 0
 
 pub record UndoShows (at : ℕ) (v : View F.Undo) (f : List ℕ) (r : UndoAnswer) : Type 0 where
   pub whole : r ≡ undoShown at v
   pub said : (work : List ℕ) → undoSaid r f work ≡ v
   pub inside : (work : List ℕ) → Inside (r .shown) f work
+  -- a missing stage has zeros for its object name
+  pub zeros :
+      (r .«first_mode» ≡ 0 → r .first ≡ replicate 20 0)
+      × (r .«second_mode» ≡ 0 → r .second ≡ replicate 20 0)
+      × (r .«third_mode» ≡ 0 → r .third ≡ replicate 20 0)

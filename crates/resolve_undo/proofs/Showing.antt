@@ -5,7 +5,7 @@ use mathlib.Core.Bool.{true, cond}
 use mathlib.Core.Option.{some}
 use Prim.Native.Nat.{ℕ, zero, suc, _+_, _-_, _≤_, _<_}
 use native.Mathlib.Omega.{arith}
-use lib.ListN.{length, take, drop, drop-of-length-le}
+use lib.ListN.{length, take, drop, replicate, drop-of-length-le}
 use lib.Seq.{drop-drop}
 use lib.Dec.{ltb, lit≤}
 use borrow.Author.Tests.{lt-ltb}
@@ -137,6 +137,20 @@ undo-objects : (w p : ℕ) (previous s : List ℕ) (u : Undo) (k : ℕ) → 1 �
 undo-objects w p previous s u k wide q =
     bind-inv _ _ _ _ (sym (undo-is w p previous s) ∙ q) λ path i j pathq q₁ size.
     need-inv _ _ _ _ _ _ q₁ λ test q₂. objects-after w i u s j k size (first-objects w p path (drop i s) u j wide q₂)
+
+-- a stage that is missing has zeros
+missing : (w mode : ℕ) (object s : List ℕ) → object ≡ objectIn w mode s → mode ≡ 0 → object ≡ replicate w 0
+unfolding objectIn
+missing w mode object s e none = rw none at e
+
+pub missing-zeros : (w p : ℕ) (s : List ℕ) (u : Undo) → 1 ≤ w → undoAt w p s ≡ some u
+    → (u .first .mode ≡ 0 → u .first .object ≡ replicate w 0)
+    × (u .second .mode ≡ 0 → u .second .object ≡ replicate w 0)
+    × (u .third .mode ≡ 0 → u .third .object ≡ replicate w 0)
+unfolding undoAt
+missing-zeros w p s u wide e =
+    value-inv (readUndo w p [] s) u e λ k q.
+    let h = undo-objects w p [] s u k wide q in (missing w _ _ _ (h .first), missing w _ _ _ (h .second), missing w _ _ _ (h .third))
 
 -- ---- what is shown
 
