@@ -7,7 +7,7 @@ use Rattle.format.specs.Records as F
 use Rattle.file.specs.declared.Fields.{Fields}
 use Rattle.file.specs.declared.Shown.{Shown}
 use Rattle.file.specs.declared.Shown.the-variants as S
-use Rattle.file.specs.Answers.{View, refused, inFile, inWorkspace, nameIn, viewOf, entryWith, entrySaid, countWith, nodeSaid, stageWith, undoSaid, refusedEntry, refusedNode, refusedUndo}
+use Rattle.file.specs.Answers.{View, refused, inFile, inWorkspace, nameIn, viewOf, entryWith, entrySaid, countWith, nodeSaid, stageWith, undoSaid, entryShown, nodeShown, undoShown}
 use Rattle.walk.specs.declared.Place.{Place}
 use Rattle.nerupazhil.specs.declared.EntryReply.{EntryReply}
 use Rattle.nerupazhil.specs.declared.NodeReply.{NodeReply}
@@ -53,26 +53,31 @@ shown-tells item s f work v e = rw (name-bytes s f work, ← e) (tells s (item (
 
 -- ---- the replies
 
-pub entry-tells : (v : View F.Entry) (f work work′ : List ℕ) (r : EntryReply) → EntryReplies v f work work′ r
+pub entry-tells : (at : ℕ) (v : View F.Entry) (f work work′ : List ℕ) (r : EntryReply) → EntryReplies at v f work work′ r
     → Tells v (r .refusal) (r .place) (entryWith (r .fields) (bytesOf (r .name) f work′))
 unfolding entrySaid
-entry-tells v f work work′ r h = rw (h .plain) (shown-tells (entryWith (h .answer .fields)) (h .answer .shown) f work′ v (h .shows .said))
+entry-tells at v f work work′ r h =
+    let a = entryShown at v in
+    rw (h .whole) (shown-tells (entryWith (a .fields)) (a .shown) f work′ v (h .said))
 
-pub step-tells : (v : View F.Entry) (next : Place) (f : List ℕ) (r : StepReply) → StepReplies v next f r → (work : List ℕ)
+pub step-tells : (at : ℕ) (v : View F.Entry) (next : Place) (f : List ℕ) (r : StepReply) → StepReplies at v next f r → (work : List ℕ)
     → Tells v (r .refusal) (r .place) (entryWith (r .fields) (bytesOf (r .name) f work)) × (r .at ≡ next .at) × (r .left ≡ next .left)
 unfolding entrySaid
-step-tells v next f r h work =
-    rw (h .plain) (shown-tells (entryWith (h .answer .fields)) (h .answer .shown) f work v (h .shows .said work), refl, refl)
+step-tells at v next f r h work =
+    let a = entryShown at v in
+    rw (h .whole) (shown-tells (entryWith (a .fields)) (a .shown) f work v (h .said work), refl, refl)
 
 -- a node with its name
 abbrev pub itemWith : NodeReply → List ℕ → F.Item
 itemWith r name =
     record { node = record { name = name; count = countWith (r .valid) (r .count); object = r .object }; level = r .level; subtrees = r .subtrees }
 
-pub node-tells : (v : View F.Item) (f : List ℕ) (r : NodeReply) → NodeReplies v f r → (work : List ℕ)
+pub node-tells : (at : ℕ) (v : View F.Item) (f : List ℕ) (r : NodeReply) → NodeReplies at v f r → (work : List ℕ)
     → Tells v (r .refusal) (r .place) (itemWith r (bytesOf (r .name) f work))
 unfolding nodeSaid
-node-tells v f r h work = rw (h .plain) (shown-tells (itemWith (nodeReply (h .answer))) (h .answer .shown) f work v (h .shows .said work))
+node-tells at v f r h work =
+    let a = nodeShown at v in
+    rw (h .whole) (shown-tells (itemWith (nodeReply a)) (a .shown) f work v (h .said work))
 
 -- a record with its path
 abbrev pub undoWith : UndoReply → List ℕ → F.Undo
@@ -83,27 +88,13 @@ undoWith r path = record {
   third = stageWith (r .third .mode) (r .third .object);
 }
 
-pub undo-tells : (v : View F.Undo) (f : List ℕ) (r : UndoReply) → UndoReplies v f r → (work : List ℕ)
+pub undo-tells : (at : ℕ) (v : View F.Undo) (f : List ℕ) (r : UndoReply) → UndoReplies at v f r → (work : List ℕ)
     → Tells v (r .refusal) (r .place) (undoWith r (bytesOf (r .path) f work))
 unfolding undoSaid
-undo-tells v f r h work = rw (h .plain) (shown-tells (undoWith (undoReply (h .answer))) (h .answer .shown) f work v (h .shows .said work))
+undo-tells at v f r h work =
+    let a = undoShown at v in
+    rw (h .whole) (shown-tells (undoWith (undoReply a)) (a .shown) f work v (h .said work))
 
 -- the name alone, and the fields with the name of the entry that is told
 pub entry-parts : (x : Fields) (name : List ℕ) (e : F.Entry) → entryWith x name ≡ e → (name ≡ e .name) × (entryWith x (e .name) ≡ e)
 entry-parts x name e q = let n : name ≡ e .name = ap (λ (y : F.Entry). y .name) q in (n, ap (entryWith x) (sym n) ∙ q)
-
--- ---- a refusal has 0 and false in all fields but its number and its place
-
-pub entry-bare : (v : View F.Entry) (f work work′ : List ℕ) (r : EntryReply) → EntryReplies v f work work′ r → (n p : ℕ) → v ≡ refused n p
-    → r ≡ entryReply (refusedEntry n p)
-entry-bare v f work work′ r h n p e = h .plain ∙ ap entryReply (h .shows .bare n p e)
-
-pub step-bare : (v : View F.Entry) (next : Place) (f : List ℕ) (r : StepReply) → StepReplies v next f r → (n p : ℕ) → v ≡ refused n p
-    → r ≡ stepReply (refusedEntry n p) next
-step-bare v next f r h n p e = h .plain ∙ ap (λ a. stepReply a next) (h .shows .bare n p e)
-
-pub node-bare : (v : View F.Item) (f : List ℕ) (r : NodeReply) → NodeReplies v f r → (n p : ℕ) → v ≡ refused n p → r ≡ nodeReply (refusedNode n p)
-node-bare v f r h n p e = h .plain ∙ ap nodeReply (h .shows .bare n p e)
-
-pub undo-bare : (v : View F.Undo) (f : List ℕ) (r : UndoReply) → UndoReplies v f r → (n p : ℕ) → v ≡ refused n p → r ≡ undoReply (refusedUndo n p)
-undo-bare v f r h n p e = h .plain ∙ ap undoReply (h .shows .bare n p e)

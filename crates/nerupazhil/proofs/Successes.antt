@@ -18,7 +18,8 @@ use Rattle.file.specs.declared.Checked.the-variants as K
 use Rattle.file.specs.Answers.{View, refused, inFile, inWorkspace, tooSmall, given, pick, listed, itemsOf, entryOf, nodeOf, undoOf, checkedOf, checkAnswer, entryAnswer, nodeAnswer, undoAnswer}
 use Rattle.file.specs.Writing.{requested, answered, rewriteAnswer, putAnswer, removeAnswer}
 use Rattle.walk.specs.declared.Started.the-variants as T
-use Rattle.walk.specs.Walks.{bodyIn, or18, viewIn, walkRead, walkAnswer, startedOf, startAnswer}
+use Rattle.format.specs.Places.{bodyIn}
+use Rattle.walk.specs.Walks.{or18, viewIn, walkRead, walkAnswer, startedOf, startAnswer}
 use Rattle.nerupazhil.specs.declared.WriteReply.{WriteReply}
 use Rattle.nerupazhil.specs.Replies.{checkReply, startReply, WriteReplies}
 use Rattle.nerupazhil.proofs.Numbers.{Numbered, numbered-bad, numbered-good, numbered-need, file-numbered, rewrite-numbered, put-numbered, remove-numbered}
@@ -92,6 +93,34 @@ positive-step f at left = view _ (numbered-need _ _ _ _ (omega arith) (eighteen 
 -- ---- check, the start of a walk
 
 module _ (work f : List ℕ) where
+  pub check-positive : (n p : ℕ) → checkAnswer work (readFile 20 sha1 f) ≡ K.Refused n p → 0 < n
+  unfolding checkAnswer
+  check-positive = by (tooSmall work) (readFile 20 sha1 f) (file-numbered 20 sha1 f)
+    where
+      number : (i q n p : ℕ) → 0 < i → K.Refused i q ≡ K.Refused n p → 0 < n
+      number i q n p h e = let same : i ≡ n = cc in omega arith
+
+      by : (t : Bool) (x : Read Contents) → Numbered x → (n p : ℕ) → cond t (K.Refused 19 0) (checkedOf x) ≡ K.Refused n p → 0 < n
+      by true x h n p e = number 19 0 n p (omega arith) e
+      by false (bad i q) h n p e = number i q n p (h .positive i q refl) e
+      by false (good c m) h n p e = let z : _≡_ {A = ℕ} 0 1 = cc in absurd (omega arith)
+
+  pub start-positive : (n p : ℕ) → startAnswer work (readFile 20 sha1 f) ≡ T.Refused n p → 0 < n
+  unfolding startAnswer
+  start-positive = by (tooSmall work) (readFile 20 sha1 f) (file-numbered 20 sha1 f)
+    where
+      number : (i q n p : ℕ) → 0 < i → T.Refused i q ≡ T.Refused n p → 0 < n
+      number i q n p h e = let same : i ≡ n = cc in omega arith
+
+      ready : (t : Bool) (k n p : ℕ) → cond t (T.Refused 4 0) (T.Ready k) ≡ T.Refused n p → 0 < n
+      ready true k n p e = number 4 0 n p (omega arith) e
+      ready false k n p e = let z : _≡_ {A = ℕ} 0 1 = cc in absurd (omega arith)
+
+      by : (t : Bool) (x : Read Contents) → Numbered x → (n p : ℕ) → cond t (T.Refused 19 0) (startedOf x) ≡ T.Refused n p → 0 < n
+      by true x h n p e = number 19 0 n p (omega arith) e
+      by false (bad i q) h n p e = number i q n p (h .positive i q refl) e
+      by false (good c m) h n p e = ready (eqb (c .version) 4) (length (c .records .entries)) n p e
+
   pub check-success : checkReply (checkAnswer work (readFile 20 sha1 f)) .refusal ≡ 0 → (s : Summary) × (checkAnswer work (readFile 20 sha1 f) ≡ K.Accepted s)
   unfolding checkAnswer
   check-success = by (tooSmall work) (readFile 20 sha1 f) (file-numbered 20 sha1 f)
@@ -138,10 +167,11 @@ module _ (work f : List ℕ) (asked room : ℕ) where
   unfolding removeAnswer
   numbered-remove k = numbered-answer _ (remove-numbered 20 sha1 asked k room)
 
-pub write-success : (x : Read (List ℕ)) (out work out′ work′ : List ℕ) (r : WriteReply) → WriteReplies x out work out′ work′ r → Numbered x → r .refusal ≡ 0
+pub write-success : (f : List ℕ) (asked : ℕ) (change : Records → Records) (x : Read (List ℕ)) (out work out′ work′ : List ℕ) (r : WriteReply)
+    → WriteReplies f asked change x out work out′ work′ r → Numbered x → r .refusal ≡ 0
     → (bytes : List ℕ) × (x ≡ good bytes (r .length))
-write-success (bad n p) out work out′ work′ r w h e =
+write-success f asked change (bad n p) out work out′ work′ r w h e =
     let z : 0 < n = h .positive n p refl in
     let q : r .refusal ≡ n = ap (λ (y : WriteReply). y .refusal) (w .said) in absurd (omega arith)
-write-success (good bytes n) out work out′ work′ r w h e =
+write-success f asked change (good bytes n) out work out′ work′ r w h e =
     (bytes, ap (good bytes) (sym (ap (λ (y : WriteReply). y .length) (w .said))))

@@ -2,7 +2,8 @@
 use mathlib.Core.Path.{_≡_}
 use mathlib.Core.List.{List, []}
 use mathlib.Core.Bool.{Bool, true, false, cond}
-use Prim.Native.Nat.{ℕ}
+use Prim.Native.Nat.{ℕ, _+_, _≤_}
+use lib.ListN.{length, replicate}
 use lib.Dec.{eqb}
 use Rattle.format.specs.Records as F
 use Rattle.format.specs.Reading.{Read}
@@ -17,13 +18,13 @@ use Rattle.file.specs.declared.NodeAnswer.{NodeAnswer}
 use Rattle.file.specs.declared.UndoAnswer.{UndoAnswer}
 use Rattle.file.specs.declared.Written.{Written}
 use Rattle.file.specs.declared.Written.the-variants as W
-use Rattle.file.specs.Answers.{View, cleared, partIn}
+use Rattle.file.specs.Answers.{View, cleared, workAfter, partIn, entrySaid, nodeSaid, undoSaid, entryShown, nodeShown, undoShown}
 use Rattle.file.specs.Writing.{writtenOf, outputAfter}
-use Rattle.index.specs.Calls.{EntryShows, NodeShows, UndoShows}
+use Rattle.hash.specs.Sha1.{sha1}
+use Rattle.writing.specs.OneFile.{WritesBack}
 use Rattle.walk.specs.declared.Started.{Started}
 use Rattle.walk.specs.declared.Started.the-variants as T
 use Rattle.walk.specs.declared.Place.{Place}
-use Rattle.walk.specs.Walks.{StepShows}
 use Rattle.nerupazhil.specs.declared.CheckReply.{CheckReply}
 use Rattle.nerupazhil.specs.declared.Name.{Name}
 use Rattle.nerupazhil.specs.declared.EntryReply.{EntryReply}
@@ -101,6 +102,10 @@ nodeReply a = record {
 abbrev pub stageOf : ℕ → List ℕ → Stage
 stageOf mode object = record { mode = mode; object = object }
 
+-- of a missing stage
+abbrev pub StageZeros : Stage → Type 0
+StageZeros x = x .mode ≡ 0 → x .object ≡ replicate 20 0
+
 abbrev pub undoReply : UndoAnswer → UndoReply
 undoReply a = record {
   refusal = refusalOf (a .shown);
@@ -121,27 +126,38 @@ stepReply a next = record {
   left = next .left;
 }
 
--- ---- replies by the answer that they carry: it shows v
+-- ---- what the calls that show leave behind: the reply, whole, for the view v; the name that it points at, where it has one, is that of the
+-- item, and it lies in its buffer. A name in the file stands at the place at
 
-pub record EntryReplies (v : View F.Entry) (f work work′ : List ℕ) (r : EntryReply) : Type 0 where
-  pub answer : EntryAnswer
-  pub shows : EntryShows v f work work′ answer
-  pub plain : r ≡ entryReply answer
+-- the buffer that a name is a part of
+unfoldable pub bufferOf : Name → (file work : List ℕ) → List ℕ
+bufferOf x file work = cond (eqb (x .buffer) 1) file (cond (eqb (x .buffer) 2) work [])
 
-pub record NodeReplies (v : View F.Item) (f : List ℕ) (r : NodeReply) : Type 0 where
-  pub answer : NodeAnswer
-  pub shows : NodeShows v f answer
-  pub plain : r ≡ nodeReply answer
+abbrev pub NameInside : Name → (file work : List ℕ) → Type 0
+NameInside x file work = x .offset + x .length ≤ length (bufferOf x file work)
 
-pub record UndoReplies (v : View F.Undo) (f : List ℕ) (r : UndoReply) : Type 0 where
-  pub answer : UndoAnswer
-  pub shows : UndoShows v f answer
-  pub plain : r ≡ undoReply answer
+pub record EntryReplies (at : ℕ) (v : View F.Entry) (f work work′ : List ℕ) (r : EntryReply) : Type 0 where
+  pub whole : r ≡ entryReply (entryShown at v)
+  pub said : entrySaid (entryShown at v) f work′ ≡ v
+  pub inside : NameInside (r .name) f work′
+  pub after : work′ ≡ workAfter v work
 
-pub record StepReplies (v : View F.Entry) (next : Place) (f : List ℕ) (r : StepReply) : Type 0 where
-  pub answer : EntryAnswer
-  pub shows : StepShows v f answer
-  pub plain : r ≡ stepReply answer next
+pub record NodeReplies (at : ℕ) (v : View F.Item) (f : List ℕ) (r : NodeReply) : Type 0 where
+  pub whole : r ≡ nodeReply (nodeShown at v)
+  pub said : (work : List ℕ) → nodeSaid (nodeShown at v) f work ≡ v
+  pub inside : (work : List ℕ) → NameInside (r .name) f work
+  pub zeros : r .valid ≡ false → r .object ≡ replicate 20 0
+
+pub record UndoReplies (at : ℕ) (v : View F.Undo) (f : List ℕ) (r : UndoReply) : Type 0 where
+  pub whole : r ≡ undoReply (undoShown at v)
+  pub said : (work : List ℕ) → undoSaid (undoShown at v) f work ≡ v
+  pub inside : (work : List ℕ) → NameInside (r .path) f work
+  pub zeros : StageZeros (r .first) × StageZeros (r .second) × StageZeros (r .third)
+
+pub record StepReplies (at : ℕ) (v : View F.Entry) (next : Place) (f : List ℕ) (r : StepReply) : Type 0 where
+  pub whole : r ≡ stepReply (entryShown at v) next
+  pub said : (work : List ℕ) → entrySaid (entryShown at v) f work ≡ v
+  pub inside : (work : List ℕ) → NameInside (r .name) f work
 
 -- ---- the calls that write, the start of a walk
 
@@ -149,11 +165,13 @@ abbrev pub writeReply : Written → WriteReply
 writeReply (W.Refused n p) = record { refusal = n; place = p; length = 0 }
 writeReply (W.Done n) = record { refusal = 0; place = 0; length = n }
 
--- the answer x in plain fields; the output and the workspace after it
-pub record WriteReplies (x : Read (List ℕ)) (out work out′ work′ : List ℕ) (r : WriteReply) : Type 0 where
+-- the answer x in plain fields; the output and the workspace after it; what was written is, of the file f and in the version asked for, the one
+-- file of its records with a change
+pub record WriteReplies (f : List ℕ) (asked : ℕ) (change : F.Records → F.Records) (x : Read (List ℕ)) (out work out′ work′ : List ℕ) (r : WriteReply) : Type 0 where
   pub said : r ≡ writeReply (writtenOf x)
   pub filled : out′ ≡ outputAfter x out
   pub after : work′ ≡ cleared work
+  pub back : WritesBack 20 sha1 f asked change x
 
 abbrev pub startReply : Started → StartReply
 startReply (T.Refused n p) = record { refusal = n; place = p; at = 0; left = 0 }

@@ -2,6 +2,8 @@
 ghost use mathlib.Core.Path.{_≡_};
 ghost use lib.ListN.{length};
 ghost use Rattle.format.specs.Reader.{readFile};
+ghost use Rattle.format.specs.Places.{bodyIn, namePlace, entryNamePlace, nodePlace, undoPlace};
+ghost use Rattle.format.specs.Requests.{putRecord, removeRecord};
 ghost use Rattle.hash.specs.Sha1.{sha1};
 ghost use Rattle.file.specs.Answers.{cleared, checkAnswer, entryAnswer, nodeAnswer, undoAnswer, entryWith};
 ghost use Rattle.file.specs.Writing.{rewriteAnswer, putAnswer, removeAnswer};
@@ -222,7 +224,7 @@ pub extern "C" fn nerupazhil_check(file: &[u8], work: &mut [u8]) -> CheckReply
 
 #[no_mangle]
 pub extern "C" fn nerupazhil_entry(file: &[u8], work: &mut [u8], k: u32) -> EntryReply
-    ensures { λ r. ⌜ EntryReplies (entryAnswer (now (work .entry)) k (readFile 20 sha1 (now (file .entry)))) (now (file .entry)) (now (work .entry)) (now (work .exit)) r ⌝ }
+    ensures { λ r. ⌜ EntryReplies (entryNamePlace 20 k (now (file .entry))) (entryAnswer (now (work .entry)) k (readFile 20 sha1 (now (file .entry)))) (now (file .entry)) (now (work .entry)) (now (work .exit)) r ⌝ }
 {
     let answer = index::entry(file, work, k);
     let shown = answer.shown;
@@ -237,7 +239,7 @@ pub extern "C" fn nerupazhil_entry(file: &[u8], work: &mut [u8], k: u32) -> Entr
 
 #[no_mangle]
 pub extern "C" fn nerupazhil_tree_node(file: &[u8], work: &mut [u8], k: u32) -> NodeReply
-    ensures { λ r. ⌜ NodeReplies (nodeAnswer (now (work .entry)) k (readFile 20 sha1 (now (file .entry)))) (now (file .entry)) r × (now (work .exit) ≡ cleared (now (work .entry))) ⌝ }
+    ensures { λ r. ⌜ NodeReplies (nodePlace 20 k (now (file .entry))) (nodeAnswer (now (work .entry)) k (readFile 20 sha1 (now (file .entry)))) (now (file .entry)) r × (now (work .exit) ≡ cleared (now (work .entry))) ⌝ }
 {
     let answer = index::tree_node(file, work, k);
     let shown = answer.shown;
@@ -256,7 +258,7 @@ pub extern "C" fn nerupazhil_tree_node(file: &[u8], work: &mut [u8], k: u32) -> 
 
 #[no_mangle]
 pub extern "C" fn nerupazhil_undo_record(file: &[u8], work: &mut [u8], k: u32) -> UndoReply
-    ensures { λ r. ⌜ UndoReplies (undoAnswer (now (work .entry)) k (readFile 20 sha1 (now (file .entry)))) (now (file .entry)) r × (now (work .exit) ≡ cleared (now (work .entry))) ⌝ }
+    ensures { λ r. ⌜ UndoReplies (undoPlace 20 k (now (file .entry))) (undoAnswer (now (work .entry)) k (readFile 20 sha1 (now (file .entry)))) (now (file .entry)) r × (now (work .exit) ≡ cleared (now (work .entry))) ⌝ }
 {
     let answer = index::undo_record(file, work, k);
     let shown = answer.shown;
@@ -291,7 +293,7 @@ pub extern "C" fn nerupazhil_rewrite(
     out: &mut [u8],
     asked: u32,
 ) -> WriteReply
-    ensures { λ r. ⌜ WriteReplies (rewriteAnswer 20 sha1 (now (work .entry)) asked (length (now (out .entry))) (readFile 20 sha1 (now (file .entry)))) (now (out .entry)) (now (work .entry)) (now (out .exit)) (now (work .exit)) r ⌝ }
+    ensures { λ r. ⌜ WriteReplies (now (file .entry)) asked (λ q. q) (rewriteAnswer 20 sha1 (now (work .entry)) asked (length (now (out .entry))) (readFile 20 sha1 (now (file .entry)))) (now (out .entry)) (now (work .entry)) (now (out .exit)) (now (work .exit)) r ⌝ }
 {
     write_reply(index_write::rewrite(file, work, out, asked))
 }
@@ -305,7 +307,7 @@ pub extern "C" fn nerupazhil_put(
     name: &[u8],
     fields: Fields,
 ) -> WriteReply
-    ensures { λ r. ⌜ WriteReplies (putAnswer 20 sha1 (now (work .entry)) asked (entryWith fields (now (name .entry))) (length (now (out .entry))) (readFile 20 sha1 (now (file .entry)))) (now (out .entry)) (now (work .entry)) (now (out .exit)) (now (work .exit)) r ⌝ }
+    ensures { λ r. ⌜ WriteReplies (now (file .entry)) asked (putRecord 20 (entryWith fields (now (name .entry)))) (putAnswer 20 sha1 (now (work .entry)) asked (entryWith fields (now (name .entry))) (length (now (out .entry))) (readFile 20 sha1 (now (file .entry)))) (now (out .entry)) (now (work .entry)) (now (out .exit)) (now (work .exit)) r ⌝ }
 {
     write_reply(index_write::put(file, work, out, asked, name, fields))
 }
@@ -319,7 +321,7 @@ pub extern "C" fn nerupazhil_remove(
     name: &[u8],
     stage: u32,
 ) -> WriteReply
-    ensures { λ r. ⌜ WriteReplies (removeAnswer 20 sha1 (now (work .entry)) asked (record { name = now (name .entry); stage = stage }) (length (now (out .entry))) (readFile 20 sha1 (now (file .entry)))) (now (out .entry)) (now (work .entry)) (now (out .exit)) (now (work .exit)) r ⌝ }
+    ensures { λ r. ⌜ WriteReplies (now (file .entry)) asked (removeRecord 20 (record { name = now (name .entry); stage = stage })) (removeAnswer 20 sha1 (now (work .entry)) asked (record { name = now (name .entry); stage = stage }) (length (now (out .entry))) (readFile 20 sha1 (now (file .entry)))) (now (out .entry)) (now (work .entry)) (now (out .exit)) (now (work .exit)) r ⌝ }
 {
     write_reply(index_write::remove(file, work, out, asked, name, stage))
 }
@@ -349,7 +351,7 @@ pub extern "C" fn nerupazhil_walk_start(file: &[u8], work: &mut [u8]) -> StartRe
 
 #[no_mangle]
 pub extern "C" fn nerupazhil_walk_next(file: &[u8], at: usize, left: u32) -> StepReply
-    ensures { λ r. ⌜ StepReplies (walkAnswer 20 (now (file .entry)) at left) (placeAfter 20 (now (file .entry)) at left) (now (file .entry)) r ⌝ }
+    ensures { λ r. ⌜ StepReplies (namePlace 20 at (bodyIn 20 (now (file .entry)))) (walkAnswer 20 (now (file .entry)) at left) (placeAfter 20 (now (file .entry)) at left) (now (file .entry)) r ⌝ }
 {
     let step = walk::step_at(file, at, left);
     let answer = step.answer;

@@ -1,5 +1,6 @@
 -- The proof that `nerupazhil_entry` meets its contract.
 use mathlib.Core.Path.{refl}
+use Rattle.nerupazhil.proofs.Laws.{entry-replies}
 use borrow.Author.Needs.{needs}
 use Rattle.nerupazhil.proofs.nerupazhil_entry.Statement.{statement}
 use Rattle.nerupazhil.proofs.nerupazhil_entry.Tie as tie
@@ -22,7 +23,7 @@ same-length c = search needs
 returns : tie.Need-returns
 returns c =
     let q = c .before .before .before .before .before .before in
-    record { answer = q .entry .result; shows = q .entry .ensures; plain = rw (c .name-of .ensures, c .before .place-of .ensures, c .before .before .refusal-of .ensures) refl }
+    entry-replies _ _ _ _ _ (q .entry .result) _ (q .entry .ensures) (rw (c .name-of .ensures, c .before .place-of .ensures, c .before .before .refusal-of .ensures) refl)
 
 pub nerupazhil-entry-spec : {M : Type 1} → statement M
 nerupazhil-entry-spec =

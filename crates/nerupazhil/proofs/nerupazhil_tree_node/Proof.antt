@@ -1,5 +1,6 @@
 -- The proof that `nerupazhil_tree_node` meets its contract.
 use mathlib.Core.Path.{refl}
+use Rattle.nerupazhil.proofs.Laws.{node-replies}
 use borrow.Author.Needs.{needs}
 use Rattle.nerupazhil.proofs.nerupazhil_tree_node.Statement.{statement}
 use Rattle.nerupazhil.proofs.nerupazhil_tree_node.Tie as tie
@@ -22,7 +23,7 @@ same-length c = search needs
 returns : tie.Need-returns
 returns c =
     let q = c .before .before .before .before .before .before in (
-      record { answer = q .tree-node .result; shows = q .tree-node .ensures .0; plain = rw (c .name-of .ensures, c .before .place-of .ensures, c .before .before .refusal-of .ensures) refl },
+      node-replies _ _ _ (q .tree-node .result) _ (q .tree-node .ensures .0) (rw (c .name-of .ensures, c .before .place-of .ensures, c .before .before .refusal-of .ensures) refl),
       q .tree-node .ensures .1,
     )
 

@@ -1,5 +1,6 @@
 -- The proof that `nerupazhil_undo_record` meets its contract.
 use mathlib.Core.Path.{refl}
+use Rattle.nerupazhil.proofs.Laws.{undo-replies}
 use borrow.Author.Needs.{needs}
 use Rattle.nerupazhil.proofs.nerupazhil_undo_record.Statement.{statement}
 use Rattle.nerupazhil.proofs.nerupazhil_undo_record.Tie as tie
@@ -22,7 +23,7 @@ same-length c = search needs
 returns : tie.Need-returns
 returns c =
     let q = c .before .before .before .before .before .before .before .before in (
-      record { answer = q .undo-record .result; shows = q .undo-record .ensures .0; plain = rw (c .name-of .ensures, c .before .place-of .ensures, c .before .before .refusal-of .ensures) refl },
+      undo-replies _ _ _ (q .undo-record .result) _ (q .undo-record .ensures .0) (rw (c .name-of .ensures, c .before .place-of .ensures, c .before .before .refusal-of .ensures) refl),
       q .undo-record .ensures .1,
     )
 

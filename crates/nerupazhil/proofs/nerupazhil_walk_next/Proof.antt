@@ -1,5 +1,6 @@
 -- The proof that `nerupazhil_walk_next` meets its contract.
 use mathlib.Core.Path.{refl}
+use Rattle.nerupazhil.proofs.Laws.{step-replies}
 use borrow.Author.Needs.{needs}
 use Rattle.nerupazhil.proofs.nerupazhil_walk_next.Statement.{statement}
 use Rattle.nerupazhil.proofs.nerupazhil_walk_next.Tie as tie
@@ -20,11 +21,7 @@ returns : tie.Need-returns
 returns c =
     let q = c .before .before .before .before .before .before in
     let (shows, next) = q .step-at .ensures in
-    record {
-      answer = q .step-at .result .answer;
-      shows = shows;
-      plain = rw (c .name-of .ensures, c .before .place-of .ensures, c .before .before .refusal-of .ensures, ← next) refl;
-    }
+    step-replies _ _ _ _ (q .step-at .result .answer) _ shows (rw (c .name-of .ensures, c .before .place-of .ensures, c .before .before .refusal-of .ensures, ← next) refl)
 
 pub nerupazhil-walk-next-spec : {M : Type 1} → statement M
 nerupazhil-walk-next-spec =
