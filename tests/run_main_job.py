@@ -9,16 +9,19 @@ and the exit status is 0 only where M is 0.
 import argparse
 import os
 import re
+import shlex
 import shutil
 import subprocess
 import sys
 import tempfile
 from typing import NamedTuple
 
+import index_reader
+from layout import LISTING_LIMIT, Plan, Record
 from report import SECONDS, Program, Report
 
 ROOT = os.path.abspath(os.path.join(os.path.dirname(os.path.abspath(__file__)), ".."))
-VECTOR = os.path.join(ROOT, "tests", "vectors", "real", "v2-committed")
+VECTOR = os.path.join(ROOT, "tests", "vectors", "real", "v2-committed.index")
 
 # list stands on three crates of the repository and two of the kit.
 CRATES = """\
@@ -46,6 +49,9 @@ shown() {
 }
 """
 UNCHANGED = "unchanged ground walls roof list; say ok, 4 crates proved"
+QUIET = ["run: proving list and what it stands on: 4 crates", "run: all 4 unchanged since they were proved"]
+NAMED = ["c/examples/list.c", "rust/Cargo.toml", "rust/examples/list.rs"]
+EXAMPLE = "rt staticlib nerupazhil && cargo run --manifest-path rust/Cargo.toml --example list -- "
 
 
 class Done(NamedTuple):
@@ -78,12 +84,14 @@ class Room:
         with open(self.path(name), "rb") as stream:
             return stream.read()
 
-    def run(self, *command: str, rt: str = UNCHANGED, **options) -> Done:
+    def run(self, *command: str, rt: str = UNCHANGED, temporary: str = None, **options) -> Done:
         """Runs a command with a stand-in that does what `rt` says."""
         os.makedirs(self.path("bin"), exist_ok=True)
         os.chmod(self.store("bin/rt", f"{RT}{rt}\n".encode()), 0o755)
         environment = {**os.environ, "PATH": self.path("bin") + os.pathsep + os.environ["PATH"]}
-        options = {"cwd": self.folder, "env": environment, "stdin": subprocess.DEVNULL, **options}
+        if temporary:
+            environment["TMPDIR"] = temporary
+        options = {"cwd": self.folder, "stdin": subprocess.DEVNULL, **options, "env": environment}
         with open(self.path("standard-error"), "wb") as err:
             done = subprocess.run(command, stdout=subprocess.PIPE, stderr=err, timeout=SECONDS, check=False, **options)
         return Done(done.returncode, done.stdout, self.load("standard-error").decode().splitlines())
@@ -127,12 +135,61 @@ def progress(report: Report, room: Room) -> None:
 
 def failures(report: Report, room: Room) -> None:
     rt = "unchanged ground; echo why; say 'walls NOT PROVED (exit 1, 3 s)'; say FAILED: walls; exit 2"
-    done = room.run("./run", VECTOR + ".index", rt=rt)
+    done = room.run("./run", VECTOR, rt=rt)
     said = ["rt: ground proved (unchanged since it was last proved)", "why"]
     said += ["rt: walls NOT PROVED (exit 1, 3 s)", "rt: FAILED: walls"]
-    expected = ["run: proving list and what it stands on: 4 crates", *said, "run: list is not proved"]
-    report.same("not proved", Done(1, b"", expected), done)
+    report.same("not proved", Done(1, b"", [QUIET[0], *said, "run: list is not proved"]), done)
     report.same("not proved: the log", said, room.load("target/log/run.log").decode().splitlines())
+
+
+# ---- inputs
+
+
+def inputs(report: Report, room: Room) -> None:
+    """Files by name and on standard input, at the program's limit and above it; nothing is left behind."""
+    temporary = room.path("temporary")
+    os.mkdir(temporary)
+    large = Plan(2, [Record(b"large/%05d" % k) for k in range(2000)]).made("large").data
+    files = {"small": room.load(VECTOR), "empty": b"", "with a space and 'quotes'": large}
+    files.update((f"{size} bytes", bytes(size)) for size in (LISTING_LIMIT, LISTING_LIMIT + 1, 1 << 20))
+    for name, data in files.items():
+        path = room.store(name, data)
+        listing = index_reader.listing(data)
+
+        def same(how: str, index: str, *command: str, **options) -> None:
+            done = room.run(*command, temporary=temporary, **options)
+            over = [line for line in done.err if line.startswith("run: over 65,536 bytes; ")]
+            report.same(f"{name}, {how}: status and listing", (0, listing), (done.status, done.out))
+            report.same(f"{name}, {how}: standard error", QUIET + over, done.err)
+            report.same(f"{name}, {how}: the other program", len(data) > LISTING_LIMIT, len(over) == 1)
+            if over:
+                words = shlex.split(over[0].partition("In this repository: ")[2])
+                report.same(f"{name}, {how}: its command", [*EXAMPLE.split(), index], words)
+                files_named = re.findall(r"\b(?:rust|c)/[\w/.]+\w", over[0].partition(" -- ")[0])
+                report.same(f"{name}, {how}: files named", NAMED, sorted(files_named))
+
+        same("by name", path, "./run", path)
+        same("by name, in its folder", path, "./run", name)
+        same("by name, from another folder", path, room.path("run"), f"../{name}", cwd=room.path("tools"))
+        with open(path, "rb") as stream:
+            same("on standard input", "INDEX", "./run", stdin=stream)
+        same("on a pipe", "INDEX", "sh", "-c", 'cat "$1" | ./run', "sh", path)
+    report.same("temporary files that are left", [], os.listdir(temporary))
+    report.test("the files named are there", all(os.path.isfile(os.path.join(ROOT, name)) for name in NAMED))
+
+
+def wrong_use(report: Report, room: Room) -> None:
+    def same(name: str, expected: list, *command: str, **options) -> None:
+        report.same(name, Done(2, b"", expected), room.run(*command, **options))
+
+    same("two files", ["usage: run [FILE]"], "./run", VECTOR, VECTOR)
+    same("no such file", ["run: cannot read none"], "./run", "none")
+    same("a folder", ["run: cannot read tools"], "./run", "tools")
+    folder = os.open(room.folder, os.O_RDONLY)
+    done = room.run("./run", stdin=folder)
+    os.close(folder)
+    good = done.status == 2 and done.out == b"" and done.err[-1] == "run: cannot read standard input"
+    report.test("a folder on standard input", good, done)
 
 
 # ---- the program
@@ -148,7 +205,7 @@ def main() -> int:
     if not program.usable():
         report.test(f"{options.program} is an executable program", False)
         return report.finish()
-    for group in (progress, failures):
+    for group in (progress, failures, inputs, wrong_use):
         with tempfile.TemporaryDirectory() as folder:
             group(report, Room(folder, program))
     return report.finish()
