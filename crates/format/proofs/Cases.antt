@@ -1,7 +1,7 @@
 -- The cases that the requirements mark P: one table over the definitions.
 use mathlib.Core.Path.{_≡_, refl}
 use mathlib.Core.List.{List, [], _∷_, _++_}
-use Prim.Native.Nat.{ℕ, _+_}
+use Prim.Native.Nat.{ℕ}
 use lib.ListN.{length, replicate}
 use Rattle.format.specs.declared.Order.the-variants.{Below, Above}
 use Rattle.format.specs.Bytes.{two, putN, eqList, before, lacks, digits, decimal, valueFrom, value}
