@@ -2,6 +2,6 @@
 
 pub use nerupazhil::calls::*;
 pub use nerupazhil::raw::{
-    CheckReply, EntryReply, Fields, Name, NodeReply, Stage, StartReply, StepReply, UndoReply,
-    WriteReply, DIGEST, WORKSPACE,
+    CheckReply, EntryReply, Fields, Name, NodeReply, StartReply, StepReply, UndoReply, WriteReply,
+    DIGEST, WORKSPACE,
 };

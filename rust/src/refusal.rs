@@ -20,7 +20,19 @@ use std::fmt;
 ///     "refused 5 at 12: the file is damaged: its checksum is not that of its bytes"
 /// );
 /// ```
-#[derive(Clone, Copy, Debug, PartialEq, Eq, Hash)]
+///
+/// Debug has the sentence too, for `unwrap` and for a `main` that answers a `Result`:
+///
+/// ```
+/// use nerupazhil::{Index, EMPTY};
+///
+/// let cut = Index::read(&EMPTY[..31]).unwrap_err();
+/// assert_eq!(
+///     format!("{cut:?}"),
+///     "Refusal(refused 1 at 0: the file is shorter than 32 bytes, the length of an empty index)"
+/// );
+/// ```
+#[derive(Clone, Copy, PartialEq, Eq, Hash)]
 pub struct Refusal {
     number: u32,
     place: usize,
@@ -60,6 +72,14 @@ impl fmt::Display for Refusal {
     fn fmt(&self, f: &mut fmt::Formatter<'_>) -> fmt::Result {
         let Self { number, place } = self;
         write!(f, "refused {number} at {place}: {}", self.reason())
+    }
+}
+
+impl fmt::Debug for Refusal {
+    fn fmt(&self, f: &mut fmt::Formatter<'_>) -> fmt::Result {
+        f.debug_tuple("Refusal")
+            .field(&format_args!("{self}"))
+            .finish()
     }
 }
 

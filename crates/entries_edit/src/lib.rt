@@ -1,7 +1,7 @@
 // The entries of a body, written with one of them put or removed, or as they are.
 ghost use mathlib.Core.Path.{_≡_};
 ghost use mathlib.Core.Bool.{true, _||_};
-ghost use Prim.Native.Nat.{_+_, _*_, _≤_};
+ghost use Prim.Native.Nat.{_+_, _≤_};
 ghost use lib.ListN.{length};
 ghost use Rattle.format.specs.Records.{Entry};
 ghost use Rattle.format.specs.Layout.{bit};

@@ -2,7 +2,7 @@
 use mathlib.Core.List.{List, [], _∷_, _++_}
 use mathlib.Core.Bool.{Bool}
 use mathlib.Core.Option.{Option}
-use Prim.Native.Nat.{ℕ, suc, _+_}
+use Prim.Native.Nat.{ℕ, suc}
 use lib.ListN.{getD}
 
 -- numbers: ctime seconds, ctime nanoseconds, mtime seconds, mtime nanoseconds, dev, ino, mode, uid, gid, size

@@ -1,5 +1,5 @@
 -- The words of a block, and the bytes of a word. Assumes nothing.
-use mathlib.Core.List.{List, [], _∷_, _++_, append-nil}
+use mathlib.Core.List.{List, _∷_}
 use mathlib.Core.Path.{_≡_, refl, ap, ap₂}
 use Prim.Native.Nat.{ℕ, zero, suc, _+_, _*_, _/_, _%_, _^_, _<_}
 use native.Mathlib.Nat.{add-assoc, add-zero}
@@ -33,20 +33,6 @@ words-same p q i j (suc n) h =
 pub length-bytes4 : (x : ℕ) → length (bytes4 x) ≡ 4
 unfolding bytes4
 length-bytes4 x = refl
-
--- a list of bytes
-pub record Bytes (s : List ℕ) : Type 0 where
-  pub below : (i : ℕ) → getD s i 0 < 256
-
-bytes-cons : (x : ℕ) {s : List ℕ} → x < 256 → Bytes s → Bytes (x ∷ s)
-bytes-cons x h b = record { below = λ i. elim i [ zero ↦ h | suc k ↦ b .below k ] }
-
-pub bytes4-then : (x : ℕ) {t : List ℕ} → Bytes t → Bytes (bytes4 x ++ t)
-unfolding bytes4
-bytes4-then x b = bytes-cons _ (omega arith) (bytes-cons _ (omega arith) (bytes-cons _ (omega arith) (bytes-cons _ (omega arith) b)))
-
-pub bytes4-bytes : (x : ℕ) → Bytes (bytes4 x)
-bytes4-bytes x = rw append-nil at (bytes4-then x {t = []} (record { below = λ i. omega arith }))
 
 -- a word's bytes are those of its low 32 bits
 pub bytes4-low : (x : ℕ) → bytes4 (x % 2 ^ 32) ≡ bytes4 x

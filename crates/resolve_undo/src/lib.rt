@@ -266,7 +266,7 @@ fn no_record() -> Shown
     }
 }
 
-// The record at a place, whatever path stands before it. Its path is a part of the data, which path_of gives.
+// The record at a place, whatever path stands before it. Its path is a part of the data.
 pub fn show_undo(d: &[u8], place: usize) -> Shown
     ensures { λ r. ⌜ ((p : ℕ) → r ≡ shown place (undoAt 20 p (drop place (now (d .entry))))) × (r .path + r .«path_length» ≤ length (now (d .entry))) ⌝ }
 {
@@ -292,13 +292,4 @@ pub fn show_undo(d: &[u8], place: usize) -> Shown
             }
         }
     }
-}
-
-// The n bytes at a place, as a part of the data.
-pub fn path_of<'a>(d: &'a [u8], at: usize, n: usize) -> &'a [u8]
-    requires { ⌜ at + n ≤ length (now d) ⌝ }
-    ensures { λ r. ⌜ now r ≡ take n (drop at (now (d .entry))) ⌝ }
-{
-    let e = at + n;
-    &d[at..e]
 }

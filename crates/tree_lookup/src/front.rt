@@ -6,7 +6,7 @@ use entries_run::pass_entry;
 use fields::find;
 ghost use mathlib.Core.Path.{_≡_};
 ghost use mathlib.Core.Bool.{true, _&&_};
-ghost use Prim.Native.Nat.{_+_, _≤_, _<_};
+ghost use Prim.Native.Nat.{_≤_};
 ghost use lib.ListN.{length};
 ghost use lib.Dec.{leb, ltb};
 ghost use Rattle.tree_lookup.specs.Ahead.{Fits, Advanced, Went, MoreFiles, WentFiles};

@@ -10,7 +10,7 @@ use tree_search::keys::key_of;
 use tree_search::keys::want;
 use tree_search::table::clear;
 ghost use mathlib.Core.Path.{_≡_};
-ghost use Prim.Native.Nat.{_+_, _≤_, _<_};
+ghost use Prim.Native.Nat.{_≤_, _<_};
 ghost use lib.ListN.{length};
 ghost use Rattle.tree_lookup.specs.Ahead.{Fits};
 
