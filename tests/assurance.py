@@ -13,7 +13,8 @@ What the page may say, and what is looked at:
 
 Besides: every definition that a statement named on the page rests on is in its list of definitions, and no other is;
 every public function of the crates in CALLS is named, and no function that is named asks anything of its caller; no
-reader is behind the rules on files; the table of refusals has each number once, with definitions that give it.
+reader is behind the rules on files; the table of refusals has each number once, with definitions that give it; the
+table of answers has each field of each type that a public call answers.
 
 With --log, FOLDER has what the prover said of each crate: which crates rest on axioms, how many functions were proved.
 With --renew, line numbers and figures are written anew.
@@ -35,6 +36,7 @@ from report import Report
 
 PAGE = "docs/ASSURANCE.md"
 LIST = "The definitions"
+FIELDS = "every-field-of-every-answer"
 REFUSALS = range(1, 22)
 MADE = ("target/", ".ci/log/")  # by a run
 SHELLS = ("rt", "bash", "python3")
@@ -223,7 +225,10 @@ def files(page: Page):
 
 def section(path: str, anchor: str) -> str:
     """The text of a section of a Markdown file; LookupError where there is none."""
-    text = "\n".join(lines_of(path))
+    return section_in("\n".join(lines_of(path)), anchor, path)
+
+
+def section_in(text: str, anchor: str, path: str) -> str:
     parts = re.split(r"^#+ (.*)$", text, flags=re.M)
     for title, body in zip(parts[1::2], parts[2::2]):
         if re.sub(r"[^a-z0-9 -]", "", title.lower()).replace(" ", "-") == anchor:
@@ -253,7 +258,7 @@ def commands(page: Page):
         program, *rest = shlex.split(line)
         known = program in SHELLS or exists(program)
         if program == "rt":
-            good = known and rest[0] == "check" and set(rest[1:]) <= crates()
+            good = rest == ["version"] or rest[0] == "check" and set(rest[1:]) <= crates()
         else:
             good = known and all(exists(word) for word in rest if not word.startswith("-"))
         yield f"command {line}", good, "its program, a file or a crate is not there"
@@ -293,6 +298,45 @@ def calls(page: Page):
         yield f"{name} of {path} asks nothing", "requires" not in text, "it has a requires"
 
 
+def types_in(text: str) -> list:
+    """The names of types in a piece of Rattle."""
+    return re.findall(r"\b[A-Z]\w*", text)
+
+
+def answered_types() -> dict:
+    """The types that the public calls answer, and those within them: the fields or variants of each, by file and name."""
+    found, wanted = {}, []
+    for path, name in public_calls():
+        head = " ".join(definitions.statement(path, name)).partition(" ensures ")[0]
+        wanted += [(path, kind) for kind in types_in(head.rpartition("->")[2])] if "->" in head else []
+    while wanted:
+        path, name = wanted.pop()
+        one = (path, name) if name in declarations(path) else definitions.imports(path)[0].get(name)
+        if one and one not in found:
+            parts = [re.match(r" +(?:pub )?(\w+)(.*),$", line) for line in declarations(one[0])[one[1]][1:-1]]
+            found[one] = [part[1] for part in parts]
+            wanted += [(one[0], kind) for part in parts for kind in types_in(part[2])]
+    return found
+
+
+def fields(page: Page):
+    """The table of answers has each type that a public call answers, with each of its fields once, and what pins them."""
+    body = section_in(page.text, FIELDS, PAGE)
+    told = {}
+    for answer, names, pinned, value in re.findall(r"^\| (\[.*?) \| (.*?) \| (.*?) \| (.*?) \|$", body, re.M):
+        match = REFERENCE.match(answer)
+        yield f"{answer} is a link", bool(match), "no declaration"
+        if match:
+            told.setdefault(named(match), []).extend(codes(names))
+        cited = REFERENCE.search(pinned) or pinned.startswith("the same")
+        yield f"what pins {answer} is named", bool(cited), "no promise"
+        yield f"the value of {answer} is named", "[" in value or value.startswith("as "), "no definition"
+    right = answered_types()
+    for one in sorted(set(told) | set(right)):
+        names = right.get(one, [])
+        yield f"{one[1]} of {one[0]} and its fields", sorted(told.get(one, [])) == sorted(names), f"should be {names}"
+
+
 def no_reader(page: Page):
     behind = {path for path, _ in closure([RULE_OF_FILES])} & set(READERS)
     yield f"{RULE_OF_FILES[1]} rests on no reader", not behind, f"it rests on {sorted(behind)}"
@@ -322,7 +366,7 @@ def axioms(page: Page):
 
 def tests(page: Page):
     """Every test of the page: its name, whether it passed, and what is wrong."""
-    for group in (figures, files, quotes, commands, complete, calls, no_reader, refusals, axioms):
+    for group in (figures, files, quotes, commands, complete, calls, fields, no_reader, refusals, axioms):
         try:
             yield from group(page)
         except LookupError as error:

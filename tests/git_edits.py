@@ -243,7 +243,7 @@ def compare(snapshot: Snapshot, root: str, call, report: Report) -> None:
         shutil.rmtree(repository.path)
 
 
-def run(call, report: Report, versions: tuple = (2, 4), scenes: tuple = git_files.SCENES) -> None:
+def run(call, report: Report, versions: tuple = (2, 4), scenes: tuple = git_files.GIT_SCENES) -> None:
     """Makes the files and compares them, in a temporary folder that is removed. Version 3 is 2 to Git, where it may."""
     root = os.path.realpath(tempfile.mkdtemp(prefix="git-edits-"))
     try:
@@ -256,7 +256,7 @@ def run(call, report: Report, versions: tuple = (2, 4), scenes: tuple = git_file
 
 
 def main() -> int:
-    scenes = {scene.__name__: scene for scene in git_files.SCENES}
+    scenes = {scene.__name__: scene for scene in git_files.GIT_SCENES}
     parser = argparse.ArgumentParser(description="Let Git go on from index files that a program rewrote and edited.")
     parser.add_argument("program", help="the program, which answers the requests of edit_requests")
     parser.add_argument("--only", choices=scenes, help="make the files of one scene")
@@ -268,7 +268,7 @@ def main() -> int:
         report.test(f"{options.program} is an executable program", False)
         return report.finish()
     session = Session(program.path)
-    run(session, report, scenes=(scenes[options.only],) if options.only else git_files.SCENES)
+    run(session, report, scenes=(scenes[options.only],) if options.only else git_files.GIT_SCENES)
     session.finish(report)
     return report.finish()
 

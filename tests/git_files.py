@@ -21,6 +21,7 @@ import tempfile
 from typing import NamedTuple, Optional
 
 import index_reader
+from layout import Record, lay, seal
 from report import WIDTH, Program, ProgramFailed, Report, difference
 
 
@@ -372,6 +373,23 @@ def refused_kinds(root: str, version: int):
     yield repository.snapshot("sparse-checkout", extensions=(b"TREE",))
 
 
+def objections(root: str, version: int):
+    """Files that the library accepts and Git lists, and then objects to: the format's documents do not rule them out."""
+    repository = Repository(root, f"objections-{version}", version)
+    blob = bytes.fromhex(repository.blob().decode())
+    first = Record(b"a", object=blob)
+    cases = (
+        ("file-and-directory", Record(b"a/b", object=blob), "write-tree", b"both a and a/b"),
+        ("stages-0-and-2", Record(b"a", 2, object=blob), "fsck", b"multiple stage entries"),
+    )
+    for name, second, command, words in cases:
+        repository.install(seal(lay(version, [first, second]).body))
+        yield repository.snapshot(name)
+        result = repository.run(command)
+        if result.returncode == 0 or words not in result.stderr:
+            raise RuntimeError(f"{name}: git {command} answers {result.returncode} {result.stderr}")
+
+
 def walks(root: str, version: int):
     """A walk of random edits with trees written between them, by a fixed seed."""
     rng = random.Random(f"walk {version}")
@@ -393,7 +411,8 @@ def walks(root: str, version: int):
         yield repository.snapshot(f"step-{step}")
 
 
-SCENES = (everyday, conflicts, stages, names, links, trees, extensions, refused_kinds, walks)
+GIT_SCENES = (everyday, conflicts, stages, names, links, trees, extensions, refused_kinds, walks)  # Git makes the files
+SCENES = GIT_SCENES + (objections,)
 
 
 def snapshots(root: str, versions: tuple = (2, 3, 4), scenes: tuple = SCENES):

@@ -48,6 +48,13 @@ WRONG_PAGES = (
     ("a refusal twice", r"(?m)^\| 14 \|", "| 13 |"),
     ("a refusal with another's definition", r"(?m)^(\| 14 \|.*)\[readData\]\([^)]+\)",
      r"\1[readUndo](../crates/format/specs/Reader.antt#L1)"),
+    ("a field that is missing", r"`subtrees`, `valid`, `object` \|", "`valid`, `object` |"),
+    ("a field that is not there", r"`subtrees`, `valid`, `object` \|", "`subtrees`, `valid`, `object`, `mode` |"),
+    ("a field twice", r"`subtrees`, `valid`, `object` \|", "`subtrees`, `valid`, `valid`, `object` |"),
+    ("an answer that is missing", r"(?m)^\| \[NodeReply\].*\n", ""),
+    ("a variant that is missing", r"`Refused`, `InFile`, `InWorkspace`", "`Refused`, `InFile`"),
+    ("fields that nothing pins", r"(?m)^(\| \[NodeReply\].*?\|.*?\|) .*? (\|.*)$", r"\1 nothing \2"),
+    ("no table of fields", r"## Every field of every answer", "## Fields"),
     ("no list of definitions", r"## The definitions", "## Definitions"),
 )
 
