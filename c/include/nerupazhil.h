@@ -100,7 +100,8 @@ struct nerupazhil_check_reply {
     bool has_undo;    /* whether the file has a resolve-undo extension */
 };
 
-/* Where a name stands: nerupazhil_name_bytes gives its first byte. No NUL ends it. */
+/* Where a name stands: nerupazhil_name_bytes gives its first byte. No NUL ends it. It lies in its buffer, also where it
+   is empty: offset + length is at most the buffer's length. */
 struct nerupazhil_name {
     uint32_t buffer; /* a number of enum nerupazhil_buffer */
     size_t offset;   /* its first byte in that buffer */

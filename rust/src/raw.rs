@@ -32,7 +32,8 @@ pub struct CheckReply {
     pub has_undo: bool,
 }
 
-/// Where a name stands: `buffer` is 1 for the file, 2 for the workspace, 0 for none.
+/// Where a name stands: `buffer` is 1 for the file, 2 for the workspace, 0 for none. It lies in its buffer, also where it
+/// is empty: `offset + length` is at most the buffer's length.
 #[repr(C)]
 #[derive(Clone, Copy, Debug, Default, PartialEq, Eq)]
 pub struct Name {

@@ -20,7 +20,7 @@ use Rattle.file.proofs.Laws.{item-none}
 use Rattle.file_contents.proofs.Bodies.{entries-length}
 use Rattle.walk.specs.declared.Started.the-variants.{Refused, Ready}
 use Rattle.walk.specs.Walks.{startedOf, startAnswer, walkable}
-use Rattle.walk.proofs.Steps.{steps-show, steps-show-all}
+use Rattle.walk.proofs.Steps.{steps-show, steps-named, steps-show-all}
 use Rattle.walk.proofs.Statements.{WholeWalk}
 
 -- ---- what a file has over which a walk goes
@@ -81,6 +81,10 @@ module _ (w : ℕ) (hash : List ℕ → List ℕ) (f : List ℕ) where
             let is : entryAnswer work k (readFile w hash f) ≡ pick false (getElem? (c .records .entries) k) = unfold entryAnswer given in rw (large, q, old) in
             rw (is, ← count)
             (file-read w hash f c m q old λ ok j es. steps-show w f ok (length (c .records .entries)) start 12 (c .records .entries) j es k);
+        placed = λ work n e k few.
+            start-inv work (readFile w hash f) n e λ c m large q old count.
+            rw (← count)
+            (file-read w hash f c m q old λ ok j es. steps-named w f ok (length (c .records .entries)) (c .records .entries) j es k (omega arith));
         ended = λ work n e k past.
             start-inv work (readFile w hash f) n e λ c m large q old count.
             let none-there = item-none (c .records .entries) k (omega arith) in

@@ -3,12 +3,13 @@
 use mathlib.Core.Path.{_≡_}
 use mathlib.Core.List.{List, map}
 use mathlib.Core.Bool.{false}
-use Prim.Native.Nat.{ℕ, _≤_}
+use Prim.Native.Nat.{ℕ, _≤_, _<_}
 use lib.ListN.{length, getElem?}
 use lib.Dec.{eqb}
 use Rattle.format.specs.Records.{Entry}
 use Rattle.format.specs.Reading.{good}
 use Rattle.format.specs.Reader.{Contents, readFile}
+use Rattle.format.specs.Places.{bodyIn, namePlace, entryNamePlace}
 use Rattle.file.specs.Answers.{View, refused, inFile, pick, entryAnswer}
 use Rattle.walk.specs.declared.Place.{Place}
 use Rattle.walk.specs.declared.Started.the-variants.{Ready}
@@ -29,5 +30,8 @@ module _ (w : ℕ) (hash : List ℕ → List ℕ) (f : List ℕ) where
     -- where start says that n entries are before a walk, step k shows what entry k shows
     pub started : (work : List ℕ) (n : ℕ) → startAnswer work (readFile w hash f) ≡ Ready n
         → (k : ℕ) → shownAfter w f n k ≡ entryAnswer work k (readFile w hash f)
+    -- with the same answer, whole: the name's place is the same
+    pub placed : (work : List ℕ) (n : ℕ) → startAnswer work (readFile w hash f) ≡ Ready n
+        → (k : ℕ) → k < n → namePlace w (placeAfterAll w f k (firstPlace n) .at) (bodyIn w f) ≡ entryNamePlace w k f
     -- and 18 where none remain
     pub ended : (work : List ℕ) (n : ℕ) → startAnswer work (readFile w hash f) ≡ Ready n → (k : ℕ) → n ≤ k → shownAfter w f n k ≡ refused 18 0

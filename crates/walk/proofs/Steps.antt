@@ -1,6 +1,6 @@
 -- Laws of one step of a walk and of many, for any width.
-use mathlib.Core.Path.{_≡_, refl, ap, _∙_}
-use mathlib.Core.List.{List, _∷_, map}
+use mathlib.Core.Path.{_≡_, refl, sym, ap, _∙_}
+use mathlib.Core.List.{List, [], _∷_, map}
 use mathlib.Core.Bool.{true, false, _||_}
 use Prim.Native.Nat.{ℕ, zero, suc, _+_, _-_, _≤_}
 use native.Mathlib.Nat.{add-zero}
@@ -12,11 +12,11 @@ use borrow.Author.Tests.{ne-eqb, eqb-true, lt-ltb, leb-true}
 use Rattle.format.specs.Bytes.{be32, eqList}
 use Rattle.format.specs.Records.{Entry, Key, keyOf, start}
 use Rattle.format.specs.Layout.{DIRC}
-use Rattle.format.specs.Reading.{Read, good, bad, need}
+use Rattle.format.specs.Reading.{Read, good, bad, need, shift, bind}
 use Rattle.format.specs.Reader.{readEntry, readEntries}
-use Rattle.format.specs.Places.{bodyIn, taken}
+use Rattle.format.specs.Places.{bodyIn, taken, entryPlace, namePlace, entryNamePlace}
 use Rattle.format_laws.proofs.Tests.{and-inv₃, or-inv}
-use Rattle.format_laws.proofs.Readings.{good-inv, bind-inv}
+use Rattle.format_laws.proofs.Readings.{good-inv, bind-inv, same-size}
 use Rattle.file.specs.Answers.{View, inFile, pick}
 use Rattle.walk.specs.declared.Place.{Place}
 use Rattle.walk.specs.Walks.{placeAt, walkable, or18, walkRead, viewIn, walkAnswer, placeAfter, placeAfterAll, walkOver}
@@ -76,14 +76,14 @@ module _ (w : ℕ) (f : List ℕ) (at : ℕ) where
 module _ (w : ℕ) (f : List ℕ) (ok : walkable w f ≡ true) where
   -- so the next one is seen, and the others after it
   next-entry : {X : Type 0} (n : ℕ) (k : Key) (at : ℕ) (es : List Entry) (m : ℕ) → readEntries w (be32 f 4) (suc n) k at (drop at (bodyIn w f)) ≡ good es m
-      → ((e : Entry) (i : ℕ) (fs : List Entry) (j : ℕ) → e ∷ fs ≡ es → walkRead w f at (suc n) ≡ good e i
-      → readEntries w (be32 f 4) n (keyOf e) (at + i) (drop (at + i) (bodyIn w f)) ≡ good fs j → X) → X
+      → ((e : Entry) (i : ℕ) (fs : List Entry) (j : ℕ) → e ∷ fs ≡ es → readEntry w (be32 f 4) k at (drop at (bodyIn w f)) ≡ good e i
+      → walkRead w f at (suc n) ≡ good e i → readEntries w (be32 f 4) n (keyOf e) (at + i) (drop (at + i) (bodyIn w f)) ≡ good fs j → X) → X
   unfolding readEntries
   next-entry n k at es m q g =
       bind-inv _ _ _ _ q λ e i j q₁ q₂ m-is.
       bind-inv _ _ _ _ q₂ λ fs c d q₃ q₄ j-is.
       good-inv _ _ _ _ q₄ λ es-is d-is.
-      g e i fs c es-is
+      g e i fs c es-is q₁
       (walk-on w f at (suc n) (lt-ltb 0 (suc n) (omega arith)) ok ∙ ap or18 (any-key w (be32 f 4) at (walkable-old w f ok) k (drop at (bodyIn w f)) e i q₁))
       (rw drop-drop at q₃)
 
@@ -97,10 +97,36 @@ module _ (w : ℕ) (f : List ℕ) (ok : walkable w f ≡ true) where
   steps-show zero key at es m q k =
       good-inv _ _ _ _ q λ es-is m-is. rw (← es-is, stays-all w f at k) (view-is w f at 0 _ (walk-none w f at))
   steps-show (suc n) key at es m q zero =
-      next-entry n key at es m q λ e i fs j es-is is rest. unfold placeAfterAll in rw (← es-is) (view-is w f at (suc n) _ is)
+      next-entry n key at es m q λ e i fs j es-is reads is rest. unfold placeAfterAll in rw (← es-is) (view-is w f at (suc n) _ is)
   steps-show (suc n) key at es m q (suc k) =
-      next-entry n key at es m q λ e i fs j es-is is rest.
+      next-entry n key at es m q λ e i fs j es-is reads is rest.
       rw (← es-is, after-more w f at (suc n) k _ (moves at n i e is)) (steps-show n (keyOf e) (at + i) fs j rest k)
+
+  -- step k stands at entry k
+  more-taken : (k : ℕ) (key : Key) (at i : ℕ) (e : Entry) (es : List Entry) (j : ℕ) → readEntry w (be32 f 4) key at (drop at (bodyIn w f)) ≡ good e i
+      → readEntries w (be32 f 4) k (keyOf e) (at + i) (drop (at + i) (bodyIn w f)) ≡ good es j
+      → readEntries w (be32 f 4) (suc k) key at (drop at (bodyIn w f)) ≡ good (e ∷ es) (i + j)
+  unfolding readEntries bind shift
+  more-taken k key at i e es j q r = rw (q, drop-drop i at (bodyIn w f), r) (same-size (omega arith))
+
+  steps-place : (n : ℕ) (key : Key) (at : ℕ) (es : List Entry) (m : ℕ) → readEntries w (be32 f 4) n key at (drop at (bodyIn w f)) ≡ good es m
+      → (k : ℕ) → k ≤ n
+      → (fs : List Entry) × (j : ℕ) × (readEntries w (be32 f 4) k key at (drop at (bodyIn w f)) ≡ good fs j) × (placeAfterAll w f k (placeAt at n) .at ≡ at + j)
+  unfolding placeAfterAll readEntries
+  steps-place n key at es m q zero few = ([], 0, refl, sym (add-zero at))
+  steps-place zero key at es m q (suc k) few = absurd (omega arith)
+  steps-place (suc n) key at es m q (suc k) few =
+      next-entry n key at es m q λ e i gs j es-is reads is rest.
+      let (fs, o, r, p) = steps-place n (keyOf e) (at + i) gs j rest k (omega arith) in
+      (e ∷ fs, i + o, more-taken k key at i e fs o reads r, ap (λ (x : Place). placeAfterAll w f k x .at) (moves at n i e is) ∙ p ∙ omega arith)
+
+  -- so the name that it shows stands where entry k has it
+  pub steps-named : (n : ℕ) (es : List Entry) (m : ℕ) → readEntries w (be32 f 4) n start 12 (drop 12 (bodyIn w f)) ≡ good es m
+      → (k : ℕ) → k ≤ n → namePlace w (placeAfterAll w f k (placeAt 12 n) .at) (bodyIn w f) ≡ entryNamePlace w k f
+  unfolding entryNamePlace entryPlace
+  steps-named n es m q k few =
+      let (fs, j, reads, place) = steps-place n start 12 es m q k few in
+      ap (λ (p : ℕ). namePlace w p (bodyIn w f)) (place ∙ ap (λ (x : Read (List Entry)). 12 + taken x) (sym reads))
 
   -- and n steps show them all
   pub steps-show-all : (n : ℕ) (key : Key) (at : ℕ) (es : List Entry) (m : ℕ) → readEntries w (be32 f 4) n key at (drop at (bodyIn w f)) ≡ good es m
@@ -108,5 +134,5 @@ module _ (w : ℕ) (f : List ℕ) (ok : walkable w f ≡ true) where
   unfolding readEntries walkOver
   steps-show-all zero key at es m q = good-inv _ _ _ _ q λ es-is m-is. rw (← es-is)
   steps-show-all (suc n) key at es m q =
-      next-entry n key at es m q λ e i fs j es-is is rest.
+      next-entry n key at es m q λ e i fs j es-is reads is rest.
       rw (← es-is, moves at n i e is, view-is w f at (suc n) _ is) (ap (λ (l : List (View Entry)). inFile e ∷ l) (steps-show-all n (keyOf e) (at + i) fs j rest))

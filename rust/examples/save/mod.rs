@@ -2,8 +2,13 @@
 //! part. Copy this folder into a program that writes indexes. For Unix; it stands on nothing but the crate.
 //!
 //! The new index is first written to INDEX.lock beside it. That is also Git's own lock: while the file is there, Git
-//! and other users of this code do not change the index. A program that is killed leaves the file behind, as Git does:
-//! it is to be removed by hand, once no other program is at work.
+//! and other users of this code do not change the index.
+//!
+//! A program that is killed, and a device that loses its power, leaves the file behind, as Git does, and nothing removes
+//! it by itself: each save stops with `Locked` for as long as it is there. A client that is the only one to change the
+//! index on its device removes it when it starts, before its first save, and tells its user that the last save was not
+//! finished. Elsewhere a person removes it, once no other program is at work. What stands in it is of no use: the index
+//! beside it is whole.
 
 mod load;
 
