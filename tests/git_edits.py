@@ -264,8 +264,7 @@ def main() -> int:
 
     report = Report()
     program = Program(options.program)
-    if not program.usable():
-        report.test(f"{options.program} is an executable program", False)
+    if not program.usable(report):
         return report.finish()
     session = Session(program.path)
     run(session, report, scenes=(scenes[options.only],) if options.only else git_files.GIT_SCENES)

@@ -545,10 +545,8 @@ def main() -> int:
         return 2
     report = Report()
     program = Program(sys.argv[1])
-    if program.usable():
+    if program.usable(report):
         run(program, report)
-    else:
-        report.test(f"{sys.argv[1]} is an executable program", False)
     return report.finish()
 
 

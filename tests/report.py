@@ -60,8 +60,12 @@ class Program:
     def __init__(self, path: str):
         self.path = os.path.abspath(path)
 
-    def usable(self) -> bool:
-        return os.path.isfile(self.path) and os.access(self.path, os.X_OK)
+    def usable(self, report: "Report") -> bool:
+        """Whether it can be run at all; where it can't, that is a failure."""
+        good = os.path.isfile(self.path) and os.access(self.path, os.X_OK)
+        if not good:
+            report.test(f"{self.path} is an executable program", False)
+        return good
 
     def __call__(self, data: bytes) -> bytes:
         """What the program prints for this input."""

@@ -140,8 +140,7 @@ def main() -> int:
 
     report = Report()
     program = Program(options.program)
-    if not program.usable():
-        report.test(f"{options.program} is an executable program", False)
+    if not program.usable(report):
         return report.finish()
     session = Session(program.path)
     for name in GROUPS:

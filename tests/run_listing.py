@@ -210,8 +210,7 @@ def main() -> int:
 
     report = Report()
     program = Program(options.program)
-    if not program.usable():
-        report.test(f"{options.program} is an executable program", False)
+    if not program.usable(report):
         return report.finish()
     groups = {
         "vectors": lambda: compare(vectors(), program, report, options.jobs),

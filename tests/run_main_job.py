@@ -202,8 +202,7 @@ def main() -> int:
 
     report = Report()
     program = Program(options.program)
-    if not program.usable():
-        report.test(f"{options.program} is an executable program", False)
+    if not program.usable(report):
         return report.finish()
     for group in (progress, failures, inputs, wrong_use):
         with tempfile.TemporaryDirectory() as folder:

@@ -19,6 +19,7 @@ use Rattle.format.specs.Names.{componentsFrom, components, okComponent, okCompo
 use Rattle.format.specs.Layout.{okMode, fixedLength, entryLength, flagsOf, wordOf, okNodeName, has, distinct, under, inside, files, allValid, sum, okCount, okCounts, okTreeCounts, modeText, someStage, optional, trees, undos, names, Spells}
 use Rattle.format.specs.Reading.{good, need, shift, bind}
 use Rattle.format.specs.Reader.{isSet, okWord, plainLength, readPlain, readN, joined, readSuffix, readPacked, readName, entryOf, readTail, readFixed, readEntry, readEntries, readText, countIn, needSome, readCount, readSubtrees, readObject, readNode, readSiblings, readForest, readNodes, readTree, modeIn, readMode, readStage, readStages, readUndo, readUndos, readData, readExtension, readExtensions, Contents, readBody, readFile}
+use Rattle.format.proofs.Cases.{a-b, a/b, a/c}
 use Rattle.format.specs.Records.{Records, Entry, modeOf, Key, valid, Node, nil, tree, Undo, width, items, treeItems}
 use Rattle.format.specs.Writer.{needsWord, writePlain, writePacked, writeName, writeRest, writeEntry, writeEntries, digitsOf, decimalOf, writeCount, writeObject, writeNode, writeForest, writeTree, writeStage, writeUndo, writeUndos, writeExtension, writeCacheTree, writeResolveUndo, writeExtensions, writeHeader, writeBody, writeFile}
 use Rattle.format.specs.Requests.{goesBefore, sameKey, putEntry, removeEntry, holds, invalidNode, invalidWay, invalidTree, invalidCacheTree, putRecord, removeRecord, anyWord, okAsked, versionFor, fitting, writing, rewriteRequest, putRequest, removeRequest}
@@ -114,15 +115,6 @@ unfolding closed loose tight
 loose-rewritten = refl
 
 -- ---- a cache tree and resolve undo
-
-abbrev a-b : List ℕ
-a-b = 97 ∷ 45 ∷ 98 ∷ []
-
-abbrev a/b : List ℕ
-a/b = 97 ∷ 47 ∷ 98 ∷ []
-
-abbrev a/c : List ℕ
-a/c = 97 ∷ 47 ∷ 99 ∷ []
 
 -- the bytes of an entry of version 2
 abbrev plain : ℕ → List ℕ → List ℕ

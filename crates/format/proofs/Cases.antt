@@ -16,13 +16,13 @@ use Rattle.format.specs.Requests.{goesBefore, sameKey, putEntry, invalid
 use Rattle.format.proofs.Examples.{hash, fileEntry}
 
 -- the names of the entries
-abbrev a-b : List ℕ
+abbrev pub a-b : List ℕ
 a-b = 97 ∷ 45 ∷ 98 ∷ []
 
-abbrev a/b : List ℕ
+abbrev pub a/b : List ℕ
 a/b = 97 ∷ 47 ∷ 98 ∷ []
 
-abbrev a/c : List ℕ
+abbrev pub a/c : List ℕ
 a/c = 97 ∷ 47 ∷ 99 ∷ []
 
 -- the root "3 1" and "a" "2 0", and the bytes that say so

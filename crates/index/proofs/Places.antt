@@ -11,33 +11,24 @@ use Rattle.format.specs.Bytes.{be32}
 use Rattle.format.specs.Records.{Entry}
 use Rattle.format.specs.Layout.{TREE, REUC}
 use Rattle.format.specs.Reading.{Read, good}
-use Rattle.format.specs.Reader.{Contents, readBody, readFile}
+use Rattle.format.specs.Reader.{Contents, readFile}
 use Rattle.format.specs.Places.{bodyIn, taken, entryPlace, namePlace, entryNamePlace, dataPlace, dataIn, dataOf, nodeStart, nodePlace, undoStart, undoPlace}
 use Rattle.format_laws.proofs.Numbers.{be32-take}
-use Rattle.format_laws.proofs.Readings.{good-inv, need-inv, shift-inv, bind-inv}
 use Rattle.hash.specs.Sha1.{sha1}
 use Rattle.file_contents.specs.declared.Parts.{Parts}
 use Rattle.file_contents.specs.Contents.{bodyOf, inRoom, Contains}
 use Rattle.file_contents.proofs.Room.{in-room, room-of}
+use Rattle.file_contents.proofs.Files.{file-says}
 
 -- the version and the byte where entries end, of a file that was read
 module _ (w : ℕ) (hash : List ℕ → List ℕ) (f : List ℕ) (c : Contents) (m : ℕ) where
   read-places : readFile w hash f ≡ good c m → (c .version ≡ be32 f 4) × (c .end ≡ entryPlace w (be32 f 4) (be32 f 8) (bodyIn w f))
-  unfolding readFile readBody entryPlace
+  unfolding entryPlace
   read-places q =
-      need-inv _ _ _ _ _ _ q λ long q₁.
-      need-inv _ _ _ _ _ _ q₁ λ short q₂.
-      need-inv _ _ _ _ _ _ q₂ λ signed q₃.
-      need-inv _ _ _ _ _ _ q₃ λ known q₄.
-      need-inv _ _ _ _ _ _ q₄ λ right q₅.
-      shift-inv _ _ _ _ q₅ λ i q₆ i-is.
-      bind-inv _ _ _ _ q₆ λ es a b q₇ q₈ b-is.
-      bind-inv _ _ _ _ q₈ λ xs d e q₉ q₁₀ e-is.
-      good-inv _ _ _ _ q₁₀ λ c-is d-is.
-      let fits : 8 + 4 ≤ length f - w = omega (arith, leb-true (12 + w) (length f) long) in
+      let h = file-says w hash f c m q in
+      let fits : 8 + 4 ≤ length f - w = omega (arith, leb-true (12 + w) (length f) (h .long)) in
       let count : be32 (bodyIn w f) 8 ≡ be32 f 8 = be32-take f (length f - w) 8 fits in
-      let end : 12 + a ≡ c .end = ap (λ (x : Contents). x .end) c-is in
-      (sym (ap (λ (x : Contents). x .version) c-is), sym end ∙ ap (λ (x : Read (List Entry)). 12 + taken x) (sym (rw count at q₇)))
+      (h .version, h .end ∙ ap (λ (x : Read (List Entry)). 12 + taken x) (sym (rw count at (h .entries))))
 
 module _ (wn wr : ℕ) (work f : List ℕ) (parts : Parts) (h : Contains wn wr (inRoom work (readFile 20 sha1 f)) (bodyOf f) parts) where
   read : readFile 20 sha1 f ≡ good (h .contents) (h .taken)

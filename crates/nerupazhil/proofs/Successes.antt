@@ -14,9 +14,11 @@ use Rattle.format.specs.Reading.{Read, bad, good}
 use Rattle.format.specs.Reader.{Contents, readEntry, readFile}
 use Rattle.hash.specs.Sha1.{sha1}
 use Rattle.file.specs.declared.Summary.{Summary}
+use Rattle.file.specs.declared.Checked.{Checked}
 use Rattle.file.specs.declared.Checked.the-variants as K
 use Rattle.file.specs.Answers.{View, refused, inFile, inWorkspace, tooSmall, given, pick, listed, itemsOf, entryOf, nodeOf, undoOf, checkedOf, checkAnswer, entryAnswer, nodeAnswer, undoAnswer}
 use Rattle.file.specs.Writing.{requested, answered, rewriteAnswer, putAnswer, removeAnswer}
+use Rattle.walk.specs.declared.Started.{Started}
 use Rattle.walk.specs.declared.Started.the-variants as T
 use Rattle.format.specs.Places.{bodyIn}
 use Rattle.walk.specs.Walks.{or18, viewIn, walkRead, walkAnswer, startedOf, startAnswer}
@@ -122,26 +124,18 @@ module _ (work f : List ℕ) where
       by false (good c m) h n p e = ready (eqb (c .version) 4) (length (c .records .entries)) n p e
 
   pub check-success : checkReply (checkAnswer work (readFile 20 sha1 f)) .refusal ≡ 0 → (s : Summary) × (checkAnswer work (readFile 20 sha1 f) ≡ K.Accepted s)
-  unfolding checkAnswer
-  check-success = by (tooSmall work) (readFile 20 sha1 f) (file-numbered 20 sha1 f)
+  check-success = by (checkAnswer work (readFile 20 sha1 f)) check-positive
     where
-      by : (t : Bool) (x : Read Contents) → Numbered x → checkReply (cond t (K.Refused 19 0) (checkedOf x)) .refusal ≡ 0 → (s : Summary) × (cond t (K.Refused 19 0) (checkedOf x) ≡ K.Accepted s)
-      by true x h e = absurd (omega arith)
-      by false (bad n p) h e = let z : 0 < n = h .positive n p refl in absurd (omega arith)
-      by false (good c m) h e = (_, refl)
+      by : (x : Checked) → ((n p : ℕ) → x ≡ K.Refused n p → 0 < n) → checkReply x .refusal ≡ 0 → (s : Summary) × (x ≡ K.Accepted s)
+      by (K.Refused n p) h e = let z : 0 < n = h n p refl in absurd (omega arith)
+      by (K.Accepted s) h e = (s, refl)
 
   pub start-success : startReply (startAnswer work (readFile 20 sha1 f)) .refusal ≡ 0 → (n : ℕ) × (startAnswer work (readFile 20 sha1 f) ≡ T.Ready n)
-  unfolding startAnswer
-  start-success = by (tooSmall work) (readFile 20 sha1 f) (file-numbered 20 sha1 f)
+  start-success = by (startAnswer work (readFile 20 sha1 f)) start-positive
     where
-      ready : (t : Bool) (n : ℕ) → startReply (cond t (T.Refused 4 0) (T.Ready n)) .refusal ≡ 0 → (i : ℕ) × (cond t (T.Refused 4 0) (T.Ready n) ≡ T.Ready i)
-      ready true n e = absurd (omega arith)
-      ready false n e = (n, refl)
-
-      by : (t : Bool) (x : Read Contents) → Numbered x → startReply (cond t (T.Refused 19 0) (startedOf x)) .refusal ≡ 0 → (n : ℕ) × (cond t (T.Refused 19 0) (startedOf x) ≡ T.Ready n)
-      by true x h e = absurd (omega arith)
-      by false (bad n p) h e = let z : 0 < n = h .positive n p refl in absurd (omega arith)
-      by false (good c m) h e = ready (eqb (c .version) 4) (length (c .records .entries)) e
+      by : (x : Started) → ((n p : ℕ) → x ≡ T.Refused n p → 0 < n) → startReply x .refusal ≡ 0 → (n : ℕ) × (x ≡ T.Ready n)
+      by (T.Refused n p) h e = let z : 0 < n = h n p refl in absurd (omega arith)
+      by (T.Ready n) h e = (n, refl)
 
 -- ---- the calls that write
 

@@ -2,7 +2,7 @@
 use mathlib.Core.Path.{_≡_, refl, ap, _∙_}
 use mathlib.Core.List.{List}
 use mathlib.Core.Bool.{true, false, _&&_, _||_}
-use Prim.Native.Nat.{ℕ, _-_}
+use Prim.Native.Nat.{ℕ}
 use native.Mathlib.Omega.{arith}
 use lib.ListN.{length, drop, getElem?}
 use lib.Dec.{eqb, leb}
@@ -10,13 +10,13 @@ use borrow.Author.Tests.{eq-eqb, eqb-false, leb-true}
 use Rattle.format.specs.Bytes.{be32}
 use Rattle.format.specs.Records.{start}
 use Rattle.format.specs.Reading.{Read, bad, good}
-use Rattle.format.specs.Reader.{Contents, readEntries, readBody, readFile}
+use Rattle.format.specs.Reader.{Contents, readEntries, readFile}
 use Rattle.format.specs.Places.{bodyIn}
 use Rattle.format_laws.proofs.Tests.{by-test, and-inv, and-both, cond-inv}
-use Rattle.format_laws.proofs.Readings.{good-inv, need-inv, shift-inv, bind-inv}
 use Rattle.hash.specs.Sha1.{sha1}
 use Rattle.file.specs.Answers.{tooSmall, pick, given, entryAnswer}
 use Rattle.file.proofs.Laws.{item-none}
+use Rattle.file_contents.proofs.Files.{file-says}
 use Rattle.file_contents.proofs.Bodies.{entries-length}
 use Rattle.walk.specs.declared.Started.the-variants.{Refused, Ready}
 use Rattle.walk.specs.Walks.{startedOf, startAnswer, walkable}
@@ -35,21 +35,11 @@ module _ (w : ℕ) (hash : List ℕ → List ℕ) (f : List ℕ) where
   file-read : {X : Type 0} (c : Contents) (m : ℕ) → readFile w hash f ≡ good c m → eqb (c .version) 4 ≡ false
       → (walkable w f ≡ true → (j : ℕ)
       → readEntries w (be32 f 4) (length (c .records .entries)) start 12 (drop 12 (bodyIn w f)) ≡ good (c .records .entries) j → X) → X
-  unfolding readFile readBody walkable
+  unfolding walkable
   file-read c m q old g =
-      need-inv _ _ _ _ _ _ q λ long q₁.
-      need-inv _ _ _ _ _ _ q₁ λ short q₂.
-      need-inv _ _ _ _ _ _ q₂ λ signed q₃.
-      need-inv _ _ _ _ _ _ q₃ λ known q₄.
-      need-inv _ _ _ _ _ _ q₄ λ right q₅.
-      shift-inv _ _ _ _ q₅ λ i q₆ i-is.
-      bind-inv _ _ _ _ q₆ λ es a b q₇ q₈ b-is.
-      bind-inv _ _ _ _ q₈ λ xs d e q₉ q₁₀ e-is.
-      good-inv _ _ _ _ q₁₀ λ c-is d-is.
-      let version : be32 f 4 ≡ c .version = ap (λ (x : Contents). x .version) c-is in
-      let entries : es ≡ c .records .entries = ap (λ (x : Contents). x .records .entries) c-is in
-      let count : length es ≡ be32 (bodyIn w f) 8 = entries-length w (be32 f 4) (be32 (bodyIn w f) 8) start 12 (drop 12 (bodyIn w f)) es a q₇ in
-      g (and-both _ _ long (and-both _ _ signed (two-or-three (be32 f 4) known (rw version old)))) a (rw (← entries, count) q₇)
+      let h = file-says w hash f c m q in
+      let count = entries-length w (be32 f 4) (be32 (bodyIn w f) 8) start 12 (drop 12 (bodyIn w f)) (c .records .entries) (h .size) (h .entries) in
+      g (and-both _ _ (h .long) (and-both _ _ (h .signed) (two-or-three (be32 f 4) (h .known) (rw (← (h .version)) old)))) (h .size) (rw count (h .entries))
 
 -- a walk starts
 started-inv : {X : Type 0} (x : Read Contents) (n : ℕ) → startedOf x ≡ Ready n
