@@ -84,7 +84,8 @@ module _ (w : ℕ) (hash : List ℕ → List ℕ) (work : List ℕ) where
         (entry k f ≡ pick (eqb (c .version) 4) (getElem? (c .records .entries) k))
         × (node k f ≡ listed (itemsOf (c .records .cacheTree)) k)
         × (undo k f ≡ listed (c .records .resolveUndo) k))
-    -- what is written is the one file that document 01 names, and reading it gives the same records
+    -- what is written is the one file that document 01 names, with the smallest N at each entry, and reading it gives the same records: WritesBack
+    -- says so of whatever a call writes, by OneFile
     pub rewritten : (f : List ℕ) (asked room : ℕ) → Bytes f → WritesBack w hash f asked (λ r. r) (rewrite asked room f)
     -- a record has ten numbers of 32 bits and an object name of w bytes: by its type, so that the promise of put says the same of every record
     pub put-in :
