@@ -6,7 +6,7 @@ use Prim.Native.Nat.{ℕ, zero, suc, _+_}
 use lib.ListN.{length, take, drop}
 use Rattle.format.specs.Bytes.{eqList, before}
 use Rattle.format.specs.Records.{Forest, nil, tree}
-use Rattle.format.specs.Reading.{Read, bad, good}
+use Rattle.format.specs.Reading.{good}
 use Rattle.format.specs.Reader.{Head, readNode}
 use Rattle.format.specs.Places.{onNode}
 

@@ -1,5 +1,5 @@
 -- The proofs of the demands on what is written: the laws of crate writing, for the answers of the calls.
-use mathlib.Core.Path.{_≡_, refl, sym}
+use mathlib.Core.Path.{_≡_, sym}
 use mathlib.Core.Bool.{Bool, true, false, cond}
 use mathlib.Core.List.{List}
 use Prim.Native.Nat.{ℕ}

@@ -17,7 +17,7 @@ use Rattle.format_laws.proofs.Readings.{need-inv, shift-inv, bind-inv}
 use Rattle.entries.specs.declared.Head.{Head}
 use Rattle.entries.specs.declared.Fixed.the-variants as F
 use Rattle.entries.specs.Answers.{readHead, fixedOf, Size, HeadPassed}
-use Rattle.entries.proofs.Before.{head-size, readEntry-bad, readEntry-good, entry-head, head-place, bad-head}
+use Rattle.entries.proofs.Before.{readEntry-bad, readEntry-good, entry-head, head-place, bad-head}
 use Rattle.entries_run.specs.declared.Cursor.{Cursor}
 use Rattle.entries_run.specs.declared.Step.{Step}
 use Rattle.entries_run.specs.declared.Next.{Next}

@@ -5,7 +5,7 @@ use mathlib.Core.Bool.{Bool, true, false, cond}
 use mathlib.Core.Option.{Option, none, some}
 use Prim.Native.Nat.{ℕ, zero, suc, _-_, _≤_, _<_}
 use native.Mathlib.Omega.{arith}
-use lib.ListN.{length, drop, getD, getElem?, length-take}
+use lib.ListN.{length, getD, getElem?, length-take}
 use Rattle.format.specs.Records as F
 use Rattle.format.specs.Reading.{Read, bad}
 use Rattle.format.specs.Reader.{Contents}

@@ -9,7 +9,6 @@ use lib.Dec.{eqb, leb}
 use borrow.Author.Tests.{eq-eqb, leb-true, ltb-true, not-true}
 use Rattle.format.specs.Bytes.{fit32}
 use Rattle.format.specs.Records.{Entry, Key, Records}
-use Rattle.format.specs.Layout.{Spells}
 use Rattle.format.specs.Reading.{good}
 use Rattle.format.specs.Reader.{readFile}
 use Rattle.format.specs.Writer.{writeEntries, writeBody, writeFile}
@@ -17,7 +16,7 @@ use Rattle.format.specs.Requests.{putRecord, removeRecord, anyWord, okAsked, ve
 use Rattle.format_laws.proofs.Tests.{and-inv, by-test, by-cond}
 use Rattle.format_laws.proofs.Readings.{good-inv, need-inv}
 use Rattle.writing.specs.Sound.{SoundEntry, Sound, Writable}
-use Rattle.writing.specs.OneFile.{OneFile, WritesBack}
+use Rattle.writing.specs.OneFile.{OneFile}
 use Rattle.writing.proofs.File.{written-spelled, read-written}
 use Rattle.writing.proofs.Edits.{put-sound, remove-sound}
 use Rattle.writing.proofs.Smallest.{smallest}

@@ -1,5 +1,4 @@
 -- The proof that `pass_entry` meets its contract.
-use mathlib.Core.Path.{refl}
 use borrow.Author.Needs.{needs}
 use Rattle.format_laws.proofs.Tests.{false-true}
 use Rattle.entries_run.proofs.pass_entry.Statement.{statement}

@@ -2,7 +2,7 @@
 use mathlib.Core.Path.{_≡_, sym, ap, _∙_}
 use native.Mathlib.Omega.{arith}
 use borrow.Author.Needs.{needs}
-use Rattle.entries.specs.Answers.{textLength, textTaken}
+use Rattle.entries.specs.Answers.{textTaken}
 use Rattle.entries.proofs.Names.{plain-cut}
 use Rattle.entries_run.proofs.PlainRests.{Compared, named-begun, plain-bad, plain-order, plain-good}
 use Rattle.entries_run.proofs.plain.Statement.{statement}

@@ -1,10 +1,8 @@
 -- The proof that `five_typed` meets its contract.
 use mathlib.Core.Path.{_≡_, refl}
-use mathlib.Core.List.{[], _∷_}
 use mathlib.Core.Bool.{true}
 use native.Mathlib.Omega.{arith}
 use lib.Dec.{ltb}
-use Prim.Native.Nat.{ℕ}
 use borrow.Author.Tests.{lt-ltb}
 use Rattle.format.specs.Bytes.{fit32}
 use Rattle.index_write.proofs.five_typed.Statement.{statement}
