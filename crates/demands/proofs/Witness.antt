@@ -19,6 +19,7 @@ use Rattle.format.specs.Names.{componentsFrom, components, okComponent, okCompo
 use Rattle.format.specs.Layout.{okMode, fixedLength, entryLength, flagsOf, wordOf, okNodeName, has, distinct, under, inside, files, allValid, sum, okCount, okCounts, okTreeCounts, modeText, someStage, optional, trees, undos, names, Spells}
 use Rattle.format.specs.Reading.{good, need, shift, bind}
 use Rattle.format.specs.Reader.{isSet, okWord, plainLength, readPlain, readN, joined, readSuffix, readPacked, readName, entryOf, readTail, readFixed, readEntry, readEntries, readText, countIn, needSome, readCount, readSubtrees, readObject, readNode, readSiblings, readForest, readNodes, readTree, modeIn, readMode, readStage, readStages, readUndo, readUndos, readData, readExtension, readExtensions, Contents, readBody, readFile}
+use Rattle.format.specs.Places.{entryPlace, namePlace, entryNamePlace, dataFrom, dataPlace, dataIn, dataOf, nodeStart, nodePlace, afterUndo, undoStart, undoPlace}
 use Rattle.format.proofs.Cases.{a-b, a/b, a/c}
 use Rattle.format.specs.Records.{Records, Entry, modeOf, Key, valid, Node, nil, tree, Undo, width, items, treeItems}
 use Rattle.format.specs.Writer.{needsWord, writePlain, writePacked, writeName, writeRest, writeEntry, writeEntries, digitsOf, decimalOf, writeCount, writeObject, writeNode, writeForest, writeTree, writeStage, writeUndo, writeUndos, writeExtension, writeCacheTree, writeResolveUndo, writeExtensions, writeHeader, writeBody, writeFile}
@@ -189,6 +190,16 @@ full-shown :
     × (undo 20 sha1 work 0 full ≡ inFile plan)
 unfolding closed
 full-shown = (ap (checkAnswer work) full-read, ap (nodeAnswer work 1) full-read, ap (undoAnswer work 0) full-read)
+
+-- where the names of its entries stand, its two nodes and its record
+full-places :
+    (entryNamePlace 20 0 full ≡ 74)
+    × (entryNamePlace 20 2 full ≡ 218)
+    × (nodePlace 20 0 full ≡ 236)
+    × (nodePlace 20 1 full ≡ 261)
+    × (undoPlace 20 0 full ≡ 295)
+unfolding closed full entryPlace namePlace entryNamePlace dataFrom dataPlace dataIn dataOf nodeStart nodePlace afterUndo undoStart undoPlace
+full-places = (refl, refl, refl, refl, refl)
 
 -- a/c is put with another object name: "-1 1" and "-1 0"
 full-put : List ℕ
