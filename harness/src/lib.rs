@@ -3,6 +3,8 @@
 
 #![deny(warnings)]
 
+pub mod comparison;
+pub mod edits;
 pub mod ffi;
 pub mod hostile;
 pub mod index_file;

@@ -1,7 +1,8 @@
-//! The vectors of `tests/vectors`, which are made and answered by other programs.
+//! The vectors of `tests/vectors`, and folders like it: files that are made and answered by other programs.
 
+use crate::ffi::CheckReply;
 use std::fs;
-use std::path::PathBuf;
+use std::path::{Path, PathBuf};
 
 /// A file and what check answers, in the words of the vectors' table.
 pub struct Vector {
@@ -10,27 +11,57 @@ pub struct Vector {
     pub expected: String,
 }
 
-/// One of the files.
+/// One of the files of `tests/vectors`.
 pub fn file(name: &str) -> Vec<u8> {
-    let folder = PathBuf::from(env!("CARGO_MANIFEST_DIR")).join("../tests/vectors");
+    load(&folder(), name)
+}
+
+/// All of `tests/vectors`.
+pub fn all() -> Vec<Vector> {
+    let vectors = of(&folder());
+    assert!(vectors.len() > 100);
+    vectors
+}
+
+/// All of a folder, whose table `expected.tsv` has a name and an answer in each row.
+pub fn of(folder: &Path) -> Vec<Vector> {
+    let table = String::from_utf8(load(folder, "expected.tsv")).expect("a table in UTF-8");
+    let rows = table.lines().map(|row| row.split_once('\t'));
+    rows.map(|row| row.expect("a name and an answer"))
+        .map(|(name, expected)| Vector {
+            name: name.to_string(),
+            file: load(folder, name),
+            expected: expected.to_string(),
+        })
+        .collect()
+}
+
+fn folder() -> PathBuf {
+    PathBuf::from(env!("CARGO_MANIFEST_DIR")).join("../tests/vectors")
+}
+
+fn load(folder: &Path, name: &str) -> Vec<u8> {
     match fs::read(folder.join(name)) {
         Ok(bytes) => bytes,
         Err(error) => panic!("{name}: {error}"),
     }
 }
 
-/// All of them.
-pub fn all() -> Vec<Vector> {
-    let table = String::from_utf8(file("expected.tsv")).expect("a table in UTF-8");
-    let rows = table.lines().map(|row| row.split_once('\t'));
-    let vectors: Vec<_> = rows
-        .map(|row| row.expect("a name and an answer"))
-        .map(|(name, expected)| Vector {
-            name: name.to_string(),
-            file: file(name),
-            expected: expected.to_string(),
-        })
-        .collect();
-    assert!(vectors.len() > 100);
-    vectors
+/// An answer of check in the words of the table.
+pub fn words(reply: &CheckReply) -> String {
+    let count = |there: bool, n: u32| match there {
+        true => n.to_string(),
+        false => "absent".to_string(),
+    };
+    if reply.refusal > 0 {
+        return format!("refused {} at {}", reply.refusal, reply.place);
+    }
+    format!(
+        "accepted version {} entries {} end {} nodes {} records {}",
+        reply.version,
+        reply.entries,
+        reply.end,
+        count(reply.has_tree, reply.nodes),
+        count(reply.has_undo, reply.records)
+    )
 }

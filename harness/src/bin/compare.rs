@@ -1,29 +1,31 @@
-//! Compares the proved library with an independent one on made inputs: every call, with several requests for each
-//! input. Replies, workspaces and outputs must be equal, byte for byte, and what was not lent must stay.
+//! Compares the proved library with an independent one: every call, with several requests for each input. Replies,
+//! workspaces and outputs must be equal, byte for byte, and what was not lent must stay.
 //!
 //!     compare [--heap] [SEED [COUNT [FIRST]]]
+//!     compare --files FOLDER
 //!
-//! takes COUNT inputs of a seed from number FIRST on: seed 1, 10,000 inputs and number 0 where they are not told. With
-//! --heap everything is lent from the heap in its exact size, for valgrind. A call that touches a page without access
-//! ends the program by a signal; FIRST and COUNT then find the input. The last line is 'N passed, M failed', and
-//! the exit status is 0 only where M is 0.
+//! takes COUNT made inputs of a seed from number FIRST on: seed 1, 10,000 inputs and number 0 where they are not told.
+//! With --heap everything is lent from the heap in its exact size, for valgrind. With --files it takes the files of a
+//! folder that is laid out as `tests/vectors`, with check's answers. A call that touches a page without access ends the
+//! program by a signal; FIRST and COUNT then find the input. The last line is 'N passed, M failed', and the exit status
+//! is 0 only where M is 0.
 
 #![deny(warnings)]
 
-use harness::ffi::{self, CheckReply, EntryReply, NodeReply, StartReply, StepReply};
-use harness::ffi::{UndoReply, WriteReply, DIGEST, WORKSPACE};
-use harness::index_file::LARGEST;
+use harness::comparison::{Comparison, Reply};
+use harness::ffi::{CheckReply, WriteReply, WORKSPACE};
 use harness::inputs::requests::{self, Call};
 use harness::inputs::{self, Input, Kind};
-use harness::lent::{Edge, Lent, Place};
+use harness::lent::{Edge, Place};
 use harness::random::Random;
-use harness::{opponent, plain};
+use harness::vectors::{self, Vector};
 use std::collections::BTreeMap;
 use std::env;
 use std::fmt;
 use std::fs;
 use std::ops::Range;
 use std::panic::{catch_unwind, AssertUnwindSafe};
+use std::path::Path;
 use std::process::exit;
 use std::thread;
 use std::time::Instant;
@@ -39,7 +41,7 @@ fn main() {
     let run = match Run::new(&env::args().skip(1).collect::<Vec<_>>()) {
         Some(run) => run,
         None => {
-            eprintln!("usage: compare [--heap] [SEED [COUNT [FIRST]]]");
+            eprintln!("usage: compare [--heap] [SEED [COUNT [FIRST]]], or compare --files FOLDER");
             exit(2);
         }
     };
@@ -47,7 +49,7 @@ fn main() {
     let counts = run.counts();
     counts.print();
     println!("{run} in {:.1} s", start.elapsed().as_secs_f64());
-    let missed = match run.count >= COVERING {
+    let missed = match run.count >= COVERING && run.files.is_empty() {
         true => counts.missed(),
         false => 0,
     };
@@ -61,6 +63,8 @@ fn main() {
 /// Which inputs are taken, and where everything is lent.
 struct Run {
     place: Place,
+    /// The inputs, where they are not made of a seed.
+    files: Vec<Vector>,
     seed: u64,
     count: u64,
     first: u64,
@@ -68,26 +72,38 @@ struct Run {
 
 impl Run {
     fn new(words: &[String]) -> Option<Self> {
-        let place = match words.first().map_or(false, |word| word == "--heap") {
-            true => Place::Heap,
-            false => Place::Pages,
-        };
-        let words = &words[usize::from(place == Place::Heap)..];
+        match words {
+            [option, folder] if option == "--files" => {
+                let files = vectors::of(Path::new(folder));
+                let count = files.len() as u64;
+                Some(Self::of(Place::Pages, files, [1, count, 0]))
+            }
+            [option, words @ ..] if option == "--heap" => Self::seeded(Place::Heap, words),
+            _ => Self::seeded(Place::Pages, words),
+        }
+    }
+
+    fn seeded(place: Place, words: &[String]) -> Option<Self> {
         let numbers: Result<Vec<u64>, _> = words.iter().map(|word| word.parse()).collect();
-        let (seed, count, first) = match numbers.ok()?[..] {
-            [] => (1, COVERING, 0),
-            [seed] => (seed, COVERING, 0),
-            [seed, count] => (seed, count, 0),
-            [seed, count, first] => (seed, count, first),
+        let numbers = match numbers.ok()?[..] {
+            [] => [1, COVERING, 0],
+            [seed] => [seed, COVERING, 0],
+            [seed, count] => [seed, count, 0],
+            [seed, count, first] => [seed, count, first],
             _ => return None,
         };
-        first.checked_add(count)?;
-        Some(Self {
+        numbers[1].checked_add(numbers[2])?;
+        Some(Self::of(place, Vec::new(), numbers))
+    }
+
+    fn of(place: Place, files: Vec<Vector>, [seed, count, first]: [u64; 3]) -> Self {
+        Self {
             place,
+            files,
             seed,
             count,
             first,
-        })
+        }
     }
 
     /// Takes all inputs, with a thread for each processor. On the heap there is one: valgrind runs no two at a time.
@@ -109,24 +125,38 @@ impl Run {
     }
 
     fn share(&self, numbers: Range<u64>) -> Counts {
-        let mut comparison = Comparison::new(self.place);
+        let mut questions = Questions {
+            comparison: Comparison::new(self.place),
+            counts: Counts::default(),
+        };
         for number in numbers {
-            let input = inputs::input(self.seed, number);
+            let (input, expected) = self.input(number);
             let random = Random::of(self.seed, !number);
-            let compared = AssertUnwindSafe(|| comparison.input(&input, random));
+            let compared = AssertUnwindSafe(|| questions.input(&input, expected, random));
             let result = catch_unwind(compared);
             if let Err(why) = result.unwrap_or(Err("a panic".to_string())) {
-                comparison.counts.failed += 1;
-                if comparison.counts.failed <= TOLD {
+                questions.counts.failed += 1;
+                if questions.counts.failed <= TOLD {
                     self.tell(number, &input.bytes, &why);
                 }
             }
         }
-        comparison.counts
+        questions.counts
+    }
+
+    /// An input, and check's answer in words where it is known.
+    fn input(&self, number: u64) -> (Input, Option<&str>) {
+        match self.files.get(number as usize) {
+            None => (inputs::input(self.seed, number), None),
+            Some(stored) => (inputs::stored(&stored.file), Some(&stored.expected)),
+        }
     }
 
     /// Tells a failure and keeps its input.
     fn tell(&self, number: u64, input: &[u8], why: &str) {
+        if let Some(stored) = self.files.get(number as usize) {
+            return println!("FAILED: {}: {why}", stored.name);
+        }
         let seed = self.seed;
         let path = env::temp_dir().join(format!("compare-{seed}-{number}.index"));
         let kept = match fs::write(&path, input) {
@@ -140,134 +170,61 @@ impl Run {
 impl fmt::Display for Run {
     fn fmt(&self, f: &mut fmt::Formatter) -> fmt::Result {
         let (seed, count, first) = (self.seed, self.count, self.first);
-        write!(f, "{count} inputs of seed {seed} from number {first} on")
-    }
-}
-
-// ---- replies of both
-
-#[derive(Debug, PartialEq)]
-enum Reply {
-    Check(CheckReply),
-    Entry(EntryReply),
-    Node(NodeReply),
-    Undo(UndoReply),
-    Write(WriteReply),
-    Start(StartReply),
-    Step(StepReply),
-    Digest([u8; DIGEST]),
-}
-
-impl Reply {
-    fn refusal(&self) -> u32 {
-        match self {
-            Self::Check(reply) => reply.refusal,
-            Self::Entry(reply) => reply.refusal,
-            Self::Node(reply) => reply.refusal,
-            Self::Undo(reply) => reply.refusal,
-            Self::Write(reply) => reply.refusal,
-            Self::Start(reply) => reply.refusal,
-            Self::Step(reply) => reply.refusal,
-            Self::Digest(_) => 0,
+        match self.files.is_empty() {
+            true => write!(f, "{count} inputs of seed {seed} from number {first} on"),
+            false => write!(f, "{count} files"),
         }
     }
 }
 
-/// A function that answers a call by the functions of a module, and with a given SHA-1.
-macro_rules! answers {
-    ($function:ident, $module:ident, $sha1:path) => {
-        fn $function(call: &Call, file: &[u8], name: &[u8], side: &mut Side) -> Reply {
-            let (work, out) = (side.work.bytes_mut(), side.out.bytes_mut());
-            match *call {
-                Call::Check => Reply::Check($module::check(file, work)),
-                Call::Entry(k) => Reply::Entry($module::entry(file, work, k)),
-                Call::TreeNode(k) => Reply::Node($module::tree_node(file, work, k)),
-                Call::UndoRecord(k) => Reply::Undo($module::undo_record(file, work, k)),
-                Call::Rewrite(asked) => Reply::Write($module::rewrite(file, work, out, asked)),
-                Call::Put(asked, _, fields) => {
-                    Reply::Write($module::put(file, work, out, asked, name, fields))
-                }
-                Call::Remove(asked, _, stage) => {
-                    Reply::Write($module::remove(file, work, out, asked, name, stage))
-                }
-                Call::WalkStart => Reply::Start($module::walk_start(file, work)),
-                Call::WalkNext(at, left) => Reply::Step($module::walk_next(file, at, left)),
-                Call::Sha1 => Reply::Digest($sha1(file)),
-            }
-        }
-    };
-}
+// ---- the questions
 
-answers!(proved, ffi, ffi::sha1);
-answers!(independent, opponent, plain::sha1);
-
-// ---- the comparison
-
-/// What one of the two may write to.
-struct Side {
-    work: Lent,
-    out: Lent,
-}
-
-impl Side {
-    fn new(place: Place) -> Self {
-        Self {
-            work: Lent::new("workspace", place, 10_000),
-            out: Lent::new("output", place, LARGEST + 100),
-        }
-    }
-
-    fn blank(&mut self, work: usize, room: usize, edge: Edge) {
-        self.work.blank(work, edge);
-        self.out.blank(room, edge);
-    }
-}
-
-struct Comparison {
-    file: Lent,
-    name: Lent,
-    ours: Side,
-    theirs: Side,
-    edge: Edge,
+/// What a thread asks both libraries, and what it met.
+struct Questions {
+    comparison: Comparison,
     counts: Counts,
 }
 
-impl Comparison {
-    fn new(place: Place) -> Self {
-        Self {
-            file: Lent::new("file", place, LARGEST + 100),
-            name: Lent::new("name", place, LARGEST),
-            ours: Side::new(place),
-            theirs: Side::new(place),
-            edge: Edge::End,
-            counts: Counts::default(),
-        }
-    }
-
-    /// Asks both everything about an input.
-    fn input(&mut self, input: &Input, mut random: Random) -> Result<(), String> {
+impl Questions {
+    /// Asks everything about an input.
+    fn input(
+        &mut self,
+        input: &Input,
+        expected: Option<&str>,
+        mut random: Random,
+    ) -> Result<(), String> {
         let random = &mut random;
-        let edge = *random.pick(&[Edge::Start, Edge::End]);
-        self.file.read_only(&input.bytes, edge);
-        self.name.read_only(b"", edge);
-        let checked = match self.both(&Call::Check, WORKSPACE, 0)? {
-            Reply::Check(checked) => checked,
-            _ => return Err("check has another reply".to_string()),
-        };
+        self.lend(random, &input.bytes, b"");
+        let checked = self.check()?;
         self.counts.input(input.kind, checked.refusal == 0);
         if input.sound && checked.refusal > 0 {
             return Err(format!("a sound file is refused: {checked:?}"));
         }
+        let words = vectors::words(&checked);
+        if expected.map_or(false, |expected| expected != words) {
+            return Err(format!("{words}, not {expected:?}"));
+        }
         for call in requests::calls(random, input, &checked) {
             self.ask(random, &call, input)?;
         }
-        if checked.refusal == 0 {
-            self.walk()?;
+        self.lend(random, &input.bytes, b"");
+        match checked.refusal {
+            0 => self.walk()?,
+            _ => self.refused_first(&checked)?,
         }
-        self.file.guards_stay()?;
-        match self.file.bytes() == input.bytes {
-            true => Ok(()),
-            false => Err("the file was written".to_string()),
+        self.comparison.inputs_stay(&input.bytes, b"")
+    }
+
+    fn lend(&mut self, random: &mut Random, file: &[u8], name: &[u8]) {
+        let edges = [Edge::Start, Edge::End];
+        self.comparison.lend_file(file, *random.pick(&edges));
+        self.comparison.lend_name(name, *random.pick(&edges));
+    }
+
+    fn check(&mut self) -> Result<CheckReply, String> {
+        match self.both(&Call::Check, WORKSPACE, 0)? {
+            Reply::Check(checked) => Ok(checked),
+            _ => Err("check has another reply".to_string()),
         }
     }
 
@@ -278,20 +235,46 @@ impl Comparison {
         if !call.writes() {
             return self.both(call, work, 0).map(|_| ());
         }
-        let edge = *random.pick(&[Edge::Start, Edge::End]);
-        self.name.read_only(call.name(), edge);
+        self.lend(random, &input.bytes, call.name());
         let reply = self.both(call, work, input.room)?;
         if let Reply::Write(WriteReply {
             refusal: 0, length, ..
         }) = reply
         {
+            let result = self.comparison.written(length).to_vec();
             let room = *random.pick(&[length, length, length - 1, 0]);
             self.both(call, work, room)?;
+            self.comparison.inputs_stay(&input.bytes, call.name())?;
+            return self.again(random, &result).map_err(|why| format!("{call}: {why}"));
         }
-        self.name.guards_stay()?;
-        match self.name.bytes() == call.name() {
+        self.comparison.inputs_stay(&input.bytes, call.name())
+    }
+
+    /// Sees that a file that was written is accepted, and stays as it is when it is rewritten in its version.
+    fn again(&mut self, random: &mut Random, result: &[u8]) -> Result<(), String> {
+        self.lend(random, result, b"");
+        let checked = self.check()?;
+        if checked.refusal > 0 {
+            return Err(format!("the result is refused: {checked:?}"));
+        }
+        let reply = self.both(&Call::Rewrite(checked.version), WORKSPACE, result.len())?;
+        match reply.refusal() == 0 && self.comparison.written(result.len()) == result {
             true => Ok(()),
-            false => Err(format!("{call}: the name was written")),
+            false => Err("the result is not rewritten as it is".to_string()),
+        }
+    }
+
+    /// Sees that the refusals of a file come before those of a request in which all is wrong.
+    fn refused_first(&mut self, checked: &CheckReply) -> Result<(), String> {
+        let expected = WriteReply {
+            refusal: checked.refusal,
+            place: checked.place,
+            length: 0,
+        };
+        let reply = self.both(&Call::Remove(1, Vec::new(), 9), WORKSPACE, 0)?;
+        match reply == Reply::Write(expected) {
+            true => Ok(()),
+            false => Err(format!("a wrong request: {reply:?}")),
         }
     }
 
@@ -310,47 +293,10 @@ impl Comparison {
         Ok(())
     }
 
-    /// Makes a call to both, with workspaces and outputs of these lengths, and compares all.
     fn both(&mut self, call: &Call, work: usize, room: usize) -> Result<Reply, String> {
-        self.edge = match self.edge {
-            Edge::Start => Edge::End,
-            Edge::End => Edge::Start,
-        };
-        self.ours.blank(work, room, self.edge);
-        self.theirs.blank(work, room, self.edge);
-        let (file, name) = (self.file.bytes(), self.name.bytes());
-        let ours = proved(call, file, name, &mut self.ours);
-        let theirs = independent(call, file, name, &mut self.theirs);
-        let about = |why: String| format!("{call}, workspace {work}, output {room}: {why}");
-        if ours != theirs {
-            return Err(about(format!("{ours:?}, the other {theirs:?}")));
-        }
-        for (ours, theirs) in [
-            (&self.ours.work, &self.theirs.work),
-            (&self.ours.out, &self.theirs.out),
-        ] {
-            ours.guards_stay().map_err(about)?;
-            theirs.guards_stay().map_err(about)?;
-            same(ours, theirs).map_err(about)?;
-        }
-        self.counts.call(ours.refusal()).map_err(about)?;
-        Ok(ours)
-    }
-}
-
-/// Sees that both hold the same bytes after a call.
-fn same(ours: &Lent, theirs: &Lent) -> Result<(), String> {
-    let (what, ours, theirs) = (ours.what(), ours.bytes(), theirs.bytes());
-    if ours == theirs {
-        return Ok(());
-    }
-    let mut pairs = ours.iter().zip(theirs);
-    match pairs.position(|(ours, theirs)| ours != theirs) {
-        Some(at) => Err(format!(
-            "byte {at} of the {what} is {}, the other's {}",
-            ours[at], theirs[at]
-        )),
-        None => Err(format!("the {what} differs in length")),
+        let reply = self.comparison.both(call, work, room)?;
+        self.counts.call(reply.refusal())?;
+        Ok(reply)
     }
 }
 

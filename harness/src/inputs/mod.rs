@@ -3,12 +3,14 @@
 
 mod damage;
 mod faults;
-mod layout;
+pub mod layout;
 pub mod names;
-mod records;
+pub mod records;
 pub mod requests;
 
+use crate::ffi::WORKSPACE;
 use crate::index_file::{letters, LARGEST};
+use crate::opponent;
 use crate::random::Random;
 use layout::{signed, Layout};
 use records::{Extension, Records, Undo, LEVELS, MODES};
@@ -47,6 +49,8 @@ pub enum Kind {
     Noise,
     HeaderAndNoise,
     Limit,
+    /// Made by another program.
+    Stored,
 }
 
 /// Which kinds follow each other, so that each run has its share of each.
@@ -108,7 +112,20 @@ pub fn input(seed: u64, number: u64) -> Input {
         Kind::Cut => cut(random, seed, nth),
         Kind::Noise | Kind::HeaderAndNoise => noise(random, kind),
         Kind::Limit => limit(random, nth),
+        Kind::Stored => unreachable!("no number has this kind"),
     }
+}
+
+/// The input of bytes that are given.
+pub fn stored(bytes: &[u8]) -> Input {
+    let work = &mut vec![0; WORKSPACE];
+    let mut names = Vec::new();
+    for k in 0..opponent::check(bytes, work).entries {
+        let name = opponent::entry(bytes, work, k).name;
+        let buffer = if name.buffer == 2 { &work[..] } else { bytes };
+        names.push(buffer[name.offset..name.offset + name.length].to_vec());
+    }
+    named(Kind::Stored, names, bytes.to_vec())
 }
 
 /// The kind of a number, and how many of that kind stand before it.
@@ -129,7 +146,7 @@ fn kind(number: u64) -> (Kind, u64) {
 // ---- sound files
 
 /// Records with entries as the kind says.
-fn drawn(random: &mut Random, kind: Kind) -> Records {
+pub fn drawn(random: &mut Random, kind: Kind) -> Records {
     let version = 2 + random.below(3) as u32;
     let count = match kind {
         Kind::Few => random.below(7),
@@ -201,7 +218,11 @@ fn laid_out(kind: Kind, records: &Records) -> Input {
 }
 
 fn input_of(kind: Kind, records: &Records, bytes: Vec<u8>) -> Input {
-    let names: Vec<Vec<u8>> = records.entries.iter().map(|e| e.name.clone()).collect();
+    let names = records.entries.iter().map(|e| e.name.clone());
+    named(kind, names.collect(), bytes)
+}
+
+fn named(kind: Kind, names: Vec<Vec<u8>>, bytes: Vec<u8>) -> Input {
     let spelled: usize = names.iter().map(|name| name.len() + 80).sum();
     let room = bytes.len() + spelled + names::LONGEST + 200;
     Input {

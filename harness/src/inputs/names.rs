@@ -32,7 +32,8 @@ const ODD: [&[u8]; 16] = [
 const LENGTHS: [usize; 12] = [
     126, 127, 128, 129, 4093, 4094, 4095, 4096, 4097, 8190, 8191, 8192,
 ];
-const BAD: [&[u8]; 24] = [
+/// Names that break a rule.
+pub const BAD: [&[u8]; 24] = [
     b"",
     b"/",
     b"//",

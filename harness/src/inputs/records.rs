@@ -11,8 +11,8 @@ pub const MODES: [u32; 4] = [0o100644, 0o100755, 0o120000, 0o160000];
 pub const MODE: usize = 6;
 /// The most levels of a cache tree.
 pub const LEVELS: usize = 128;
-const SKIP_WORKTREE: u16 = 0x4000;
-const INTENT_TO_ADD: u16 = 0x2000;
+pub const SKIP_WORKTREE: u16 = 0x4000;
+pub const INTENT_TO_ADD: u16 = 0x2000;
 /// Counts that read as invalid.
 const NEGATIVE: [i64; 6] = [-1, -1, -2, -10, -2_147_483_647, -2_147_483_648];
 /// Signatures of extensions that are passed over.
@@ -20,6 +20,7 @@ const PASSED: [&[u8; 4]; 7] = [
     b"EOIE", b"UNTR", b"FSMN", b"IEOT", b"A\0\0\0", b"Z~~~", b"Mxyz",
 ];
 
+#[derive(Clone)]
 pub struct Entry {
     pub numbers: [u32; 10],
     pub object: [u8; 20],
@@ -40,18 +41,21 @@ pub struct Node {
     pub object: [u8; 20],
 }
 
+#[derive(Clone)]
 pub struct Undo {
     pub path: Vec<u8>,
     pub modes: [u32; 3],
     pub objects: [[u8; 20]; 3],
 }
 
+#[derive(Clone)]
 pub enum Extension {
     Tree(Vec<Node>),
     Undo(Vec<Undo>),
     Passed([u8; 4], Vec<u8>),
 }
 
+#[derive(Clone)]
 pub struct Records {
     pub version: u32,
     pub entries: Vec<Entry>,

@@ -2,6 +2,7 @@
 
 use super::{names, Input};
 use crate::ffi::{CheckReply, Fields, WORKSPACE};
+use crate::opponent;
 use crate::random::Random;
 use std::fmt;
 
@@ -99,6 +100,7 @@ pub fn calls(random: &mut Random, input: &Input, checked: &CheckReply) -> Vec<Ca
         calls.push(Call::Rewrite(*random.pick(&ASKED)));
         calls.push(put(random, input));
         calls.push(remove(random, input));
+        calls.extend(of_entry(random, input, checked));
         calls.push(forged(random, input));
         calls.push(forged(random, input));
     }
@@ -146,6 +148,26 @@ fn remove(random: &mut Random, input: &Input) -> Call {
     Call::Remove(*random.pick(&ASKED), name(random, input), stage)
 }
 
+/// A put of an entry that is there, as it is or with another mode, or its removal.
+fn of_entry(random: &mut Random, input: &Input, checked: &CheckReply) -> Option<Call> {
+    let k = random.below(checked.entries.max(1) as usize);
+    let name = input.names.get(k)?.clone();
+    let entry = opponent::entry(&input.bytes, &mut vec![0; WORKSPACE], k as u32);
+    if entry.refusal > 0 {
+        return None;
+    }
+    let asked = *random.pick(&ASKED);
+    let fields = entry.fields;
+    Some(match random.below(3) {
+        0 => Call::Remove(asked, name, fields.stage),
+        1 => Call::Put(asked, name, fields),
+        _ => {
+            let mode = *random.pick(&MODES);
+            Call::Put(asked, name, Fields { mode, ..fields })
+        }
+    })
+}
+
 /// A name: one that is there, one near it, one before or after all, a new one or a bad one.
 fn name(random: &mut Random, input: &Input) -> Vec<u8> {
     let known = match input.names.len() {
@@ -153,25 +175,31 @@ fn name(random: &mut Random, input: &Input) -> Vec<u8> {
         _ => random.pick(&input.names).clone(),
     };
     match random.below(16) {
-        0..=6 => known,
-        7 => [&known[..], b"x"].concat(),
-        8 => [&known[..], b"/x"].concat(),
-        9 => known[..known.len().saturating_sub(1)].to_vec(),
-        10 => sibling(&known),
-        11 => random
+        0..=5 => known,
+        6..=10 => near(random, &known),
+        11 => known[..known.len().saturating_sub(1)].to_vec(),
+        12 => random
             .pick(&[&b"\x01"[..], b"\xff\xff", b"!/a", b"~~/~"])
             .to_vec(),
-        12 => names::long(random),
-        13 => names::bad(random),
+        13 => names::long(random),
+        14 => names::bad(random),
         _ => names::sound(random, 4),
     }
 }
 
-/// A new name in the directory of this one.
-fn sibling(name: &[u8]) -> Vec<u8> {
+/// A name near this one: behind it, in or beside a directory above it, or one of these directories.
+pub fn near(random: &mut Random, name: &[u8]) -> Vec<u8> {
     let slash = name.iter().rposition(|&byte| byte == b'/');
     let directory = &name[..slash.map_or(0, |at| at + 1)];
-    [directory, b"new"].concat()
+    let first = name.split(|&byte| byte == b'/').next().unwrap_or(name);
+    let tails: [&[u8]; 8] = [b"x", b"/x", b"-", b"0", b"~", b"\x01", b"/x/y", b"/a"];
+    match random.below(6) {
+        0 | 1 => [name, *random.pick(&tails)].concat(),
+        2 => [first, *random.pick(&[&b""[..], b"/x", b"/x/y"])].concat(),
+        3 => slash.map_or(name, |at| &name[..at]).to_vec(),
+        4 => [directory, &names::component(random)].concat(),
+        _ => [directory, &names::sound(random, 2)].concat(),
+    }
 }
 
 /// A step of a walk that nobody made.

@@ -1,0 +1,73 @@
+//! Requests on files that are drawn by chance, with names near those of the file.
+
+use super::records::{file, putting, removing, rewriting};
+use super::{in_versions, refused, Case, ASKED};
+use crate::inputs::records::{self, Entry, Records};
+use crate::inputs::{self, names, requests, Kind};
+use crate::random::Random;
+use std::sync::Arc;
+
+const KINDS: [Kind; 8] = [
+    Kind::Few,
+    Kind::Few,
+    Kind::Few,
+    Kind::Some,
+    Kind::Some,
+    Kind::LongNames,
+    Kind::Deep,
+    Kind::Hundreds,
+];
+/// Puts and removes on one file.
+const EDITS: usize = 12;
+
+/// The requests of one number: a file in every version, with puts and removes.
+pub fn drawn(number: u64) -> Vec<Case> {
+    let random = &mut Random::of(1, number);
+    let before = inputs::drawn(random, KINDS[number as usize % KINDS.len()]);
+    let mut cases = in_versions("drawn", &before, &[rewriting(&before)], &ASKED);
+    for _ in 0..EDITS {
+        let put = putting(&before, &draw_entry(random, &before));
+        cases.extend(in_versions("drawn", &before, &[put], &[*random.pick(&ASKED)]));
+        cases.push(remove(random, &before));
+    }
+    cases
+}
+
+/// An entry to put: one that is there as it is, or another of a name at or near one of the file's.
+fn draw_entry(random: &mut Random, before: &Records) -> Entry {
+    if !before.entries.is_empty() && random.one_in(5) {
+        return random.pick(&before.entries).clone();
+    }
+    let name = near_name(random, before);
+    let stage = *random.pick(&[0, 0, 0, 1, 2, 3]);
+    records::entry(random, 3, name, stage)
+}
+
+fn near_name(random: &mut Random, before: &Records) -> Vec<u8> {
+    let base = match before.entries.is_empty() {
+        true => b"a/b".to_vec(),
+        false => random.pick(&before.entries).name.clone(),
+    };
+    let name = requests::near(random, &base);
+    match name.len() <= names::LONGEST {
+        true => name,
+        false => base,
+    }
+}
+
+/// Mostly an entry that is there; else it is 18.
+fn remove(random: &mut Random, before: &Records) -> Case {
+    let asked = *random.pick(&ASKED);
+    let (mut name, mut stage) = (near_name(random, before), random.below(4) as u16);
+    if !before.entries.is_empty() && !random.one_in(3) {
+        let there = random.pick(&before.entries);
+        (name, stage) = (there.name.clone(), there.stage);
+    }
+    let there = |entry: &Entry| (&entry.name, entry.stage) == (&name, stage);
+    let change = removing(before, &name, stage.into());
+    if !before.entries.iter().any(there) {
+        let file = Arc::new(file(before));
+        return refused("drawn, absent", &file, change.call(asked), 18);
+    }
+    in_versions("drawn", before, &[change], &[asked]).remove(0)
+}

@@ -1,0 +1,268 @@
+//! Records that are changed, and the one file of them in a version.
+
+use super::Answer;
+use crate::ffi::Fields;
+use crate::index_file::subdirectories;
+use crate::inputs::layout::{signed, Layout};
+use crate::inputs::records::{
+    Entry, Extension, Node, Records, Undo, INTENT_TO_ADD, MODE, MODES, SKIP_WORKTREE,
+};
+use crate::inputs::requests::Call;
+use crate::plain;
+
+pub const REGULAR: u32 = MODES[0];
+pub const EXECUTABLE: u32 = MODES[1];
+
+// ---- parts
+
+/// An entry with zeros in all fields that take any value.
+pub fn entry(name: &[u8], stage: u16) -> Entry {
+    let mut numbers = [0; 10];
+    numbers[MODE] = REGULAR;
+    Entry {
+        numbers,
+        object: [0x11; 20],
+        assume_valid: false,
+        stage,
+        word: None,
+        name: name.to_vec(),
+        more: 0,
+    }
+}
+
+/// The fields of an entry, as a put takes them.
+pub fn fields(entry: &Entry) -> Fields {
+    let n = entry.numbers;
+    let word = entry.word.unwrap_or(0);
+    Fields {
+        ctime_seconds: n[0],
+        ctime_nanoseconds: n[1],
+        mtime_seconds: n[2],
+        mtime_nanoseconds: n[3],
+        dev: n[4],
+        ino: n[5],
+        mode: n[MODE],
+        uid: n[7],
+        gid: n[8],
+        size: n[9],
+        object: entry.object,
+        assume_valid: entry.assume_valid,
+        stage: u32::from(entry.stage),
+        skip_worktree: word & SKIP_WORKTREE != 0,
+        intent_to_add: word & INTENT_TO_ADD != 0,
+    }
+}
+
+/// A directory of a cache tree; a negative count is invalid.
+#[derive(Clone)]
+pub struct Tree {
+    pub name: Vec<u8>,
+    pub count: i64,
+    pub below: Vec<Tree>,
+}
+
+impl Tree {
+    pub fn new(name: &[u8], count: i64, below: &[Tree]) -> Self {
+        let (name, below) = (name.to_vec(), below.to_vec());
+        Self { name, count, below }
+    }
+
+    /// The valid tree of these names, which rise.
+    pub fn of(name: &[u8], names: &[&[u8]]) -> Self {
+        let below = subdirectories(names);
+        let below = below.iter().map(|(name, names)| Self::of(name, names));
+        Self::new(name, names.len() as i64, &below.collect::<Vec<_>>())
+    }
+
+    /// The extension. Each node has an object name of its own.
+    pub fn extension(&self) -> Extension {
+        let mut nodes = Vec::new();
+        self.add_to(&mut nodes);
+        Extension::Tree(nodes)
+    }
+
+    fn add_to(&self, nodes: &mut Vec<Node>) {
+        nodes.push(Node {
+            name: self.name.clone(),
+            count: self.count,
+            subtrees: self.below.len(),
+            object: plain::sha1(&nodes.len().to_be_bytes()),
+        });
+        for tree in &self.below {
+            tree.add_to(nodes);
+        }
+    }
+}
+
+/// A record of resolve undo.
+pub fn undo(path: &[u8], modes: [u32; 3]) -> Undo {
+    Undo {
+        path: path.to_vec(),
+        modes,
+        objects: [[0x44; 20], [0x55; 20], [0x66; 20]],
+    }
+}
+
+pub fn records(version: u32, entries: Vec<Entry>, extensions: Vec<Extension>) -> Records {
+    Records {
+        version,
+        entries,
+        extensions,
+    }
+}
+
+/// Records of these names, with a valid tree or without.
+pub fn of_names(version: u32, names: &[&[u8]], tree: bool) -> Records {
+    let entries = names.iter().map(|name| entry(name, 0)).collect();
+    let tree = tree.then(|| Tree::of(b"", names).extension());
+    records(version, entries, tree.into_iter().collect())
+}
+
+pub fn file(records: &Records) -> Vec<u8> {
+    signed(Layout::new(records).body(), true)
+}
+
+// ---- changes
+
+#[derive(Clone)]
+pub enum Edit {
+    Rewrite,
+    Put(Entry),
+    Remove(Vec<u8>, u32),
+}
+
+/// A request on a file, and the records of its result.
+pub struct Change {
+    edit: Edit,
+    after: Records,
+}
+
+impl Edit {
+    pub fn call(&self, asked: u32) -> Call {
+        match self {
+            Self::Rewrite => Call::Rewrite(asked),
+            Self::Put(entry) => Call::Put(asked, entry.name.clone(), fields(entry)),
+            Self::Remove(name, stage) => Call::Remove(asked, name.clone(), *stage),
+        }
+    }
+}
+
+pub fn rewriting(before: &Records) -> Change {
+    Change {
+        edit: Edit::Rewrite,
+        after: before.clone(),
+    }
+}
+
+pub fn putting(before: &Records, entry: &Entry) -> Change {
+    putting_on(before, entry, &way_to(&entry.name))
+}
+
+/// A put; the caller tells the paths of the nodes that become invalid.
+pub fn putting_on(before: &Records, entry: &Entry, way: &[&[u8]]) -> Change {
+    let mut change = removing_on(before, &entry.name, entry.stage.into(), way);
+    let key = (&entry.name, entry.stage);
+    let entries = &mut change.after.entries;
+    let place = entries.partition_point(|other| (&other.name, other.stage) < key);
+    entries.insert(place, entry.clone());
+    change.edit = Edit::Put(entry.clone());
+    change
+}
+
+/// The entry of this name and stage goes, if it is there.
+pub fn removing(before: &Records, name: &[u8], stage: u32) -> Change {
+    removing_on(before, name, stage, &way_to(name))
+}
+
+pub fn removing_on(before: &Records, name: &[u8], stage: u32, way: &[&[u8]]) -> Change {
+    let mut after = before.clone();
+    after
+        .entries
+        .retain(|other| (&other.name[..], u32::from(other.stage)) != (name, stage));
+    for extension in &mut after.extensions {
+        if let Extension::Tree(nodes) = extension {
+            invalidate(nodes, way);
+        }
+    }
+    let edit = Edit::Remove(name.to_vec(), stage);
+    Change { edit, after }
+}
+
+/// The paths of the directories above a name, the root's being empty.
+fn way_to(name: &[u8]) -> Vec<&[u8]> {
+    let slashes = (0..name.len()).filter(|&at| name[at] == b'/');
+    let below = slashes.map(|at| &name[..at]);
+    [&b""[..]].into_iter().chain(below).collect()
+}
+
+/// Makes the nodes of these paths invalid.
+fn invalidate(nodes: &mut [Node], paths: &[&[u8]]) {
+    // What stands before the names of a node's subtrees, and how many of these are still to come.
+    let mut open: Vec<(Vec<u8>, usize)> = Vec::new();
+    for node in nodes {
+        while matches!(open.last(), Some((_, 0))) {
+            open.pop();
+        }
+        let mut path = node.name.clone();
+        if let Some((above, left)) = open.last_mut() {
+            *left -= 1;
+            path = [&above[..], &node.name].concat();
+        }
+        if paths.contains(&&path[..]) {
+            node.count = -1;
+        }
+        if !path.is_empty() {
+            path.push(b'/');
+        }
+        open.push((path, node.subtrees));
+    }
+}
+
+// ---- answers
+
+impl Change {
+    pub fn call(&self, asked: u32) -> Call {
+        self.edit.call(asked)
+    }
+
+    /// The one file of the result's records, or 21.
+    pub fn answer(&self, asked: u32) -> Answer {
+        let entries = &self.after.entries;
+        let extended = entries.iter().any(|entry| entry.word.unwrap_or(0) != 0);
+        let version = match (asked, extended) {
+            (2, true) => return Answer::Refused(21, 0),
+            (0, true) => 3,
+            (0, false) => 2,
+            _ => asked,
+        };
+        Answer::Written(file(&plainly(version, &self.after)))
+    }
+}
+
+/// The records without all that their spelling leaves open.
+fn plainly(version: u32, given: &Records) -> Records {
+    let plain = |entry: &Entry| Entry {
+        word: entry.word.filter(|word| *word != 0),
+        more: 0,
+        ..entry.clone()
+    };
+    let (mut trees, mut undos) = (Vec::new(), Vec::new());
+    for extension in &given.extensions {
+        match extension {
+            Extension::Tree(nodes) => trees.push(Extension::Tree(minus_one(nodes))),
+            Extension::Undo(_) => undos.push(extension.clone()),
+            Extension::Passed(..) => (),
+        }
+    }
+    trees.extend(undos);
+    records(version, given.entries.iter().map(plain).collect(), trees)
+}
+
+/// The nodes with -1 for every invalid count.
+fn minus_one(nodes: &[Node]) -> Vec<Node> {
+    let written = |node: &Node| Node {
+        count: node.count.max(-1),
+        ..node.clone()
+    };
+    nodes.iter().map(written).collect()
+}
