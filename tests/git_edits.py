@@ -243,11 +243,11 @@ def compare(snapshot: Snapshot, root: str, call, report: Report) -> None:
         shutil.rmtree(repository.path)
 
 
-def run(call, report: Report, versions: tuple = (2, 4), scenes: tuple = git_files.GIT_SCENES) -> None:
+def run(call, report: Report, scenes: tuple) -> None:
     """Makes the files and compares them, in a temporary folder that is removed. Version 3 is 2 to Git, where it may."""
     root = os.path.realpath(tempfile.mkdtemp(prefix="git-edits-"))
     try:
-        for snapshot in git_files.snapshots(root, versions, scenes):
+        for snapshot in git_files.snapshots(root, (2, 4), scenes):
             compare(snapshot, root, call, report)
     except (RuntimeError, ProgramFailed, index_reader.Refused) as failure:
         report.test("Git and the program go through all files", False, failure)
@@ -267,7 +267,7 @@ def main() -> int:
     if not program.usable(report):
         return report.finish()
     session = Session(program.path)
-    run(session, report, scenes=(scenes[options.only],) if options.only else git_files.GIT_SCENES)
+    run(session, report, (scenes[options.only],) if options.only else git_files.GIT_SCENES)
     session.finish(report)
     return report.finish()
 

@@ -1,12 +1,12 @@
 """Tests what the library is to programs in C: the header, the calls, and the examples that list and put.
 
-    run_c.py [--only GROUP]
+    run_c.py PROGRAM [--only GROUP]
 
     header     compiles alone and included twice, in C and C++; its declarations and its layout are those of the others
     calls      each call from C and C++, with empty slices too (calls.c)
     list       c/examples/list.c on the stored vectors and on large files, against index_reader
-    put        c/examples/put.c against index_writer; refusals, locks and wrong use leave the index as it was; what is
-               no sound index is not saved (save_bytes.c)
+    put        c/examples/put.c against PROGRAM, which answers the requests of edit_requests; refusals, locks and wrong
+               use leave the index as it was; what is no sound index is not saved (save_bytes.c)
 
 It needs gcc, g++ and rustc, and the archive (see build_c). The last line is 'N passed, M failed', and the exit status
 is 0 only where M is 0.
@@ -25,15 +25,16 @@ from typing import NamedTuple
 import build_c
 import declarations
 import index_reader
-import index_writer
 import run_listing
+from edit_requests import Request, Session
 from index_reader import FILE_LIMIT, Entry
 from layout import *
-from report import SECONDS, WIDTH, Report
+from report import SECONDS, WIDTH, Program, Report
 
 HERE = os.path.dirname(os.path.abspath(__file__))
 STANDARDS = ("c99", "c11", "c++11", "c++17")
 OBJECT = "ce013625030ba8dba906f756967f9e9ca394464a"
+ROOM = 20_000  # by how much a put makes an index longer at most, and more
 
 
 class Done(NamedTuple):
@@ -72,7 +73,7 @@ def built(report: Report, name: str, make):
 # ---- the header
 
 
-def header(report: Report, _) -> None:
+def header(report: Report, _folder: str, _session: Session) -> None:
     for standard in STANDARDS:
         for label, times in (("alone", 1), ("twice", 2)):
             source = build_c.write("header.c", '#include "nerupazhil.h"\n' * times + "typedef int some_type;\n")
@@ -140,7 +141,7 @@ def rust_layout(structs: dict) -> str:
 # ---- the calls
 
 
-def calls(report: Report, _) -> None:
+def calls(report: Report, _folder: str, _session: Session) -> None:
     """Runs calls.c, which counts its own tests, in C and C++."""
     sources = [os.path.join(HERE, "calls.c")]
     for standard in ("c99", "c++11"):
@@ -171,7 +172,7 @@ def listed(report: Report, name: str, program: str, path: str, data: bytes) -> b
     return done.out
 
 
-def list_files(report: Report, folder: str) -> None:
+def list_files(report: Report, folder: str, _session: Session) -> None:
     built(report, "list.c in C11", lambda: build_c.build_example("list", "c11"))
     program = built(report, "list.c", lambda: build_c.build_example("list"))
     if program is None:
@@ -231,10 +232,10 @@ def filled(version: int, length: int) -> bytes:
 class Index:
     """An index in a folder of its own, and a program that puts records into it."""
 
-    def __init__(self, program: str, folder: str, data: bytes, name: str = "index"):
+    def __init__(self, program: str, folder: str, data: bytes):
         self.program = program
         self.folder = tempfile.mkdtemp(dir=folder)
-        self.path = store(os.path.join(self.folder, name), data)
+        self.path = store(os.path.join(self.folder, "index"), data)
         self.data = data
 
     def put(self, name, mode="100644", stage=None, object_name=OBJECT, path=None, folder=None) -> Done:
@@ -251,15 +252,22 @@ def new_entry(name: bytes, mode: int = REGULAR, stage: int = 0) -> Entry:
     return Entry(0, 0, 0, 0, 0, 0, mode, 0, 0, 0, bytes.fromhex(OBJECT), False, stage, False, False, name)
 
 
-def put_files(report: Report, folder: str) -> None:
+def expected(session: Session, data: bytes, asked: int, entry: Entry) -> bytes:
+    """The file that a put writes."""
+    answer = session(Request("put", data, asked, 2 * len(data) + ROOM, entry))
+    return answer[1] if answer[0] == "done" else b""
+
+
+def put_files(report: Report, folder: str, session: Session) -> None:
     built(report, "put.c in C11", lambda: build_c.build_example("put", "c11"))
     program = built(report, "put.c", lambda: build_c.build_example("put"))
     if program is None:
         return
-    put_vectors(report, program, folder)
+    put_vectors(report, program, folder, session)
     data = Plan(2, [Record(b"a"), Record(b"b/c")], whole_tree([b"a", b"b/c"])).made("").data
-    for tests in (refusals, wrong_use, no_index, locks, links, permissions, together):
+    for tests in (refusals, wrong_use, no_index, locks, permissions, together):
         tests(report, lambda: Index(program, folder, data))
+    links(report, Index(program, folder, data), session)
     unsound(report, folder, data)
     index = Index(program, folder, filled(4, FILE_LIMIT))
     done = index.put("a")
@@ -267,11 +275,11 @@ def put_files(report: Report, folder: str) -> None:
     report.test("a result that is too long", good, done)
 
 
-def put_vectors(report: Report, program: str, folder: str) -> None:
+def put_vectors(report: Report, program: str, folder: str, session: Session) -> None:
     for case in run_listing.vectors():
         index = Index(program, folder, case.data)
         if case.answer[0] == "accepted":
-            put_records(report, case.name, index)
+            put_records(report, case.name, index, session)
         else:
             done = index.put("some/name")
             told = b"put: %s: refused %d at %d: " % (os.fsencode(index.path), *case.answer[1:])
@@ -280,8 +288,8 @@ def put_vectors(report: Report, program: str, folder: str) -> None:
         shutil.rmtree(index.folder)
 
 
-def put_records(report: Report, name: str, index: Index) -> None:
-    """Puts records one after another and compares the file with index_writer's: new ones, one in place of another, a
+def put_records(report: Report, name: str, index: Index, session: Session) -> None:
+    """Puts records one after another and compares the file with the expected one: new ones, one in place of another, a
     stage, and names that a command line can hold but a listing escapes."""
     read = index_reader.read(index.data)
     asked = 4 if read.version == 4 else 0
@@ -291,7 +299,7 @@ def put_records(report: Report, name: str, index: Index) -> None:
     data = index.data
     for entry in rows:
         done = index.put(entry.name, f"{entry.mode:o}", str(entry.stage))
-        _, data = index_writer.put(data, asked, entry, FILE_LIMIT)
+        data = expected(session, data, asked, entry)
         report.same(f"{name}: put of {entry.name[:WIDTH]!r}", Done(0, b"", b""), done)
         report.same(f"{name}: the file after it", data, load(index.path))
     out = run(build_c.path_of("list"), index.path).out
@@ -385,9 +393,8 @@ def locks(report: Report, make) -> None:
     report.test("the lock is given back", os.listdir(index.folder) == ["index"])
 
 
-def links(report: Report, make) -> None:
+def links(report: Report, index: Index, session: Session) -> None:
     """The file behind a symbolic link is replaced, and the link stays."""
-    index = make()
     link = os.path.join(tempfile.mkdtemp(dir=os.path.dirname(index.folder)), "link")
     os.symlink(index.path, link)
     store(index.path + ".lock", b"")
@@ -397,8 +404,7 @@ def links(report: Report, make) -> None:
     os.remove(index.path + ".lock")
     done = index.put("a", path=link)
     report.test("put through a link", done == Done(0, b"", b"") and os.readlink(link) == index.path, done)
-    _, expected = index_writer.put(index.data, 0, new_entry(b"a"), FILE_LIMIT)
-    report.same("the file behind the link", expected, load(index.path))
+    report.same("the file behind the link", expected(session, index.data, 0, new_entry(b"a")), load(index.path))
     report.same("nothing beside the link", ["link"], os.listdir(os.path.dirname(link)))
 
 
@@ -434,18 +440,23 @@ GROUPS = {"header": header, "calls": calls, "list": list_files, "put": put_files
 
 def main() -> int:
     parser = argparse.ArgumentParser(description="Test the header and the examples for C.")
+    parser.add_argument("program", help="a program that answers the requests of edit_requests")
     parser.add_argument("--only", choices=GROUPS, help="run one group of tests")
     options = parser.parse_args()
     report = Report()
-    if not report.test("the archive is there", os.path.isfile(build_c.archive()), build_c.archive()):
+    program = Program(options.program)
+    there = report.test("the archive is there", os.path.isfile(build_c.archive()), build_c.archive())
+    if not there or not program.usable(report):
         return report.finish()
+    session = Session(program.path)
     with tempfile.TemporaryDirectory() as folder:
         for name, group in GROUPS.items():
             if options.only in (None, name):
                 before, start = report.passed + report.failed, time.monotonic()
-                group(report, folder)
+                group(report, folder, session)
                 tests, seconds = report.passed + report.failed - before, time.monotonic() - start
                 print(f"{name}: {tests} tests in {seconds:.1f} s", flush=True)
+    session.finish(report)
     return report.finish()
 
 

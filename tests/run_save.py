@@ -29,7 +29,6 @@ from typing import NamedTuple, Optional
 import build_c
 import disk_model
 import index_reader
-import index_writer
 from layout import *
 from report import SECONDS, Report
 from wrong_saves import EDITS
@@ -152,15 +151,25 @@ def whole(report: Report, save: Save) -> bool:
 
 
 def has_record(save: Save) -> bool:
-    """Whether the new index is the old one with the record, whatever else the record says."""
+    """Whether the new index is the old one with the record, whatever else the record says: the other entries and
+    resolve undo are as they were, the nodes are so or invalid."""
     try:
         new = index_reader.read(save.new)
     except index_reader.Refused:
         return False
-    found = [entry for entry in new.entries if entry.name == save.scene.record.encode()]
-    if len(found) != 1 or (found[0].mode, found[0].object.hex(), found[0].stage) != (0o100755, OBJECT, 0):
+    old, name = index_reader.read(save.scene.old), save.scene.record.encode()
+    found = [entry for entry in new.entries if entry.name == name]
+    if [(entry.mode, entry.object.hex(), entry.stage) for entry in found] != [(0o100755, OBJECT, 0)]:
         return False
-    return index_writer.put(save.scene.old, new.version, found[0], index_reader.FILE_LIMIT) == ("done", save.new)
+    others = [entry for entry in new.entries if entry.name != name]
+    invalid = {"count": None, "object": index_reader.ZERO_OBJECT}
+    pairs = list(zip(old.nodes or (), new.nodes or ()))
+    return (
+        others == [entry for entry in old.entries if entry.name != name]
+        and (old.version, old.undo) == (new.version, new.undo)
+        and len(old.nodes or ()) == len(pairs) == len(new.nodes or ())
+        and all(after in (before, before._replace(**invalid)) for before, after in pairs)
+    )
 
 
 # ---- ended

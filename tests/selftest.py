@@ -1,12 +1,11 @@
 """A test of the tests: it needs no program of the library.
 
 It holds index_reader against the stored vectors, against the answers known from the making of files, against
-bytes written out by hand and against Git; and index_writer against the answers known from the making of requests,
-against index_reader and against Git. Then it sees that the tests notice what they should: a row of wrong readings and
-writings, each made from index_reader or index_writer by one edit, stand-in programs that are right, wrong or fail, and
-wrong assurance pages. The last line is 'N passed, M failed', and the exit status is 0 only where M is 0.
+bytes written out by hand and against Git. Then it sees that the tests notice what they should: a row of wrong readings,
+each made from index_reader by one edit, stand-in programs that are right, wrong or fail, and wrong assurance pages. The last line is 'N passed, M failed', and the exit status is 0 only where M is 0.
 """
 
+import contextlib
 import hashlib
 import io
 import os
@@ -20,24 +19,26 @@ import time
 import types
 
 import edit_requests
-import git_edits
 import git_files
 import index_reader
-import index_writer
 import layout
 import make_cases
-import make_edits
 import make_files
-import run_edits
 import run_listing
-import serve_edits
 import wrong_pages
+import wrong_readings
 from report import Report
-from wrong_edits import READER_EDITS, WRITER_EDITS
 
 HERE = os.path.dirname(os.path.abspath(__file__))
 SEEDS = range(0, 60)
-SCENES = (git_files.everyday, git_files.conflicts, git_files.stages, git_files.trees)  # that are edited
+
+# A program that answers each request with the bytes of its file.
+ECHO = """\
+for line in sys.stdin.buffer:
+    file, name = (int(word) for word in line.split()[1:3])
+    sys.stdout.buffer.write(b"done %d\\n" % file + sys.stdin.buffer.read(file + name)[:file])
+    sys.stdout.flush()
+"""
 
 
 # ---- the reader against what is known
@@ -136,93 +137,23 @@ def hand_written(report: Report) -> None:
         report.same(f"all fields of an entry, version {version}", [fields], [tuple(e) for e in read])
 
 
-# ---- the writer against what is known
-
-
-def edits(report: Report) -> None:
-    """The made requests: their answers, names and refusals. Those on large files are left to the runner."""
-    names, numbers = [], set()
-    for case in list(make_edits.cases()) + list(run_edits.drawn(range(0, 30), 12)):
-        request = case.request if case.request.room is not None else case.request._replace(room=run_edits.LONG)
-        answer = serve_edits.answer(request)
-        if case.answer is not None:
-            known = answer == case.answer
-            report.test(case.name, known, run_edits.told(case.answer, answer), run_edits.told(answer, case.answer))
-        names.append(case.name)
-        numbers.add(answer[1] if answer[0] == "refused" else 0)
-        sent = edit_requests.decode(io.BytesIO(edit_requests.encode(request)))
-        report.same(f"{case.name}: as it is spelled", request, sent)
-        spelled = edit_requests.decode_answer(io.BytesIO(edit_requests.encode_answer(answer)))
-        report.same(f"{case.name}: its answer as it is spelled", answer, spelled)
-    report.same("every request has a name of its own", len(names), len(set(names)))
-    report.same("every refusal occurs", set(range(22)) - {2}, numbers)
-
-
-def round_trips(report: Report) -> None:
-    """What is written of any records is read as these records, and is written again as it is."""
-    for file in make_files.every(range(0, 10)):
-        if index_reader.check(file.data)[0] == "refused":
-            continue
-        index = index_reader.read(file.data)
-        for version in (2, 3, 4):
-            if version == 2 and any(map(index_writer.needs_word, index.entries)):
-                continue
-            written = index_writer.write(version, index.entries, index.nodes, index.undo)
-            again = index_reader.read(written)
-            expected = index._replace(version=version, places=again.places, end=again.end, others=[])
-            report.same(f"{file.name}: records of version {version}", expected, again)
-            same = index_writer.rewrite(written, version, len(written))
-            report.same(f"{file.name}: version {version} again", ("done", written), same)
-
-
-def hand_written_edits(report: Report) -> None:
-    """The example of document 01 and one more, from bytes that are written out here."""
-
-    def seal(body: bytes) -> bytes:
-        return body + hashlib.sha1(body).digest()
-
-    def fixed(mode: str, object_name: bytes, flags: str) -> bytes:
-        return bytes(24) + bytes.fromhex(mode) + bytes(12) + object_name + bytes.fromhex(flags)
-
-    head = bytes.fromhex("44495243 00000002 00000003")
-    rows = [fixed("000081a4", b"\x11" * 20, "0003") + name + bytes(7) for name in (b"a-b", b"a/b", b"a/c")]
-    tree = b"TREE\0\0\0\x33\x003 1\n" + b"\x33" * 20 + b"a\x002 0\n" + b"\x34" * 20
-    file = seal(head + b"".join(rows) + tree)
-    report.same("rewrite, its own bytes", ("done", file), index_writer.rewrite(file, 0, len(file)))
-    entry = index_reader.entries(file)[2]
-    after = seal(head + b"".join(rows) + b"TREE\0\0\0\x0d\x00-1 1\na\x00-1 0\n")
-    report.same("put a/c", ("done", after), index_writer.put(file, 0, entry, len(after)))
-    report.same("put a/c, one byte short", ("refused", 20, 0), index_writer.put(file, 0, entry, len(after) - 1))
-    less = bytes.fromhex("44495243 00000002 00000002") + rows[1] + rows[2]
-    removed = seal(less + b"TREE\0\0\0\x20\x00-1 1\na\x002 0\n" + b"\x34" * 20)
-    report.same("remove a-b", ("done", removed), index_writer.remove(file, 2, b"a-b", 0, len(removed)))
-    packed = fixed("000081a4", b"\x11" * 20, "0003") + b"\0a-b\0"
-    packed += fixed("000081a4", b"\x11" * 20, "0003") + b"\x02/b\0"
-    packed += fixed("000081ed", b"\x22" * 20, "7003 4000") + b"\x01c\0"
-    word = entry._replace(mode=0o100755, object=b"\x22" * 20, stage=3, skip_worktree=True)
-    plain = seal(head[:11] + b"\2" + rows[0] + rows[1])
-    written = seal(bytes.fromhex("44495243 00000004 00000003") + packed)
-    report.same("put in version 4", ("done", written), index_writer.put(plain, 4, word, len(written)))
-    report.same("put in version 2", ("refused", 21, 0), index_writer.put(plain, 2, word, len(written)))
-
-
 # ---- wrong readings that the cases must notice
 
 
-def edited(name: str, old: str, new: str):
-    """The module of this name with one edit."""
-    with open(os.path.join(HERE, f"{name}.py"), encoding="utf-8") as stream:
+def edited(old: str, new: str):
+    """The module index_reader with one edit."""
+    with open(os.path.join(HERE, "index_reader.py"), encoding="utf-8") as stream:
         source = stream.read()
     if source.count(old) != 1:
-        raise ValueError(f"the text stands {source.count(old)} times in {name}")
-    module = types.ModuleType(f"edited_{name}")
+        raise ValueError(f"the text stands {source.count(old)} times in index_reader")
+    module = types.ModuleType("edited_reader")
     # Nodes below an invalid one are passed over by one of the edits.
     module.skip = lambda k, prefix: k + 1
-    exec(compile(source.replace(old, new), f"edited_{name}", "exec"), module.__dict__)
+    exec(compile(source.replace(old, new), "edited_reader", "exec"), module.__dict__)
     return module
 
 
-def wrong_readings(report: Report) -> None:
+def readings(report: Report) -> None:
     cases = [(case.data, index_reader.listing(case.data)) for case in run_listing.vectors()]
     cases += [(file.data, index_reader.listing(file.data)) for file in make_cases.cases()]
     cases += [(file.data, index_reader.listing(file.data)) for seed in range(10) for file in make_files.drawn(seed)]
@@ -234,40 +165,14 @@ def wrong_readings(report: Report) -> None:
         except (ValueError, IndexError, TypeError):
             return True
 
-    for what, old, new in READER_EDITS:
+    for what, old, new in wrong_readings.EDITS:
         try:
-            listing_of = edited("index_reader", old, new).listing
+            listing_of = edited(old, new).listing
         except ValueError as error:
             report.test(f"wrong reading: {what}", False, error)
             continue
         noticed = any(differs(listing_of, data, expected) for data, expected in cases)
         report.test(f"wrong reading is noticed: {what}", noticed)
-
-
-# ---- wrong writings that the requests must notice
-
-
-def wrong_writings(report: Report) -> None:
-    rows = list(run_edits.sent(make_edits.cases(), True))
-    rows += list(run_edits.sent(run_edits.drawn(range(0, 6), 12), False))
-    rows.sort(key=lambda one: len(one.request.data))
-
-    def differs(writer, one) -> bool:
-        try:
-            return serve_edits.answer(one.request, writer) != one.expected
-        except (ValueError, IndexError, TypeError, struct.error):
-            return True
-
-    for what, old, new in WRITER_EDITS:
-        try:
-            writer = edited("index_writer", old, new)
-        except ValueError as error:
-            report.test(f"wrong writing: {what}", False, error)
-            continue
-        noticed = any(differs(writer, one) for one in rows)
-        # Few of them need a result of 16 MiB.
-        noticed = noticed or any(differs(writer, one) for one in run_edits.sent(make_edits.large(), True))
-        report.test(f"wrong writing is noticed: {what}", noticed)
 
 
 # ---- stand-in programs
@@ -300,36 +205,41 @@ def stand_ins(report: Report) -> None:
 
 
 def edit_stand_ins(report: Report) -> None:
-    """Runs run_edits.py and git_edits.py on programs of a few lines: a right one passes, the others are noticed."""
+    """Programs that answer requests wrongly, or end wrongly after an answer, are noticed."""
     folder = tempfile.mkdtemp(prefix="stand-in-")
-    serve = "serve_edits.main()"
-    drawn, few = ("--only", "drawn"), ("--only", "drawn", "--seeds", "0")
-    rows = (
-        ("right", serve, ("--only", "drawn", "--seeds", "0-9"), True),
-        ("one-answer", f"serve_edits.answer = lambda request: ('refused', 5, 12); {serve}", drawn, False),
-        ("input-bytes", f"serve_edits.answer = lambda request: ('done', request.data); {serve}", drawn, False),
-        ("wrong-check", f"index_reader.check = lambda data: ('refused', 5, 12); {serve}", drawn, False),
-        ("wrong-status", f"{serve}; sys.exit(3)", few, False),
-        ("wrong-error-output", f"{serve}; print('warning', file=sys.stderr)", few, False),
-        ("one-answer-too-many", f"{serve}; print('refused 1 0')", few, False),
-        ("one-request", "serve_edits.decode(sys.stdin.buffer); sys.exit(1)", drawn, False),
-        ("silent", "pass", drawn, False),
+    wrong = (
+        ("input-bytes", ECHO),
+        ("one-answer", ECHO.replace('b"done %d\\n" % file + ', 'b"refused 5 12\\n" + 0 * ')),
+        ("one-request", "sys.stdin.buffer.readline()\nsys.exit(1)\n"),
+        ("silent", "pass\n"),
     )
-    scenes = (("right", "links", True), ("input-bytes", "links", False), ("silent", "links", False))
+    ends = (
+        ("right end", "", True),
+        ("wrong status", "sys.exit(3)\n", False),
+        ("wrong error output", "print('warning', file=sys.stderr)\n", False),
+        ("one answer too many", "print('refused 1 0')\n", False),
+    )
     try:
-        for name, line, options, good in rows:
-            path = os.path.join(folder, name)
-            code = f"import sys; sys.path.insert(0, {HERE!r}); import index_reader, serve_edits; {line}"
-            with open(path, "w", encoding="utf-8") as stream:
-                stream.write(f"#!/bin/sh\nexec {shlex.quote(sys.executable)} -B -c {shlex.quote(code)}\n")
-            os.chmod(path, 0o755)
-            judge(report, f"{name}, edits", ["run_edits.py", path, *options], good)
-        for name, scene, good in scenes:
-            judge(report, f"{name}, Git and edits", ["git_edits.py", os.path.join(folder, name), "--only", scene], good)
-        for runner in ("run_edits.py", "git_edits.py"):
-            judge(report, f"missing program, {runner}", [runner, os.path.join(folder, "missing")], False)
+        for name, code in wrong:
+            judge(report, f"{name}, edits", ["git_edits.py", script(folder, code), "--only", "links"], False)
+        judge(report, "missing program, edits", ["git_edits.py", os.path.join(folder, "missing")], False)
+        for name, tail, good in ends:
+            session, counted = edit_requests.Session(script(folder, ECHO + tail)), Report()
+            report.same(f"{name}: answer", ("done", b"file"), session(edit_requests.Request("remove", b"file", 0, 9)))
+            with contextlib.redirect_stdout(io.StringIO()):
+                session.finish(counted)
+            report.same(f"stand-in: {name}", good, counted.failed == 0)
     finally:
         shutil.rmtree(folder)
+
+
+def script(folder: str, code: str) -> str:
+    """A program of these lines."""
+    descriptor, path = tempfile.mkstemp(dir=folder)
+    with open(descriptor, "w", encoding="utf-8") as stream:
+        stream.write(f"#!{sys.executable} -B\nimport sys\n{code}")
+    os.chmod(path, 0o755)
+    return path
 
 
 def judge(report: Report, name: str, arguments: list, good: bool) -> None:
@@ -350,13 +260,8 @@ def main() -> int:
         ("made files", made_files),
         ("hand-written bytes", hand_written),
         ("Git", lambda counted: git_files.run(index_reader.listing, counted)),
-        ("wrong readings", wrong_readings),
+        ("wrong readings", readings),
         ("stand-in programs", stand_ins),
-        ("made requests", edits),
-        ("round trips", round_trips),
-        ("hand-written bytes of edits", hand_written_edits),
-        ("Git and edits", lambda counted: git_edits.run(serve_edits.answer, counted, (4,), SCENES)),
-        ("wrong writings", wrong_writings),
         ("stand-in programs of edits", edit_stand_ins),
         ("wrong assurance pages", wrong_pages.noticed),
     )

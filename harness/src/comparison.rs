@@ -97,7 +97,13 @@ impl Side {
     }
 
     fn answer(&mut self, by: Answering, call: &Call, file: &[u8], name: &[u8]) -> Reply {
-        by(call, file, name, self.work.bytes_mut(), self.out.bytes_mut())
+        by(
+            call,
+            file,
+            name,
+            self.work.bytes_mut(),
+            self.out.bytes_mut(),
+        )
     }
 
     /// Sees that a call that writes left all as it shall: of the output only the first bytes are written; the workspace

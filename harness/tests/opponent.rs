@@ -7,7 +7,8 @@ use std::fs;
 use harness::index_file::{node, File, OBJECT};
 use harness::opponent;
 use harness::plain::sha1;
-use nerupazhil::raw::{CheckReply, Fields, Name, DIGEST, WORKSPACE};
+use harness::vectors::words;
+use nerupazhil::raw::{Fields, Name, DIGEST, WORKSPACE};
 
 mod cases;
 mod comparison;
@@ -76,31 +77,16 @@ fn index(version: u32, names: &[&[u8]]) -> Vec<u8> {
     })
 }
 
-/// The words of `expected.tsv` for an answer of check.
-fn words(reply: CheckReply) -> String {
-    if reply.refusal != 0 {
-        return format!("refused {} at {}", reply.refusal, reply.place);
-    }
-    format!(
-        "accepted version {} entries {} end {} nodes {} records {}",
-        reply.version,
-        reply.entries,
-        reply.end,
-        present(reply.has_tree, reply.nodes, "", "absent"),
-        present(reply.has_undo, reply.records, "", "absent")
-    )
-}
-
 /// A number and what it counts, or the word for an absent extension.
-fn present(present: bool, number: u32, counted: &str, absent: &str) -> String {
+fn present(present: bool, number: u32, counted: &str) -> String {
     match present {
         true => format!("{number}{counted}"),
-        false => absent.to_string(),
+        false => "none".to_string(),
     }
 }
 
 fn check(file: &[u8]) -> String {
-    words(opponent::check(file, &mut workspace()))
+    words(&opponent::check(file, &mut workspace()))
 }
 
 /// The bytes of a shown name.
@@ -126,15 +112,15 @@ fn listing(file: &[u8]) -> String {
     let mut work = workspace();
     let reply = opponent::check(file, &mut work);
     if reply.refusal != 0 {
-        return format!("{}\n", words(reply));
+        return format!("{}\n", words(&reply));
     }
     let mut text = format!("version {} entries {}\n", reply.version, reply.entries);
     for k in 0..reply.entries {
         let entry = opponent::entry(file, &mut work, k);
         text += &line(&entry.fields, shown(entry.name, file, &work));
     }
-    let tree = present(reply.has_tree, reply.nodes, " nodes", "none");
-    let undo = present(reply.has_undo, reply.records, " paths", "none");
+    let tree = present(reply.has_tree, reply.nodes, " nodes");
+    let undo = present(reply.has_undo, reply.records, " paths");
     text + &format!("cache tree {tree}\nresolve-undo {undo}\n")
 }
 

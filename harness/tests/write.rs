@@ -1,8 +1,13 @@
-//! The calls that write, called as C calls them: empty slices, a small stack, a result that would be far too long.
+//! The calls that write, called as C calls them: results that are written out here, empty slices, a small stack, a
+//! result that would be far too long.
 
 #![deny(warnings)]
 
+use harness::comparison::{Comparison, Reply};
 use harness::index_file::{self, list_entry};
+use harness::inputs::requests::Call;
+use harness::lent::{Edge, Place};
+use harness::plain::sha1;
 use harness::{ffi, hostile};
 use nerupazhil::raw;
 use std::ptr::{null, null_mut};
@@ -16,6 +21,106 @@ fn refused(number: u32) -> ffi::WriteReply {
         length: 0,
     }
 }
+
+// ---- results that are written out
+
+/// What both libraries write with an output of so many bytes, or how they refuse.
+fn written(file: &[u8], call: Call, room: usize) -> Result<Vec<u8>, u32> {
+    let mut comparison = Comparison::new(Place::Pages);
+    comparison.lend_file(file, Edge::End);
+    comparison.lend_name(call.name(), Edge::End);
+    match comparison.both(&call, ffi::WORKSPACE, room).unwrap() {
+        Reply::Write(reply) if reply.refusal == 0 => Ok(comparison.written(reply.length).to_vec()),
+        reply => Err(reply.refusal()),
+    }
+}
+
+/// A file of these parts before the checksum.
+fn sealed(parts: &[&[u8]]) -> Vec<u8> {
+    let body = parts.concat();
+    let digest = sha1(&body);
+    [&body[..], &digest].concat()
+}
+
+/// An entry up to its name: the last two bytes of the mode, the byte of the object name, the flags and what follows.
+fn fixed(mode: [u8; 2], object: u8, flags: &[u8]) -> Vec<u8> {
+    [&[0; 26], &mode[..], &[0; 12], &[object; 20], flags].concat()
+}
+
+/// An entry of version 2 with a name of three bytes.
+fn row(name: &[u8; 3]) -> Vec<u8> {
+    [
+        fixed([0x81, 0xa4], 0x11, &[0, 3]),
+        name.to_vec(),
+        vec![0; 7],
+    ]
+    .concat()
+}
+
+const HEAD: &[u8] = b"DIRC\0\0\0\x02\0\0\0\x03";
+
+/// The entries a-b, a/b and a/c of document 01 and their tree of 51 bytes.
+fn example() -> Vec<u8> {
+    let root = [&b"\x003 1\n"[..], &[0x33; 20]].concat();
+    let a = [&b"a\x002 0\n"[..], &[0x34; 20]].concat();
+    let tree = [&b"TREE\0\0\0\x33"[..], &root, &a].concat();
+    sealed(&[HEAD, &row(b"a-b"), &row(b"a/b"), &row(b"a/c"), &tree])
+}
+
+fn regular() -> ffi::Fields {
+    ffi::Fields {
+        mode: 0o100644,
+        object: [0x11; 20],
+        ..ffi::Fields::default()
+    }
+}
+
+#[test]
+fn a_plain_file_is_rewritten_as_it_is() {
+    let file = example();
+    assert_eq!(written(&file, Call::Rewrite(0), file.len()), Ok(file));
+}
+
+#[test]
+fn a_put_of_the_record_that_is_there() {
+    let put = || Call::Put(0, b"a/c".to_vec(), regular());
+    let tree = b"TREE\0\0\0\x0d\x00-1 1\na\x00-1 0\n";
+    let after = sealed(&[HEAD, &row(b"a-b"), &row(b"a/b"), &row(b"a/c"), tree]);
+    assert_eq!(written(&example(), put(), after.len() - 1), Err(20));
+    assert_eq!(written(&example(), put(), after.len()), Ok(after));
+}
+
+#[test]
+fn a_remove_beside_a_directory() {
+    let head = b"DIRC\0\0\0\x02\0\0\0\x02";
+    let tree = [&b"TREE\0\0\0\x20\x00-1 1\na\x002 0\n"[..], &[0x34; 20]].concat();
+    let after = sealed(&[head, &row(b"a/b"), &row(b"a/c"), &tree]);
+    let remove = Call::Remove(2, b"a-b".to_vec(), 0);
+    assert_eq!(written(&example(), remove, after.len()), Ok(after));
+}
+
+#[test]
+fn a_put_that_needs_the_extended_word() {
+    let fields = ffi::Fields {
+        mode: 0o100755,
+        object: [0x22; 20],
+        stage: 3,
+        skip_worktree: true,
+        ..ffi::Fields::default()
+    };
+    let put = |asked| Call::Put(asked, b"a/c".to_vec(), fields);
+    let file = sealed(&[b"DIRC\0\0\0\x02\0\0\0\x02", &row(b"a-b"), &row(b"a/b")]);
+    let after = sealed(&[
+        b"DIRC\0\0\0\x04\0\0\0\x03",
+        &fixed([0x81, 0xa4], 0x11, b"\0\x03\0a-b\0"),
+        &fixed([0x81, 0xa4], 0x11, b"\0\x03\x02/b\0"),
+        &fixed([0x81, 0xed], 0x22, b"\x70\x03\x40\0\x01c\0"),
+    ]);
+    assert_eq!(written(&file, put(2), 1000), Err(21));
+    assert_eq!(written(&file, put(4), after.len()), Ok(after));
+}
+
+// ---- calls as C makes them
 
 /// A null pointer with length 0 is an empty slice: the workspace is too small.
 #[test]

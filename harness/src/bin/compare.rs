@@ -245,7 +245,9 @@ impl Questions {
             let room = *random.pick(&[length, length, length - 1, 0]);
             self.both(call, work, room)?;
             self.comparison.inputs_stay(&input.bytes, call.name())?;
-            return self.again(random, &result).map_err(|why| format!("{call}: {why}"));
+            return self
+                .again(random, &result)
+                .map_err(|why| format!("{call}: {why}"));
         }
         self.comparison.inputs_stay(&input.bytes, call.name())
     }

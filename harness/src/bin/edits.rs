@@ -75,8 +75,16 @@ impl Tests {
             let checked = self.accepted(result);
             self.count(case, checked);
             let version = u32::from_be_bytes([result[4], result[5], result[6], result[7]]);
-            let again = self.asked(&Call::Rewrite(version), WORKSPACE, result.len(), &case.answer);
-            self.count(case, again.map_err(|why| format!("its result again: {why}")));
+            let again = self.asked(
+                &Call::Rewrite(version),
+                WORKSPACE,
+                result.len(),
+                &case.answer,
+            );
+            self.count(
+                case,
+                again.map_err(|why| format!("its result again: {why}")),
+            );
         }
     }
 

@@ -27,7 +27,12 @@ pub fn drawn(number: u64) -> Vec<Case> {
     let mut cases = in_versions("drawn", &before, &[rewriting(&before)], &ASKED);
     for _ in 0..EDITS {
         let put = putting(&before, &draw_entry(random, &before));
-        cases.extend(in_versions("drawn", &before, &[put], &[*random.pick(&ASKED)]));
+        cases.extend(in_versions(
+            "drawn",
+            &before,
+            &[put],
+            &[*random.pick(&ASKED)],
+        ));
         cases.push(remove(random, &before));
     }
     cases

@@ -11,7 +11,11 @@ pub const LARGE: [fn() -> Vec<Case>; 5] = [full, one_less, puts, from_version_4,
 
 /// A file of version 2 and so many bytes: the name of a node, which has no limit, fills it.
 fn filled(entries: Vec<Entry>, total: usize, valid: bool) -> Records {
-    let counts = if valid { (entries.len() as i64, 0) } else { (-1, -1) };
+    let counts = if valid {
+        (entries.len() as i64, 0)
+    } else {
+        (-1, -1)
+    };
     let with = |name: &[u8]| {
         let tree = Tree::new(b"", counts.0, &[Tree::new(name, counts.1, &[])]);
         records(2, entries.clone(), vec![tree.extension()])

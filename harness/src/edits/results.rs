@@ -6,7 +6,9 @@ use super::records::{
 };
 use super::{in_versions, refused, Case, ASKED};
 use crate::inputs::names;
-use crate::inputs::records::{Entry, Extension, Records, INTENT_TO_ADD, MODE, MODES, SKIP_WORKTREE};
+use crate::inputs::records::{
+    Entry, Extension, Records, INTENT_TO_ADD, MODE, MODES, SKIP_WORKTREE,
+};
 use crate::inputs::requests::Call;
 use std::sync::Arc;
 
@@ -127,7 +129,10 @@ pub fn names() -> Vec<Case> {
 /// Names and stages that no entry of the names m and o has.
 fn absent_keys() -> Vec<(Vec<u8>, u32)> {
     let mut keys = Vec::new();
-    for name in good_names().into_iter().chain([b"m".to_vec(), b"o".to_vec()]) {
+    for name in good_names()
+        .into_iter()
+        .chain([b"m".to_vec(), b"o".to_vec()])
+    {
         keys.extend([1, 3, 4, 9, u32::MAX].map(|stage| (name.clone(), stage)));
     }
     keys.extend([&b"mm"[..], b"m/m", b"m\0"].map(|name| (name.to_vec(), 0)));
@@ -148,7 +153,10 @@ pub fn numbers() -> Vec<Case> {
     for more in [0, 1, 3, 10_000] {
         let names: [&[u8]; 5] = [b"ab/cd/ef", b"ab/cd/eg", b"ab/cd/eg/h", b"ab/cf", b"b"];
         let mut before = of_names(4, &names, false);
-        before.entries.iter_mut().for_each(|entry| entry.more = more);
+        before
+            .entries
+            .iter_mut()
+            .for_each(|entry| entry.more = more);
         let mut changes = vec![rewriting(&before)];
         changes.extend(names.map(|name| removing(&before, name, 0)));
         let new: [&[u8]; 6] = [b"a", b"ab/cd/ef0", b"ab/cd/eg/g", b"ab/ce", b"ab/cf", b"c"];
@@ -180,7 +188,12 @@ fn number(taken: usize, version: u32) -> Vec<Case> {
 
 /// The extended word: present where it is needed, and the versions that follow from it.
 pub fn words() -> Vec<Case> {
-    let words = [0, SKIP_WORKTREE, INTENT_TO_ADD, SKIP_WORKTREE | INTENT_TO_ADD];
+    let words = [
+        0,
+        SKIP_WORKTREE,
+        INTENT_TO_ADD,
+        SKIP_WORKTREE | INTENT_TO_ADD,
+    ];
     let mut cases = Vec::new();
     for version in [3, 4] {
         for word in words {
@@ -246,7 +259,9 @@ pub fn extensions() -> Vec<Case> {
     for version in 2..=4 {
         for tree in &trees {
             for undo in &undos {
-                for (others, undo_first) in [(false, false), (false, true), (true, false), (true, true)] {
+                for (others, undo_first) in
+                    [(false, false), (false, true), (true, false), (true, true)]
+                {
                     let known: Vec<_> = tree.iter().chain(undo).cloned().collect();
                     let row = extension_row(known, others, undo_first);
                     let entries = vec![entry(b"a/b", 0), entry(b"c", 0)];

@@ -7,7 +7,13 @@ use super::{in_versions, Case, ASKED};
 use crate::random::Random;
 
 const NAMES: [&[u8]; 7] = [
-    b"a-b", b"a/b", b"a/c", b"a/d/e", b"b/c", b"b/d/a/d/e", b"file",
+    b"a-b",
+    b"a/b",
+    b"a/c",
+    b"a/d/e",
+    b"b/c",
+    b"b/d/a/d/e",
+    b"file",
 ];
 /// Names, and the nodes that a change of them makes invalid.
 const WAYS: [(&[u8], &[&[u8]]); 17] = [

@@ -1,9 +1,9 @@
-"""Wrong readings and writings: edits of index_reader and of index_writer in one place, which the tests must notice.
+"""Wrong readings: edits of index_reader in one place, which the tests must notice.
 
 A row says what is wrong, the text that is there, and the text in its place.
 """
 
-READER_EDITS = (
+EDITS = (
     # document 01, "Easy errors"
     ("padding of 0 to 7 bytes", "8 * ((at - place + len(name)) // 8) + 8", "8 * ((at - place + len(name) + 7) // 8)"),
     ("the plain base-128 number for N", "(first - 128 + 1) * 128", "(first - 128) * 128"),
@@ -124,120 +124,4 @@ READER_EDITS = (
     ("no paths is none", "if index.undo is None:\n        lines", "if not index.undo:\n        lines"),
     ("assume-valid as part of the stage", "stage = flags >> 12 & 3", "stage = flags >> 12 & 11"),
     ("object names in capitals", "entry.object.hex().encode()", "entry.object.hex().upper().encode()"),
-)
-
-# What index_writer does one after the other.
-WORK = "if work < WORKSPACE:\n            raise Refused(19, 0)"
-READ = "index = read(data)"
-ASKED = "if asked not in (0, 2, 3, 4):\n            raise Refused(4, 0)"
-CHANGE = "result = change(index)"
-LIMIT = "if len(written) > FILE_LIMIT:\n            raise Refused(2, 0)"
-ROOM = "if len(written) > room:\n            raise Refused(20, 0)"
-MODE = "if entry.mode not in MODES:\n        raise Refused(7, 0)"
-STAGE = "if entry.stage > 3:\n        raise Refused(8, 0)"
-NAME = "if not name_is_good(entry.name):\n        raise Refused(9, 0)"
-
-
-def swapped(what: str, first: str, second: str, indent: int) -> tuple:
-    """The edit that puts two steps in the other order."""
-    between = "\n" + " " * indent
-    return what, first + between + second, second + between + first
-
-
-WRITER_EDITS = (
-    # the one file
-    ("padding of 0 to 7 bytes", "8 * (used // 8) + 8 - used", "-used % 8"),
-    ("the plain base-128 number for N", "128 + number // 128 - 1", "128 + number // 128"),
-    ("N of 128 in one byte", "if number < 128", "if number < 129"),
-    ("N of 127 in two bytes", "if number < 128", "if number < 127"),
-    ("N not the smallest", "kept = common_beginning(previous, entry.name)",
-     "kept = max(0, common_beginning(previous, entry.name) - 1)"),
-    ("every name whole", "kept = common_beginning(previous, entry.name)", "kept = 0"),
-    ("names of the same beginning end at the shorter one", "kept, most = 0, min(len(a), len(b))",
-     "kept, most = 0, max(0, min(len(a), len(b)) - 1)"),
-    ("no previous name", "previous = entry.name", "previous = b''"),
-    ("length field of 4094 at most", "min(len(entry.name), LENGTH_MAX)", "min(len(entry.name), LENGTH_MAX - 1)"),
-    ("length field modulo 4096", "min(len(entry.name), LENGTH_MAX)", "len(entry.name) % 4096"),
-    ("extended word always", "extended = needs_word(entry)", "extended = version > 2"),
-    ("extended word never", "extended = needs_word(entry)", "extended = False"),
-    ("no word for intent-to-add", "return entry.skip_worktree or entry.intent_to_add", "return entry.skip_worktree"),
-    ("no word for skip-worktree", "return entry.skip_worktree or entry.intent_to_add", "return entry.intent_to_add"),
-    ("bits of the word swapped", "entry.skip_worktree << 14 | entry.intent_to_add << 13",
-     "entry.skip_worktree << 13 | entry.intent_to_add << 14"),
-    ("assume-valid dropped", "entry.assume_valid << 15 | ", ""),
-    ("stage dropped", " | entry.stage << 12", ""),
-    ("TREE dropped", "if nodes is not None:\n        body", "if False:\n        body"),
-    ("REUC dropped", "if undo is not None", "if False"),
-    ("empty REUC dropped", "if undo is not None", "if undo"),
-    ("invalid count of -2", "-1 %d", "-2 %d"),
-    ("object name of an invalid node", "% node.subtrees\n", "% node.subtrees + node.object\n"),
-    ("no subtrees of an invalid node", "-1 %d\\n\" % node.subtrees", "-1 0\\n\""),
-    ("modes of seven digits", 'b"%o\\0" % mode', 'b"%07o\\0" % mode'),
-    ("object names of missing stages", " if mode)", ")"),
-    ("checksum of zeros", "hashlib.sha1(body).digest()", "bytes(20)"),
-    # versions
-    ("version 1 asked", "asked not in (0, 2, 3, 4)", "asked not in (0, 1, 2, 3, 4)"),
-    ("version 5 asked", "asked not in (0, 2, 3, 4)", "asked not in (0, 2, 3, 4, 5)"),
-    ("version by its low byte", "asked not in (0, 2, 3, 4)", "asked % 256 not in (0, 2, 3, 4)"),
-    ("version 0 is always 2", "return 3 if extended else 2", "return 2"),
-    ("version 0 is always 3", "return 3 if extended else 2", "return 3"),
-    ("version 3 is 2 without need", "    return asked\n", "    return 2 if asked == 3 and not extended else asked\n"),
-    ("21 never", "if asked == 2 and extended", "if False"),
-    ("21 by the file before the change", "chosen_version(asked, result.entries), ",
-     "chosen_version(asked, index.entries), "),
-    # refusals and their order
-    ("workspace of 8191", "work < WORKSPACE", "work < WORKSPACE - 1"),
-    ("workspace of 8192 refused", "work < WORKSPACE", "work <= WORKSPACE"),
-    swapped("19 after the file's", WORK, READ, 8),
-    swapped("4 before the file's", READ, ASKED, 8),
-    swapped("4 after the record's", ASKED, CHANGE, 8),
-    ("21 before the record's and 18", "result = change(index)",
-     "chosen_version(asked, index.entries)\n        result = change(index)"),
-    ("result of the limit refused", "len(written) > FILE_LIMIT", "len(written) >= FILE_LIMIT"),
-    ("result one byte longer", "len(written) > FILE_LIMIT", "len(written) > FILE_LIMIT + 1"),
-    swapped("20 before 2", LIMIT, ROOM, 8),
-    ("output one byte short", "len(written) > room", "len(written) > room + 1"),
-    ("exact output refused", "len(written) > room", "len(written) >= room"),
-    ("any mode", "if entry.mode not in MODES", "if False"),
-    ("mode by its low 16 bits", "if entry.mode not in MODES", "if entry.mode & 0xffff not in MODES"),
-    ("stage 4", "entry.stage > 3", "entry.stage > 4"),
-    ("stage 3 refused", "entry.stage > 3", "entry.stage > 2"),
-    ("any name", "if not name_is_good(entry.name)", "if False"),
-    swapped("8 before 7", MODE, STAGE, 4),
-    swapped("9 before 8", STAGE, NAME, 4),
-    ("9 for a bad name to remove", "kept = [other for other in index.entries if key(other) != (name, stage)]",
-     "kept = [other for other in index.entries if key(other) != (name, stage)]\n"
-     "    if not name_is_good(name):\n        raise Refused(9, 0)"),
-    ("18 never", "if len(kept) == len(index.entries)", "if False"),
-    # the change
-    ("put beside the one of its name and stage", "key(other) != key(entry)", "True"),
-    ("put over all stages", "key(other) != key(entry)", "other.name != entry.name"),
-    ("put keeps the old one", "entries = sorted(kept + [entry], key=key)",
-     "entries = sorted(kept + [entry], key=key) if len(kept) == len(index.entries) else index.entries"),
-    ("put at the end", "sorted(kept + [entry], key=key)", "kept + [entry]"),
-    ("order by components", "return entry.name, entry.stage", "return entry.name.split(b'/'), entry.stage"),
-    ("order by stage first", "return entry.name, entry.stage", "return entry.stage, entry.name"),
-    ("remove all stages", "key(other) != (name, stage)", "other.name != name"),
-    ("remove stage modulo 4", "key(other) != (name, stage)", "key(other) != (name, stage % 4)"),
-    ("put keeps all nodes", "nodes=invalidated(index.nodes, entry.name)", "nodes=index.nodes"),
-    ("put of the same record keeps all nodes", "nodes=invalidated(index.nodes, entry.name)",
-     "nodes=index.nodes if entry in index.entries else invalidated(index.nodes, entry.name)"),
-    ("put of an old name keeps all nodes", "nodes=invalidated(index.nodes, entry.name)",
-     "nodes=invalidated(index.nodes, entry.name) if len(kept) == len(index.entries) else index.nodes"),
-    ("put drops TREE", "nodes=invalidated(index.nodes, entry.name)", "nodes=None"),
-    ("put drops REUC", "index._replace(entries=entries, ", "index._replace(undo=None, entries=entries, "),
-    ("put takes its path out of REUC", "index._replace(entries=entries, ",
-     "index._replace(undo=index.undo and [u for u in index.undo if u.path != entry.name], entries=entries, "),
-    ("remove keeps all nodes", "nodes=invalidated(index.nodes, name)", "nodes=index.nodes"),
-    ("remove drops REUC", "index._replace(entries=kept, ", "index._replace(undo=None, entries=kept, "),
-    ("the root stays valid", "if path[1:] == way", "if node.level > 1 and path[1:] == way"),
-    ("the root alone", "if path[1:] == way[: node.level - 1]", "if node.level == 1"),
-    ("all nodes", "if path[1:] == way[: node.level - 1]", "if True"),
-    ("a node of the entry's own name", 'way = name.split(b"/")[:-1]', 'way = name.split(b"/")'),
-    ("not the directory itself", 'way = name.split(b"/")[:-1]', 'way = name.split(b"/")[:-2]'),
-    ("any node of a name on the way", "if path[1:] == way[: node.level - 1]", "if node.level == 1 or node.name in way"),
-    ("a node of the right name on its level", "if path[1:] == way[: node.level - 1]",
-     "if [node.name] == ([b''] + way)[node.level - 1 : node.level]"),
-    ("nodes below the directory", "if path[1:] == way[: node.level - 1]",
-     "if path[1:][: len(way)] == way[: node.level - 1]"),
 )

@@ -1,0 +1,118 @@
+//! The cases of `harness::edits` notice wrong writers: copies of the independent library with one mistake each, which
+//! are built into one program.
+
+#![deny(warnings)]
+
+use std::env;
+use std::fs;
+use std::path::Path;
+use std::process::Command;
+
+mod mistakes;
+
+use mistakes::Mistake;
+
+const OPPONENT: &str = concat!(env!("CARGO_MANIFEST_DIR"), "/src/opponent");
+/// The folder of the program.
+const FOLDER: &str = concat!(env!("CARGO_TARGET_TMPDIR"), "/wrong-writers");
+
+const MANIFEST: &str = concat!(
+    r#"[package]
+name = "wrong-writers"
+version = "0.1.0"
+edition = "2021"
+
+[dependencies]
+harness = { path = ""#,
+    env!("CARGO_MANIFEST_DIR"),
+    r#"" }
+nerupazhil = { path = ""#,
+    env!("CARGO_MANIFEST_DIR"),
+    r#"/../rust" }
+
+[profile.dev]
+debug = false
+incremental = false
+
+[profile.dev.package."*"]
+opt-level = 2
+"#
+);
+
+/// Prints, for each writer, the first case that it answers otherwise.
+const MAIN: &str = r#"
+fn main() {
+    std::panic::set_hook(Box::new(|_| ()));
+    let mut cases: Vec<_> = edits::GROUPS.iter().flat_map(|(_, group)| group()).collect();
+    cases.sort_by_key(|case| case.file.len());
+    for writer in WRITERS {
+        println!("{}", edits::first_difference(writer, &cases).unwrap_or_default());
+    }
+}
+"#;
+
+#[test]
+fn every_wrong_writer_is_noticed() {
+    let mistakes: Vec<&Mistake> = mistakes::ALL.iter().copied().flatten().collect();
+    let source = Path::new(FOLDER).join("src");
+    let _ = fs::remove_dir_all(&source);
+    fs::create_dir_all(&source).unwrap();
+    fs::write(Path::new(FOLDER).join("Cargo.toml"), MANIFEST).unwrap();
+    let mut main =
+        "#![allow(warnings)]\nuse harness::{comparison::Answering, edits, plain};\n".to_string();
+    // The first writer has no mistake.
+    let right = Mistake {
+        what: "right",
+        file: "mod.rs",
+        edits: &[],
+    };
+    let all: Vec<&Mistake> = [&right].into_iter().chain(mistakes).collect();
+    for (k, mistake) in all.iter().enumerate() {
+        copy(mistake, &source.join(format!("writer_{k}")));
+        main +=
+            &format!("mod writer_{k};\nharness::answers!(answer_{k}, writer_{k}, plain::sha1);\n");
+    }
+    let answers: Vec<String> = (0..all.len()).map(|k| format!("answer_{k}")).collect();
+    main += &format!(
+        "const WRITERS: [Answering; {}] = [{}];\n",
+        all.len(),
+        answers.join(", ")
+    );
+    fs::write(source.join("main.rs"), main + MAIN).unwrap();
+    let told = run();
+    let told: Vec<&str> = told.lines().collect();
+    assert_eq!(told.len(), all.len());
+    assert_eq!(told[0], "", "the right writer");
+    for (mistake, told) in all.iter().zip(told).skip(1) {
+        assert_ne!(told, "", "no case notices this: {}", mistake.what);
+    }
+}
+
+/// Copies the independent library with a mistake.
+fn copy(mistake: &Mistake, to: &Path) {
+    fs::create_dir_all(to).unwrap();
+    for file in fs::read_dir(OPPONENT).unwrap() {
+        let (path, name) = file.map(|file| (file.path(), file.file_name())).unwrap();
+        let mut text = fs::read_to_string(path).unwrap();
+        if name == mistake.file {
+            for (old, new) in mistake.edits {
+                let times = text.matches(old).count();
+                assert_eq!(times, 1, "{}: how often there is {old}", mistake.what);
+                text = text.replace(old, new);
+            }
+        }
+        fs::write(to.join(name), text).unwrap();
+    }
+}
+
+/// Builds the program, in a folder of its own, and answers what it prints.
+fn run() -> String {
+    let mut command = Command::new(env!("CARGO"));
+    command.args(["run", "--offline", "--quiet"]);
+    command.current_dir(FOLDER);
+    command.env("CARGO_TARGET_DIR", Path::new(FOLDER).join("target"));
+    let output = command.output().expect("cargo runs");
+    let told = String::from_utf8_lossy(&output.stderr);
+    assert!(output.status.success(), "{told}");
+    String::from_utf8(output.stdout).expect("text")
+}
