@@ -8,10 +8,6 @@ use std::fs;
 use std::path::Path;
 use std::process::Command;
 
-mod mistakes;
-
-use mistakes::Mistake;
-
 const OPPONENT: &str = concat!(env!("CARGO_MANIFEST_DIR"), "/src/opponent");
 /// The folder of the program.
 const FOLDER: &str = concat!(env!("CARGO_TARGET_TMPDIR"), "/wrong-writers");
@@ -51,39 +47,73 @@ fn main() {
 }
 "#;
 
+/// What is wrong with a writer: a file, and the texts that are there with the texts in their places.
+#[derive(Default)]
+struct Mistake {
+    what: &'static str,
+    file: &'static str,
+    edits: Vec<(String, String)>,
+}
+
+/// The mistakes of the table, after a writer that has none.
+fn writers() -> Vec<Mistake> {
+    let mut found = vec![Mistake::default()];
+    let mut before = "";
+    for line in include_str!("mistakes.txt").lines() {
+        let (sign, text) = line.split_at(line.len().min(2));
+        let edits = found.last_mut().map(|mistake| &mut mistake.edits);
+        match (sign.trim_end(), edits) {
+            ("=", _) => {
+                let (file, what) = text.split_once(": ").expect("a file and what is wrong");
+                let edits = Vec::new();
+                found.push(Mistake { what, file, edits });
+            }
+            ("-", Some(edits)) if before == "- " => {
+                add_line(&mut edits.last_mut().unwrap().0, text)
+            }
+            ("-", Some(edits)) => edits.push((text.to_string(), String::new())),
+            ("+", Some(edits)) => add_line(&mut edits.last_mut().unwrap().1, text),
+            _ => (),
+        }
+        before = sign;
+    }
+    found
+}
+
+fn add_line(to: &mut String, line: &str) {
+    if !to.is_empty() {
+        to.push('\n');
+    }
+    to.push_str(line);
+}
+
 #[test]
 fn every_wrong_writer_is_noticed() {
-    let mistakes: Vec<&Mistake> = mistakes::ALL.iter().copied().flatten().collect();
+    let writers = writers();
     let source = Path::new(FOLDER).join("src");
     let _ = fs::remove_dir_all(&source);
     fs::create_dir_all(&source).unwrap();
     fs::write(Path::new(FOLDER).join("Cargo.toml"), MANIFEST).unwrap();
     let mut main =
         "#![allow(warnings)]\nuse harness::{comparison::Answering, edits, plain};\n".to_string();
-    // The first writer has no mistake.
-    let right = Mistake {
-        what: "right",
-        file: "mod.rs",
-        edits: &[],
-    };
-    let all: Vec<&Mistake> = [&right].into_iter().chain(mistakes).collect();
-    for (k, mistake) in all.iter().enumerate() {
+    for (k, mistake) in writers.iter().enumerate() {
         copy(mistake, &source.join(format!("writer_{k}")));
         main +=
             &format!("mod writer_{k};\nharness::answers!(answer_{k}, writer_{k}, plain::sha1);\n");
     }
-    let answers: Vec<String> = (0..all.len()).map(|k| format!("answer_{k}")).collect();
+    let answers: Vec<String> = (0..writers.len()).map(|k| format!("answer_{k}")).collect();
     main += &format!(
         "const WRITERS: [Answering; {}] = [{}];\n",
-        all.len(),
+        answers.len(),
         answers.join(", ")
     );
     fs::write(source.join("main.rs"), main + MAIN).unwrap();
     let told = run();
     let told: Vec<&str> = told.lines().collect();
-    assert_eq!(told.len(), all.len());
+    assert_eq!(told.len(), writers.len());
     assert_eq!(told[0], "", "the right writer");
-    for (mistake, told) in all.iter().zip(told).skip(1) {
+    for (mistake, told) in writers.iter().zip(told).skip(1) {
+        assert!(!mistake.edits.is_empty(), "no edit: {}", mistake.what);
         assert_ne!(told, "", "no case notices this: {}", mistake.what);
     }
 }
@@ -95,10 +125,10 @@ fn copy(mistake: &Mistake, to: &Path) {
         let (path, name) = file.map(|file| (file.path(), file.file_name())).unwrap();
         let mut text = fs::read_to_string(path).unwrap();
         if name == mistake.file {
-            for (old, new) in mistake.edits {
-                let times = text.matches(old).count();
+            for (old, new) in &mistake.edits {
+                let times = text.matches(&old[..]).count();
                 assert_eq!(times, 1, "{}: how often there is {old}", mistake.what);
-                text = text.replace(old, new);
+                text = text.replace(&old[..], new);
             }
         }
         fs::write(to.join(name), text).unwrap();
