@@ -93,29 +93,31 @@ fn every_wrong_writer_is_noticed() {
     let source = Path::new(FOLDER).join("src");
     let _ = fs::remove_dir_all(&source);
     fs::create_dir_all(&source).unwrap();
-    fs::write(Path::new(FOLDER).join("Cargo.toml"), MANIFEST).unwrap();
-    let mut main =
-        "#![allow(warnings)]\nuse harness::{comparison::Answering, edits, plain};\n".to_string();
     for (k, mistake) in writers.iter().enumerate() {
         copy(mistake, &source.join(format!("writer_{k}")));
-        main +=
-            &format!("mod writer_{k};\nharness::answers!(answer_{k}, writer_{k}, plain::sha1);\n");
     }
-    let answers: Vec<String> = (0..writers.len()).map(|k| format!("answer_{k}")).collect();
-    main += &format!(
-        "const WRITERS: [Answering; {}] = [{}];\n",
-        answers.len(),
-        answers.join(", ")
-    );
-    fs::write(source.join("main.rs"), main + MAIN).unwrap();
+    fs::write(source.join("main.rs"), program(writers.len())).unwrap();
+    fs::write(Path::new(FOLDER).join("Cargo.toml"), MANIFEST).unwrap();
     let told = run();
     let told: Vec<&str> = told.lines().collect();
     assert_eq!(told.len(), writers.len());
     assert_eq!(told[0], "", "the right writer");
     for (mistake, told) in writers.iter().zip(told).skip(1) {
-        assert!(!mistake.edits.is_empty(), "no edit: {}", mistake.what);
         assert_ne!(told, "", "no case notices this: {}", mistake.what);
     }
+}
+
+/// The program that tries so many writers.
+fn program(writers: usize) -> String {
+    let mut text =
+        "#![allow(warnings)]\nuse harness::{answers, comparison, edits, plain};\n".to_string();
+    let mut names = String::new();
+    for k in 0..writers {
+        text += &format!("mod writer_{k};\nanswers!(answer_{k}, writer_{k}, plain::sha1);\n");
+        names += &format!("answer_{k}, ");
+    }
+    text += &format!("const WRITERS: [comparison::Answering; {writers}] = [{names}];\n");
+    text + MAIN
 }
 
 /// Copies the independent library with a mistake.

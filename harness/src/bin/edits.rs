@@ -56,10 +56,8 @@ impl Tests {
         for case in cases {
             self.case(&case);
         }
-        let (tests, seconds) = (
-            self.passed + self.failed - before,
-            start.elapsed().as_secs_f64(),
-        );
+        let tests = self.passed + self.failed - before;
+        let seconds = start.elapsed().as_secs_f64();
         println!("{name}: {tests} tests in {seconds:.1} s");
     }
 

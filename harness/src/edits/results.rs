@@ -1,14 +1,11 @@
 //! Results in all versions: where entries come and go, names, N, the extended word, extensions.
 
 use super::records::{
-    entry, file, of_names, putting, records, removing, rewriting, undo, Change, Tree, EXECUTABLE,
-    REGULAR,
+    entry, file, of_names, putting, records, removing, rewriting, undo, Tree, EXECUTABLE, REGULAR,
 };
 use super::{in_versions, refused, Case, ASKED};
 use crate::inputs::names;
-use crate::inputs::records::{
-    Entry, Extension, Records, INTENT_TO_ADD, MODE, MODES, SKIP_WORKTREE,
-};
+use crate::inputs::records::{Entry, Extension, INTENT_TO_ADD, MODE, MODES, SKIP_WORKTREE};
 use crate::inputs::requests::Call;
 use std::sync::Arc;
 
@@ -248,51 +245,49 @@ fn largest(mode: u32, word: u16) -> Entry {
 
 /// What is kept of extensions, and what is dropped.
 pub fn extensions() -> Vec<Case> {
-    let tree = Tree::new(b"", -5, &[Tree::new(b"a", 1, &[])]);
+    let tree = Tree::new(b"", -5, &[Tree::new(b"a", 1, &[])]).extension();
     let two = vec![
         undo(b"a/b", [REGULAR, 0, EXECUTABLE]),
         undo(b"c", [0, MODES[2], MODES[3]]),
     ];
-    let trees = [None, Some(tree.extension())];
     let undos = [None, Some(vec![]), Some(two)].map(|records| records.map(Extension::Undo));
     let mut cases = Vec::new();
     for version in 2..=4 {
-        for tree in &trees {
-            for undo in &undos {
-                for (others, undo_first) in
-                    [(false, false), (false, true), (true, false), (true, true)]
-                {
-                    let known: Vec<_> = tree.iter().chain(undo).cloned().collect();
-                    let row = extension_row(known, others, undo_first);
-                    let entries = vec![entry(b"a/b", 0), entry(b"c", 0)];
-                    let before = records(version, entries, row);
-                    let changes = kept_and_dropped(&before);
-                    cases.extend(in_versions("extensions", &before, &changes, &[version]));
-                }
+        for undo in undos.clone() {
+            let with_tree = [Some(tree.clone()), undo.clone()];
+            for known in [with_tree, [None, undo]] {
+                cases.extend(kept_and_dropped(
+                    version,
+                    known.into_iter().flatten().collect(),
+                ));
             }
         }
     }
     cases
 }
 
-/// The known extensions, turned round or not, with others before, between and after them, or without.
-fn extension_row(mut known: Vec<Extension>, others: bool, turned: bool) -> Vec<Extension> {
-    if turned {
-        known.reverse();
+/// The known extensions as they are and turned round, alone and with others before, between and after them.
+fn kept_and_dropped(version: u32, known: Vec<Extension>) -> Vec<Case> {
+    let mut cases = Vec::new();
+    let turned = known.iter().rev().cloned().collect();
+    for row in [known, turned] {
+        for row in [with_others(row.clone()), row] {
+            let before = records(version, vec![entry(b"a/b", 0), entry(b"c", 0)], row);
+            let changes = [
+                rewriting(&before),
+                putting(&before, &entry(b"a/b", 1)),
+                removing(&before, b"c", 0),
+            ];
+            cases.extend(in_versions("extensions", &before, &changes, &[version]));
+        }
     }
-    if others {
-        known.insert(0, Extension::Passed(*b"ABCD", b"first".to_vec()));
-        known.insert(known.len().min(2), Extension::Passed(*b"FSMN", Vec::new()));
-        known.push(Extension::Passed(*b"UNTR", b"last".to_vec()));
-        known.push(Extension::Passed(*b"EOIE", vec![0; 24]));
-    }
-    known
+    cases
 }
 
-fn kept_and_dropped(before: &Records) -> [Change; 3] {
-    [
-        rewriting(before),
-        putting(before, &entry(b"a/b", 1)),
-        removing(before, b"c", 0),
-    ]
+fn with_others(mut row: Vec<Extension>) -> Vec<Extension> {
+    row.insert(0, Extension::Passed(*b"ABCD", b"first".to_vec()));
+    row.insert(row.len().min(2), Extension::Passed(*b"FSMN", Vec::new()));
+    row.push(Extension::Passed(*b"UNTR", b"last".to_vec()));
+    row.push(Extension::Passed(*b"EOIE", vec![0; 24]));
+    row
 }
