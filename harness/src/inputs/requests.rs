@@ -150,14 +150,13 @@ fn remove(random: &mut Random, input: &Input) -> Call {
 
 /// A put of an entry that is there, as it is or with another mode, or its removal.
 fn of_entry(random: &mut Random, input: &Input, checked: &CheckReply) -> Option<Call> {
-    let k = random.below(checked.entries.max(1) as usize);
-    let name = input.names.get(k)?.clone();
-    let entry = opponent::entry(&input.bytes, &mut vec![0; WORKSPACE], k as u32);
-    if entry.refusal > 0 {
+    if checked.entries == 0 {
         return None;
     }
-    let asked = *random.pick(&ASKED);
-    let fields = entry.fields;
+    let k = random.below(checked.entries as usize);
+    let name = input.names.get(k)?.clone();
+    let entry = opponent::entry(&input.bytes, &mut vec![0; WORKSPACE], k as u32);
+    let (asked, fields) = (*random.pick(&ASKED), entry.fields);
     Some(match random.below(3) {
         0 => Call::Remove(asked, name, fields.stage),
         1 => Call::Put(asked, name, fields),
