@@ -345,7 +345,7 @@ def types_in(text: str) -> list:
 
 
 def answered_types() -> dict:
-    """The types that the public calls answer, and those within them: the fields or variants of each, by file and name."""
+    """The types that the public calls answer, and those within them: the fields or variants of each."""
     found, wanted = {}, []
     for path, name in public_calls():
         head = " ".join(definitions.statement(path, name)).partition(" ensures ")[0]
@@ -361,7 +361,7 @@ def answered_types() -> dict:
 
 
 def fields(page: Page):
-    """The table of answers has each type that a public call answers, with each of its fields once, and what pins them."""
+    """The table of answers has each type that a public call answers, each field of it once, and what pins them."""
     body = section_in(page.text, FIELDS, PAGE)
     told = {}
     for answer, names, pinned, value in re.findall(r"^\| (\[.*?) \| (.*?) \| (.*?) \| (.*?) \|$", body, re.M):

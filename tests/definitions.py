@@ -131,7 +131,7 @@ def item_file(crate: str, name: str) -> str:
 
 
 def target(module: str, name: str) -> tuple:
-    """The definition that a name of a module stands for."""
+    """The definition that a name of a module means."""
     path, item = place_of(module)
     if path is None:
         return None, module
