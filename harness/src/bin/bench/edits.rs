@@ -1,5 +1,6 @@
 //! Rewrite, put and remove beside check.
 
+use crate::part::{progress, Part};
 use crate::table::{beside, mib, milliseconds, Table};
 use harness::index_file::{self, list_entry, Order, Repository};
 use harness::{ffi, timing};
@@ -8,30 +9,30 @@ use std::cell::{Cell, RefCell};
 /// Version 2, since no entry needs the extended word.
 const ASKED: u32 = 0;
 
-pub fn figures() -> Result<(), String> {
-    let table = Table::new(
-        "Rewrite, put and remove on files with full cache trees; in brackets, the multiple of check's time.",
-        &[
-            ("File", 9),
-            ("MiB", 4),
-            ("check", 9),
-            ("rewrite in 2", 16),
-            ("rewrite in 4", 16),
-            ("put", 16),
-            ("remove", 16),
-        ],
-    );
+pub fn figures() -> Result<Part, String> {
+    let mut table = Table::new(&[
+        "File",
+        "MiB",
+        "check",
+        "rewrite in 2",
+        "rewrite in 4",
+        "put",
+        "remove",
+    ]);
     for version in [2, 4] {
         for mebibytes in [1, 2, 4, 8, 16] {
             // A file of version 4 is longer in version 2: what is written has to fit 16 MiB.
             let most_bytes = (mebibytes << 20) * 2 / version as usize;
-            row(&table, version, most_bytes)?;
+            table.row(row(version, most_bytes)?);
         }
     }
-    Ok(())
+    let mut part = Part::new("Rewrite, put and remove");
+    part.add("Files with full cache trees; in brackets, the multiple of check's time.");
+    part.add(table);
+    Ok(part)
 }
 
-fn row(table: &Table, version: u32, most_bytes: usize) -> Result<(), String> {
+fn row(version: u32, most_bytes: usize) -> Result<Vec<String>, String> {
     let (file, names) = Repository {
         version,
         widths: index_file::NESTED,
@@ -40,15 +41,15 @@ fn row(table: &Table, version: u32, most_bytes: usize) -> Result<(), String> {
         most_bytes,
     }
     .lay_out();
-    let times = medians(&file, &names[names.len() / 2])?;
-    let mut cells = vec![
+    let (name, size) = (
         format!("version {version}"),
-        mib(file.len()),
-        milliseconds(times[0]),
-    ];
+        format!("{:.1}", mib(file.len())),
+    );
+    progress("edits", &format!("{name}, {size} MiB"));
+    let times = medians(&file, &names[names.len() / 2])?;
+    let mut cells = vec![name, size, milliseconds(times[0])];
     cells.extend(times[1..].iter().map(|&time| beside(time, times[0])));
-    table.row(&cells);
-    Ok(())
+    Ok(cells)
 }
 
 /// The median seconds of each call. A name is removed, and one beside it put.
