@@ -3,10 +3,12 @@
 
 #![deny(warnings)]
 
+mod calls;
 mod check;
 mod edits;
 mod entries;
 mod hostile;
+mod levels;
 mod machine;
 mod page;
 mod part;
@@ -73,6 +75,7 @@ fn one(arguments: &[&str], figures: impl FnOnce() -> Result<Part, String>) -> Re
 /// Prints all parts, each when it is measured, and writes the page.
 fn all() -> Result<(), String> {
     page::writable()?;
+    println!("{}", page::head("./bench"));
     let mut parts = Vec::new();
     for (number, (name, figures)) in PARTS.iter().enumerate() {
         eprintln!("bench: part {} of {}: {name}", number + 1, PARTS.len());

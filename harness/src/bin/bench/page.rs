@@ -3,12 +3,15 @@
 use crate::machine;
 use crate::part::Part;
 use crate::plot;
+use crate::table::Table;
 use harness::timing;
 use std::fs;
 
 const PAGE: &str = "docs/SPEED.md";
 const PLOT: &str = "docs/speed.svg";
 
+const INTRODUCTION: &str = "`./bench` measured this, and wrote the page and its plot whole. `./bench size`, `check`, `sha1`, \
+    `entries`, `edits`, `stack` and `hostile` print one section each, in the page's order, and write nothing.";
 /// What the plot shows, for those who do not see it.
 const PLOT_WORDS: &str = "Left: the time of put, the simple check, check and SHA-1 against the size of the file. Right: \
     the stack of check against the levels of the cache tree.";
@@ -44,14 +47,13 @@ fn new_file(path: &str, text: &str) -> Result<String, String> {
 }
 
 fn page(parts: &[Part]) -> String {
+    let mut short = Table::new(&["What", "measured", "shall be at most"]);
+    for row in parts.iter().flat_map(|part| &part.short) {
+        short.row(row.clone());
+    }
     let sections: Vec<&str> = parts.iter().map(|part| part.text.as_str()).collect();
     format!(
-        "# Speed\n\n\
-        `./bench` measures all of this and writes this page and its plot whole; the README says how to run one part.\n\n\
-        ![{PLOT_WORDS}](speed.svg)\n\n\
-        {}\n\
-        {}\n\
-        {}",
+        "# Speed\n\n{INTRODUCTION}\n\n![{PLOT_WORDS}](speed.svg)\n\n{}\n{short}\n{}\n{}",
         head("./bench"),
         how(),
         sections.join("\n")

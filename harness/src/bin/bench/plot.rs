@@ -39,11 +39,16 @@ pub struct Limit {
 
 // The sizes of the drawing, and of the field of a panel within its part.
 const WIDTH: f64 = 520.0;
-const HEIGHT: f64 = 420.0;
+const HEIGHT: f64 = 450.0;
 const LEFT: f64 = 52.0;
 const RIGHT: f64 = 360.0;
-const TOP: f64 = 66.0;
-const BOTTOM: f64 = 360.0;
+const TOP: f64 = 108.0;
+const BOTTOM: f64 = 392.0;
+/// Where the legend begins, and how wide a column of it is.
+const LEGEND: f64 = 48.0;
+const COLUMN: f64 = 210.0;
+/// From the title's start to the axis.
+const MARGIN: f64 = 36.0;
 /// From one line of text to the next, and from its foot to its middle.
 const ROW: f64 = 18.0;
 const HALF: f64 = 4.5;
@@ -119,6 +124,7 @@ impl<'a> Field<'a> {
 
     fn draw(&self, svg: &mut Svg) {
         self.axes(svg);
+        self.legend(svg);
         self.limits(svg);
         for line in &self.panel.lines {
             let places: Vec<(f64, f64)> = line.points.iter().map(|&p| self.place(p)).collect();
@@ -126,12 +132,11 @@ impl<'a> Field<'a> {
             places.iter().for_each(|&place| svg.dot(place, line.colour));
         }
         self.ends(svg);
-        self.legend(svg);
     }
 
     fn axes(&self, svg: &mut Svg) {
         let (left, right) = self.across.places;
-        svg.title((left - 36.0, 26.0), self.panel.title);
+        svg.title((left - MARGIN, 26.0), self.panel.title);
         svg.text((left - 8.0, TOP - 16.0), Anchor::End, self.panel.unit);
         for &mark in &self.marks_up {
             let y = self.up.place(mark);
@@ -173,14 +178,14 @@ impl<'a> Field<'a> {
         }
     }
 
-    /// At the upper left, what each line is.
+    /// Above the field, what each line is, in two columns.
     fn legend(&self, svg: &mut Svg) {
-        let left = self.across.places.0 + 14.0;
-        let lines = self.panel.lines.iter().map(|line| (pen(line), line.legend));
-        for (number, (pen, words)) in lines.enumerate() {
-            let y = TOP + 6.0 + ROW * number as f64;
-            svg.line(&[(left, y), (left + 22.0, y)], pen);
-            svg.text((left + 30.0, y + HALF), Anchor::Start, words);
+        let left = self.across.places.0 - MARGIN;
+        for (number, line) in self.panel.lines.iter().enumerate() {
+            let x = left + COLUMN * (number % 2) as f64;
+            let y = LEGEND + ROW * (number / 2) as f64;
+            svg.line(&[(x, y), (x + 22.0, y)], pen(line));
+            svg.text((x + 30.0, y + HALF), Anchor::Start, line.legend);
         }
     }
 }

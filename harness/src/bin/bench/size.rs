@@ -31,6 +31,12 @@ pub fn figures() -> Result<Part, String> {
     part.add("Files of version 2, nested, with full cache trees in the index's order. The plot shows the same figures.");
     part.add(table(&rows));
     part.panel = Some(panel(&rows));
+    let largest = &rows[rows.len() - 1];
+    part.add_short(
+        &format!("check of {:.0} MiB, version 2", mib(largest.bytes)),
+        format!("{:.1} ms", largest.seconds[2] * 1e3),
+        String::new(),
+    );
     Ok(part)
 }
 

@@ -66,7 +66,32 @@ pub fn ratio(one: f64, other: f64) -> String {
     format!("{:.2}", one / other)
 }
 
+/// The least and the greatest of some figures.
+pub fn range(figures: impl Iterator<Item = f64> + Clone) -> String {
+    let least = figures.clone().fold(f64::INFINITY, f64::min);
+    let greatest = figures.fold(0.0, f64::max);
+    format!("{least:.2} to {greatest:.2}")
+}
+
 /// Milliseconds, with the multiple of another time in brackets.
 pub fn beside(seconds: f64, other: f64) -> String {
     format!("{} ({})", milliseconds(seconds), ratio(seconds, other))
+}
+
+#[cfg(test)]
+mod tests {
+    use super::*;
+
+    #[test]
+    fn columns_are_even() {
+        let mut table = Table::new(&["Call", "KiB"]);
+        table.row(vec!["put".to_string(), "82.1".to_string()]);
+        let lines = "| Call |  KiB |\n|------|-----:|\n| put  | 82.1 |\n";
+        assert_eq!(table.to_string(), lines);
+    }
+
+    #[test]
+    fn a_range_has_both_ends() {
+        assert_eq!(range([0.7, 0.654, 1.2].into_iter()), "0.65 to 1.20");
+    }
 }
