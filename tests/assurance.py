@@ -1,25 +1,28 @@
 """Holds docs/ASSURANCE.md against the repository.
 
     assurance.py [--log FOLDER] [--renew]
+    assurance.py --lines
 
 What the page may say, and what is looked at:
 
-    [name](../FILE#L12)             line 12 of FILE declares name; 'A.b' is a field of a record, 'c::f' a function
-    [text](../FILE)                 FILE exists
-    [text](FILE.md#section) "words" FILE has this section, and the words stand in it
+    [name](../FILE)                 FILE, a source, declares name exactly once; 'A.b' is a field of a record, 'c::f' a
+                                    function of the crate c
+    #### [title](../FILE)           the same of each name in backticks below, in the list of definitions
+    [text](FILE.md#section) "words" FILE has this section, and the section has the words
     `folder/file`                   exists, unless a run makes it
     `rt check demands`              a command, also in a block of 'sh': its program, files and crates exist
     figures                         see RULES
 
-Besides: every definition that a statement named on the page rests on is in its list of definitions, and no other is;
-every public function of the crates in CALLS is named, and no function that is named asks anything of its caller; no
-reader is behind the rules on files; the table of refusals has each number once, with definitions that give it; the
-table of answers has each field of each type that a public call answers.
+Besides: the page has no line numbers of sources; every definition that a statement named on the page rests on is in its
+list of definitions, and no other is; every public function of the crates in CALLS is named, and no function that is
+named asks anything of its caller; no reader is behind the rules on files; the table of refusals has each number once,
+with definitions that give it; the table of answers has each field of each type that a public call answers.
 
 With --log, FOLDER has what the prover said of each crate: which crates rest on axioms, how many functions were proved.
-With --renew, line numbers and figures are written anew.
+With --renew, figures are written anew. With --lines, nothing is tested: it prints 'path:line  name' for each statement
+that the page names.
 
-The last line is 'N passed, M failed', and the exit status is 0 only where M is 0.
+The last line of a test is 'N passed, M failed', and the exit status is 0 only where M is 0.
 """
 
 import argparse
@@ -44,11 +47,13 @@ CALLS = ("index", "index_write", "walk", "nerupazhil")
 RULE_OF_FILES = ("crates/format/specs/Layout.antt", "Spells")
 READERS = ("crates/format/specs/Reading.antt", "crates/format/specs/Reader.antt")
 
-REFERENCE = re.compile(r"\[(?P<name>[^\]]+)\]\(\.\./(?P<path>[^)#]+)#L(?P<line>\d+)\)")
+REFERENCE = re.compile(r"(?<!^#### )\[(?P<name>[^\]]+)\]\(\.\./(?P<path>[^)#]+\.(?:antt|rt))\)", re.M)
+LINE_NUMBER = re.compile(r"\.(?:antt|rt)(?:#L|:)\d+")
 LINK = re.compile(r"\]\((?P<path>[^)#]+)(?P<anchor>#[^)]*)?\)")
 SECTION = re.compile(r"\]\((?P<path>[^)#]+\.md)#(?P<anchor>[^)]+)\)(?P<quotes>(?:;? \"[^\"]+\")*)")
 BLOCK = re.compile(r"^```sh\n(.*?)^```$", re.M | re.S)
-FILE = re.compile(r"^#### \[(?P<title>[^\]]+)\]\(\.\./(?P<path>[^)]+)\): \d+ definitions?, \d+ lines?$", re.M)
+FILE = re.compile(r"^#### \[[^\]]+\]\(\.\./(?P<path>[^)]+)\)$", re.M)
+AXIOMS = re.compile(r"`axioms=\d+` on the line of `(?P<crate>\w+)`")
 
 
 class Page:
@@ -69,7 +74,7 @@ class Page:
     @functools.cached_property
     def statements(self) -> set:
         """The declarations that the page names outside its list of definitions."""
-        return set(filter(is_declared, map(named, REFERENCE.finditer(self.parts[1]))))
+        return set(filter(is_declared, map(declaration, links(self.parts[1]))))
 
     @functools.cached_property
     def behind(self) -> set:
@@ -83,29 +88,38 @@ class Page:
         return {one for one in rest if not definitions.FUNCTION.match(declarations(one[0])[one[1]][0])}
 
     @functools.cached_property
-    def listed(self) -> set:
-        """The definitions of the list: those linked, and in a file's table those in backticks."""
-        text, found = self.parts[0], set()
-        files = list(FILE.finditer(text))
-        for match, end in zip(files, [one.start() for one in files[1:]] + [len(text)]):
-            part = text[match.end() : end]
-            found |= {named(one) for one in REFERENCE.finditer(part)}
-            found |= {(match["path"], name) for name in codes(part)}
+    def tables(self) -> list:
+        """The names below each file's heading in the list of definitions: those in backticks, and those linked."""
+        text, found = self.parts[0], []
+        headings = list(FILE.finditer(text))
+        for heading, end in zip(headings, [one.start() for one in headings[1:]] + [len(text)]):
+            part = text[heading.end() : end]
+            found += [(heading["path"], name) for name in codes(part)] + links(part)
         return found
+
+    @functools.cached_property
+    def references(self) -> list:
+        """Every file and name of a statement, once: those of the text, then those of the list of definitions."""
+        return list(dict.fromkeys(links(self.parts[1]) + links(self.parts[0]) + self.tables))
+
+
+def links(text: str) -> list:
+    """The files and names that references link."""
+    return [(match["path"], match["name"]) for match in REFERENCE.finditer(text)]
+
+
+def declaration(reference: tuple) -> tuple:
+    """The file and the name of the declaration that a reference is in."""
+    return reference[0], definitions.parts_of(reference[1])[1]
 
 
 def codes(text: str) -> list:
-    """What stands in backticks; blocks of commands are left out."""
+    """The words in backticks; blocks of commands are left out."""
     return re.findall(r"`([^`\n]+)`", BLOCK.sub("", text))
 
 
 def exists(path: str) -> bool:
     return os.path.exists(os.path.join(ROOT, path))
-
-
-def named(match: re.Match) -> tuple:
-    """The declaration that a reference names."""
-    return match["path"], match["name"].rpartition("::")[2].partition(".")[0]
 
 
 def is_declared(one: tuple) -> bool:
@@ -126,7 +140,36 @@ def verdicts(folder: str) -> dict:
     return found
 
 
-# ---- figures: what stands in the text, and what should stand there
+# ---- statements
+
+
+def located(page: Page):
+    """Each statement that the page names: its file, its name, and its line, or 0 and what is wrong."""
+    for path, name in page.references:
+        try:
+            yield path, name, line_of(path, name), ""
+        except LookupError as error:
+            yield path, name, 0, str(error)
+
+
+def names(page: Page):
+    for path, name, line, wrong in located(page):
+        yield f"{name} of {path}", line > 0, wrong
+    for match in LINE_NUMBER.finditer(page.text):
+        yield f"line number {match[0]}", False, "a name is enough: --lines prints its line"
+
+
+def print_lines(page: Page) -> int:
+    """Prints where each statement is declared; the exit status is 0 only where all are found."""
+    rows = list(located(page))
+    print("\n".join(f"{path}:{line}  {name}" for path, name, line, _ in rows if line))
+    missing = [wrong for *_, line, wrong in rows if not line]
+    if missing:
+        print("\n".join(missing), file=sys.stderr)
+    return 1 if missing else 0
+
+
+# ---- figures: each rule has a pattern of the page, and what its text should be
 
 
 def counted(number: int, word: str) -> str:
@@ -138,21 +181,12 @@ def extent(found) -> str:
     return f"{counted(len(found), 'definition')}, {counted(definitions.size(found), 'line')}"
 
 
-def right_reference(page: Page, match: re.Match) -> str:
-    return f"[{match['name']}](../{match['path']}#L{line_of(match['path'], match['name'])})"
-
-
-def right_file(page: Page, match: re.Match) -> str:
-    found = {one for one in page.needed if one[0] == match["path"]}
-    return f"#### [{match['title']}](../{match['path']}): {extent(found)}"
-
-
 def right_whole(page: Page, match: re.Match) -> str:
     return f"In all: {extent(page.needed)}."
 
 
 def right_closure(page: Page, match: re.Match) -> str:
-    found = {one for one in closure([named(match)]) if one[0]}
+    found = {one for one in closure([declaration((match["path"], match["name"]))]) if one[0]}
     return f"{match['link']} rests on {extent(found)}"
 
 
@@ -172,19 +206,27 @@ def right_axioms(page: Page, match: re.Match) -> str:
     return f"`axioms={said[1] if said else 0}` on the line of `{match['crate']}`"
 
 
+def right_slowest(page: Page, match: re.Match) -> str:
+    """Rounded to five seconds, so that it does not change with each run of the benchmark."""
+    row = re.compile(r"^\|[^|]+\| +[\d.]+ \| +\d+ \| +(\d+\.\d+) \| +[\d.]+ \|$", re.M)
+    seconds = [float(one) for one in row.findall(section("docs/SPEED.md", "files-that-were-made-to-be-slow"))]
+    if not seconds:
+        raise LookupError("docs/SPEED.md has no table of seconds")
+    return f"took some {5 * round(max(seconds) / 5)} seconds"
+
+
 RULES = (
-    (REFERENCE, right_reference),
-    (FILE, right_file),
     (re.compile(r"In all: \d+ definitions?, \d+ lines?\."), right_whole),
     (re.compile(rf"(?P<link>{REFERENCE.pattern}) rests on \d+ definitions?, \d+ lines?"), right_closure),
     (re.compile(r"\d+ must-fail edits"), right_edits),
     (re.compile(r"\d+ functions proved in all"), right_functions),
-    (re.compile(r"`axioms=\d+` on the line of `(?P<crate>\w+)`"), right_axioms),
+    (re.compile(r"took some \d+ seconds"), right_slowest),
+    (AXIOMS, right_axioms),
 )
 
 
 def figures(page: Page):
-    """A test for each line number and figure; a rule that the page has no use for is a fault of the page."""
+    """A test for each figure; a rule that the page has no use for is a fault of the page."""
     for pattern, right in RULES:
         yield f"the page has {pattern.pattern[:40]}", bool(pattern.search(page.text)), "nothing like it"
         for match in pattern.finditer(page.text):
@@ -195,7 +237,7 @@ def figures(page: Page):
 
 
 def renewed(page: Page) -> str:
-    """The text with right line numbers and figures; a name that is not there stays as it is."""
+    """The text with right figures; one that can't be computed stays as it is."""
 
     def text_for(match: re.Match) -> str:
         try:
@@ -216,8 +258,7 @@ def files(page: Page):
     for match in LINK.finditer(page.text):
         path, anchor = os.path.normpath(os.path.join("docs", match["path"])), match["anchor"] or ""
         yield f"link to {path}", exists(path), "not there"
-        known = not anchor or path.endswith(".md") or bool(re.fullmatch(r"#L\d+", anchor))
-        yield f"link to {path}{anchor}", known, "neither a line nor a section"
+        yield f"link to {path}{anchor}", not anchor or path.endswith(".md"), "only Markdown files have sections"
     for word in codes(page.text):
         if "/" in word and " " not in word and not word.startswith(MADE):
             yield f"file {word}", exists(word), "not there"
@@ -268,7 +309,7 @@ def commands(page: Page):
 
 
 def complete(page: Page):
-    needed, listed = page.needed, page.listed
+    needed, listed = page.needed, set(map(declaration, page.tables))
     for path, name in sorted(needed | listed):
         yield f"{name} of {path} is listed", (path, name) in listed, f"a statement rests on it, and '{LIST}' has it not"
         yield f"{name} of {path} is needed", (path, name) in needed, f"'{LIST}' has it, and no statement rests on it"
@@ -278,7 +319,7 @@ def complete(page: Page):
     yield "modules of the kit", modules == named_modules, f"should be {sorted(modules)}"
     proofs = {path for path, _ in page.behind if path and "/proofs/" in path}
     for path in sorted(proofs):
-        yield f"{path} is linked", f"](../{path}" in page.text, "a statement rests on it"
+        yield f"{path} is named", path in page.text, "a statement rests on it"
 
 
 def public_calls():
@@ -304,7 +345,7 @@ def types_in(text: str) -> list:
 
 
 def answered_types() -> dict:
-    """The types that the public calls answer, and those within them: the fields or variants of each, by file and name."""
+    """The types that the public calls answer, and those within them: the fields or variants of each."""
     found, wanted = {}, []
     for path, name in public_calls():
         head = " ".join(definitions.statement(path, name)).partition(" ensures ")[0]
@@ -320,15 +361,15 @@ def answered_types() -> dict:
 
 
 def fields(page: Page):
-    """The table of answers has each type that a public call answers, with each of its fields once, and what pins them."""
+    """The table of answers has each type that a public call answers, each field of it once, and what pins them."""
     body = section_in(page.text, FIELDS, PAGE)
     told = {}
     for answer, names, pinned, value in re.findall(r"^\| (\[.*?) \| (.*?) \| (.*?) \| (.*?) \|$", body, re.M):
-        match = REFERENCE.match(answer)
-        yield f"{answer} is a link", bool(match), "no declaration"
-        if match:
-            told.setdefault(named(match), []).extend(codes(names))
-        cited = REFERENCE.search(pinned) or pinned.startswith("the same")
+        linked = links(answer)
+        yield f"{answer} is a link", len(linked) == 1, "no declaration"
+        for one in linked:
+            told.setdefault(declaration(one), []).extend(codes(names))
+        cited = links(pinned) or pinned.startswith("the same")
         yield f"what pins {answer} is named", bool(cited), "no promise"
         yield f"the value of {answer} is named", "[" in value or value.startswith("as "), "no definition"
     right = answered_types()
@@ -346,10 +387,10 @@ def refusals(page: Page):
     numbers = [int(number) for number in re.findall(r"^\| (\d+) \|", page.text, re.M)]
     yield "refusals", numbers == list(REFUSALS), f"the table has {numbers}"
     for number, row in re.findall(r"^\| (\d+) \|(.*)$", page.text, re.M):
-        for match in REFERENCE.finditer(row):
-            text = declarations(match["path"])[match["name"]] if is_declared(named(match)) else []
-            given = number in definitions.words(text)
-            yield f"{number} in {match['name']}", given, "the definition has no such number"
+        yield f"{number} has a definition", bool(links(row)), "none is linked"
+        for one in map(declaration, links(row)):
+            given = is_declared(one) and number in definitions.words(declarations(one[0])[one[1]])
+            yield f"{number} in {one[1]}", given, "the definition has no such number"
 
 
 def axioms(page: Page):
@@ -360,13 +401,13 @@ def axioms(page: Page):
         proved = page.log.get(crate, "").startswith("logic=proved ")
         yield f"{crate} is proved", proved, "the log does not say so"
     resting = {crate for crate in crates() if re.search(r" (axioms|foreign)=", page.log.get(crate, ""))}
-    told = {match["crate"] for match in RULES[-1][0].finditer(page.text)}
+    told = {match["crate"] for match in AXIOMS.finditer(page.text)}
     yield "crates with axioms", resting == told, f"should be {sorted(resting)}"
 
 
 def tests(page: Page):
     """Every test of the page: its name, whether it passed, and what is wrong."""
-    for group in (figures, files, quotes, commands, complete, calls, fields, no_reader, refusals, axioms):
+    for group in (names, figures, files, quotes, commands, complete, calls, fields, no_reader, refusals, axioms):
         try:
             yield from group(page)
         except LookupError as error:
@@ -376,13 +417,16 @@ def tests(page: Page):
 def main() -> int:
     parser = argparse.ArgumentParser(description="Holds the assurance page against the repository.")
     parser.add_argument("--log", metavar="FOLDER", help="what the prover said of each crate, as target/log")
-    parser.add_argument("--renew", action="store_true", help="write line numbers and figures anew")
+    parser.add_argument("--renew", action="store_true", help="write figures anew")
+    parser.add_argument("--lines", action="store_true", help="print where each statement of the page is declared")
     options = parser.parse_args()
     if options.log and not glob.glob(os.path.join(options.log, "*.say")):
         parser.error(f"{options.log} has no log of a crate")
     path = os.path.join(ROOT, PAGE)
     with open(path, encoding="utf-8") as stream:
         page = Page(stream.read(), options.log)
+    if options.lines:
+        return print_lines(page)
     if options.renew:
         page = Page(renewed(page), options.log)
         with open(path, "w", encoding="utf-8") as stream:

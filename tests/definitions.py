@@ -68,19 +68,30 @@ def kept(path: str, lines: tuple) -> list:
     return [line for line in bare if line and not MODULE.match(line)]
 
 
+def parts_of(name: str) -> tuple:
+    """The crate, the declaration and the field of a name: 'c::f' has no field, 'A.b' no crate."""
+    path, _, last = name.rpartition("::")
+    whole, _, field = last.partition(".")
+    return path.partition("::")[0], whole, field
+
+
 def line_of(path: str, name: str) -> int:
-    """The line, from 1, that declares a name. 'A.b' is the field b of the record A, 'c::f' the function f."""
-    whole, _, field = name.rpartition("::")[2].partition(".")
-    found = [at for at, declared in starts(path) if declared == whole]
+    """The line, from 1, that declares a name; LookupError where not exactly one does."""
+    crate, whole, field = parts_of(name)
+    if crate and not path.startswith(f"crates/{crate}/"):
+        raise LookupError(f"{path} is no file of the crate of {name}")
+    begins = starts(path)
+    found = [at for at, declared in begins if declared == whole]
     if len(found) != 1:
         raise LookupError(f"{path} declares {whole} {len(found)} times")
     if not field:
         return found[0] + 1
-    later = [at for at, _ in starts(path) if at > found[0]] + [len(lines_of(path))]
-    for at in range(found[0] + 1, later[0]):
-        if re.match(rf"^ +(?:pub )?{re.escape(field)} :", lines_of(path)[at]):
-            return at + 1
-    raise LookupError(f"{whole} of {path} has no field {field}")
+    end = min((at for at, _ in begins if at > found[0]), default=len(lines_of(path)))
+    declares = re.compile(rf"^ +(?:pub )?{re.escape(field)} :")
+    fields = [at for at in range(found[0] + 1, end) if declares.match(lines_of(path)[at])]
+    if len(fields) != 1:
+        raise LookupError(f"{path} declares {name} {len(fields)} times")
+    return fields[0] + 1
 
 
 def statement(path: str, name: str) -> list:
@@ -120,7 +131,7 @@ def item_file(crate: str, name: str) -> str:
 
 
 def target(module: str, name: str) -> tuple:
-    """The definition that a name of a module stands for."""
+    """The definition that a name of a module means."""
     path, item = place_of(module)
     if path is None:
         return None, module

@@ -1,39 +1,56 @@
-"""Wrong assurance pages, each made from the page by one edit, and wrong logs of the prover: assurance.py must notice.
+"""Wrong assurance pages, wrong sources and wrong logs of the prover: assurance.py must notice them.
 
-A row says what is wrong, a pattern of the text that is there, and the text in its place.
+Each is made from what is right by one edit. A row says what is wrong, a pattern of the text that is there, and the text
+in its place; 'said' is a part of what the failure says.
 """
 
+import contextlib
 import os
 import re
 import tempfile
+from unittest import mock
 
 import assurance
 import definitions
 from report import Report
 
-WRONG_PAGES = (
-    ("a wrong line", r"(Statements\.antt#L)(\d+)", r"\g<1>1\g<2>"),
-    ("a line past the end", r"(Statements\.antt#L)(\d+)", r"\g<1>99999"),
-    ("a wrong number of definitions of a file", r"(?m)^(#### .*: )(\d+)( definitions)", r"\g<1>1\2\3"),
-    ("a wrong number of lines of a file", r"(?m)^(#### .*, )(\d+)( lines)", r"\g<1>1\2\3"),
+# Figures, which --renew mends.
+WRONG_FIGURES = (
     ("a wrong number of definitions in all", r"In all: (\d+)", r"In all: 1\1"),
-    ("a wrong extent of a statement", r"rests on (\d+)", r"rests on 1\1"),
+    ("a wrong number of lines in all", r"(In all: \d+ definitions, )(\d+)", r"\g<1>1\2"),
+    ("a wrong number of definitions of a statement", r"rests on (\d+)", r"rests on 1\1"),
+    ("a wrong number of lines of a statement", r"(rests on \d+ definitions, )(\d+)", r"\g<1>1\2"),
     ("a wrong number of edits", r"(\d+) must-fail edits", r"1\1 must-fail edits"),
-    ("a missing statement", r"\[Demand3\.cuts\]", "[Demand3.cut]"),
-    ("a missing theorem", r"\[sha1-demand3\]", "[sha1-demand4]"),
-    ("a missing function", r"\[index::check\]", "[index::checks]"),
-    ("a statement of another file", r"\[Spells\]\(\.\./crates/format/specs/Layout",
-     "[Spells](../crates/format/specs/Reader"),
-    ("a missing source", r"specs/Layout\.antt#", "specs/Layouts.antt#"),
-    ("a missing file", r"\(\.\./crates/demands/proofs/Witness\.antt\)", "(../crates/demands/Witness.antt)"),
-    ("a link to neither a line nor a section", r"#L\d+\)", "#here)"),
+    ("a wrong number of seconds", r"took some (\d+) seconds", r"took some 1\1 seconds"),
+)
+
+# Names of statements: what, old, new, said.
+WRONG_NAMES = (
+    ("a field that is not declared", r"\[Demand3\.cuts\]", "[Demand3.cut]",
+     "Statements.antt declares Demand3.cut 0 times"),
+    ("a theorem that is not declared", r"\[sha1-demand3\]", "[sha1-demand4]",
+     "Demands.antt declares sha1-demand4 0 times"),
+    ("a function that is not declared", r"\[index::check\]", "[index::checks]", "lib.rt declares checks 0 times"),
+    ("a definition that is not declared", r"`be64`, ", "`be64`, `be65`, ", "Padding.antt declares be65 0 times"),
+    ("a statement of another file", r"(\[Spells\]\(.*?/)Layout", r"\1Reader", "Reader.antt declares Spells 0 times"),
+    ("a definition below another file", r"`lengthField`", "`lengthField`, `okMode`",
+     "Names.antt declares okMode 0 times"),
+    ("a function of another crate", r"\[index::check\]", "[walk::check]", "no file of the crate of walk::check"),
+    ("a missing source", r"specs/Layout\.antt\)", "specs/Layouts.antt)", "Layouts.antt is not there"),
+    ("a line number in a link", r"Statements\.antt\)", "Statements.antt#L12)", "a name is enough"),
+    ("a line number after a file", r"Witness\.antt`", "Witness.antt:12`", "a name is enough"),
+)
+
+WRONG_PAGES = (
+    ("a missing file", r"proofs/Witness\.antt`", "Witness.antt`"),
+    ("a section of a source", r"Statements\.antt\)", "Statements.antt#here)"),
     ("a missing file in backticks", r"`crates/format/must-fail/checksum_as_entry\.edit`",
      "`crates/format/must-fail/none.edit`"),
     ("no number of definitions in all", r"In all: ", "All: "),
     ("a definition that is missing in the list", r"`be16`, ", ""),
-    ("a linked definition that is missing in the list", r"\[lengthField\]\([^)]+\)", "lengthField"),
+    ("a row of the list that has no definition", r"`lengthField`", "lengthField"),
+    ("a linked definition that is missing in the list", r"\[Order\]\([^)]+\)", "Order"),
     ("a definition that no statement rests on", r"`be64`, ", "`be64`, `ending`, "),
-    ("a definition that is not there", r"`be64`, ", "`be64`, `be65`, "),
     ("a module of the kit that is missing", r"`lib\.Bits`, ", ""),
     ("a file of statements without a link", r"walk/proofs/Statements\.antt", "walk/proofs/Steps.antt"),
     ("a missing section", r"DECISIONS\.md#format", "DECISIONS.md#formats"),
@@ -43,11 +60,12 @@ WRONG_PAGES = (
     ("a command of another kind", r"`rt check nerupazhil`", "`rt chek nerupazhil`"),
     ("a missing program", r"(?m)^bash \.ci/run$", "bash .ci/runs"),
     ("a public call that is not named", r"\[index::undo_record\]\([^)]+\)", "undo_record"),
-    ("a function that asks something", r"\[index::check\]\([^)]+\)", "[file::object_at](../crates/file/src/lib.rt#L1)"),
+    ("a function that asks something", r"\[index::check\]\([^)]+\)", "[file::object_at](../crates/file/src/lib.rt)"),
     ("a refusal that is missing", r"(?m)^\| 14 \|.*\n", ""),
     ("a refusal twice", r"(?m)^\| 14 \|", "| 13 |"),
     ("a refusal with another's definition", r"(?m)^(\| 14 \|.*)\[readData\]\([^)]+\)",
-     r"\1[readUndo](../crates/format/specs/Reader.antt#L1)"),
+     r"\1[readUndo](../crates/format/specs/Reader.antt)"),
+    ("a refusal without a definition", r"(?m)^(\| 14 \|.*)\[readData\]\([^)]+\)", r"\1readData"),
     ("a field that is missing", r"`subtrees`, `valid`, `object` \|", "`valid`, `object` |"),
     ("a field that is not there", r"`subtrees`, `valid`, `object` \|", "`subtrees`, `valid`, `object`, `mode` |"),
     ("a field twice", r"`subtrees`, `valid`, `object` \|", "`subtrees`, `valid`, `valid`, `object` |"),
@@ -58,7 +76,15 @@ WRONG_PAGES = (
     ("no list of definitions", r"## The definitions", "## Definitions"),
 )
 
-RENEWED = 7  # so many of them, from the first, are mended by --renew
+# Edits of one source: what, old, new, said. Where nothing is said, the page is still right.
+SOURCE = assurance.RULE_OF_FILES[0]
+WRONG_SOURCES = (
+    ("lines that moved", r"\A", "-- one\n-- two\n", None),
+    ("a definition that is gone", r"(?m)^(.*\b)okMode( : .*)$", r"\1goodMode\2", "declares okMode 0 times"),
+    ("a definition that is declared twice", r"(?m)^(.*\bokMode : .*)$", r"\1\n\1", "declares okMode 2 times"),
+    ("a new definition that a statement rests on", r"(?m)^(okMode .*)$", r"\1 newMode\nnewMode : Bool",
+     "a statement rests on it"),
+)
 
 # What the log of a crate says in place of what is right.
 WRONG_LOGS = (
@@ -72,22 +98,61 @@ WRONG_LOGS = (
 )
 
 
-def failures(page: assurance.Page) -> set:
-    return {name for name, good, _ in assurance.tests(page) if not good}
+def failures(page: assurance.Page) -> dict:
+    """What is wrong, by the name of the test."""
+    return {name: detail for name, good, detail in assurance.tests(page) if not good}
+
+
+def load() -> str:
+    with open(os.path.join(definitions.ROOT, assurance.PAGE), encoding="utf-8") as stream:
+        return stream.read()
 
 
 def pages(report: Report) -> None:
-    with open(os.path.join(definitions.ROOT, assurance.PAGE), encoding="utf-8") as stream:
-        text = stream.read()
+    text = load()
     known = failures(assurance.Page(text))
-    for what, old, new in WRONG_PAGES:
+    rows = [(*row, "") for row in WRONG_FIGURES + WRONG_PAGES]
+    for what, old, new, said in rows + list(WRONG_NAMES):
         wrong, edits = re.subn(old, new, text)
-        noticed = edits > 0 and failures(assurance.Page(wrong)) - known
-        report.test(f"wrong page is noticed: {what}", bool(noticed), f"{edits} edits")
+        noticed = failures(assurance.Page(wrong)).items() - known.items()
+        good = edits > 0 and any(said in detail for _, detail in noticed)
+        report.test(f"wrong page is noticed: {what}", good, f"{edits} edits", noticed)
+
+
+def figures(report: Report) -> None:
+    text = load()
     right = assurance.renewed(assurance.Page(text))
-    for what, old, new in WRONG_PAGES[:RENEWED]:
+    for what, old, new in WRONG_FIGURES:
         again = assurance.renewed(assurance.Page(re.sub(old, new, text)))
         report.test(f"written anew: {what}", again == right)
+
+
+@contextlib.contextmanager
+def edited(path: str, text: str):
+    """The repository with another text of one source."""
+    read = definitions.lines_of
+    cached = (definitions.declarations, definitions.owner, definitions.imports, definitions.headers, definitions.cited)
+
+    def lines_of(one: str) -> tuple:
+        return tuple(text.split("\n")) if one == path else read(one)
+
+    with mock.patch.object(definitions, "lines_of", lines_of):
+        for function in cached:
+            function.cache_clear()
+        yield
+    for function in cached:
+        function.cache_clear()
+
+
+def sources(report: Report) -> None:
+    page, source = load(), "\n".join(definitions.lines_of(SOURCE))
+    known = failures(assurance.Page(page))
+    for what, old, new, said in WRONG_SOURCES:
+        text, edits = re.subn(old, new, source)
+        with edited(SOURCE, text):
+            noticed = failures(assurance.Page(page)).items() - known.items()
+        good = any(said in detail for _, detail in noticed) if said else not noticed
+        report.test(f"source: {what}", edits == 1 and good, f"{edits} edits", noticed)
 
 
 def write_logs(folder: str, said: dict) -> None:
@@ -99,15 +164,14 @@ def write_logs(folder: str, said: dict) -> None:
 
 
 def logs(report: Report) -> None:
-    with open(os.path.join(definitions.ROOT, assurance.PAGE), encoding="utf-8") as stream:
-        text = re.sub(r"\d+ functions proved", f"{len(assurance.crates())} functions proved", stream.read())
+    text = re.sub(r"\d+ functions proved", f"{len(assurance.crates())} functions proved", load())
     known = failures(assurance.Page(text))
     rows = (("nothing", "format", "logic=proved functions=1"),) + WRONG_LOGS
     for what, crate, line in rows:
         with tempfile.TemporaryDirectory() as folder:
             write_logs(folder, {crate: line})
-            noticed = bool(failures(assurance.Page(text, folder)) - known)
-        report.same(f"wrong log is noticed: {what}", what != "nothing", noticed)
+            noticed = failures(assurance.Page(text, folder)).items() - known.items()
+        report.same(f"wrong log is noticed: {what}", what != "nothing", bool(noticed))
 
 
 def citing(report: Report) -> None:
@@ -132,5 +196,5 @@ def citing(report: Report) -> None:
 
 
 def noticed(report: Report) -> None:
-    for group in (pages, logs, citing):
+    for group in (pages, figures, sources, logs, citing):
         group(report)

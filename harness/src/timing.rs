@@ -1,7 +1,6 @@
 //! How time is measured: the processor's, by medians of runs in turn, in one process.
 
 use std::fmt::Debug;
-use std::fs;
 
 pub const RUNS: usize = 11;
 
@@ -64,14 +63,4 @@ struct Timespec {
 
 extern "C" {
     fn clock_gettime(clock: i32, time: &mut Timespec) -> i32;
-}
-
-/// The processor's name.
-pub fn processor() -> String {
-    let info = fs::read_to_string("/proc/cpuinfo").unwrap_or_default();
-    let line = info.lines().find(|line| line.starts_with("model name"));
-    match line.and_then(|line| line.split_once(':')) {
-        Some((_, name)) => name.trim().to_string(),
-        None => "an unnamed processor".to_string(),
-    }
 }

@@ -1,6 +1,7 @@
 //! Rewrite, put and remove beside check.
 
-use crate::table::{beside, mib, milliseconds, Table};
+use crate::part::{progress, Part};
+use crate::table::{beside, mib, milliseconds, range, Table};
 use harness::index_file::{self, list_entry, Order, Repository};
 use harness::{ffi, timing};
 use std::cell::{Cell, RefCell};
@@ -8,30 +9,34 @@ use std::cell::{Cell, RefCell};
 /// Version 2, since no entry needs the extended word.
 const ASKED: u32 = 0;
 
-pub fn figures() -> Result<(), String> {
-    let table = Table::new(
-        "Rewrite, put and remove on files with full cache trees; in brackets, the multiple of check's time.",
-        &[
-            ("File", 9),
-            ("MiB", 4),
-            ("check", 9),
-            ("rewrite in 2", 16),
-            ("rewrite in 4", 16),
-            ("put", 16),
-            ("remove", 16),
-        ],
-    );
+/// The median seconds of check, rewrite in 2 and in 4, put and remove on a file.
+struct Row {
+    version: u32,
+    bytes: usize,
+    seconds: [f64; 5],
+}
+
+pub fn figures() -> Result<Part, String> {
+    let mut rows = Vec::new();
     for version in [2, 4] {
         for mebibytes in [1, 2, 4, 8, 16] {
             // A file of version 4 is longer in version 2: what is written has to fit 16 MiB.
             let most_bytes = (mebibytes << 20) * 2 / version as usize;
-            row(&table, version, most_bytes)?;
+            rows.push(measure(version, most_bytes)?);
         }
     }
-    Ok(())
+    let mut part = Part::new("Rewrite, put and remove");
+    part.add("Files with full cache trees; in brackets, the multiple of check's time.");
+    part.add(table(&rows));
+    let ratios = rows.iter().flat_map(|row| {
+        let [check, _, _, put, remove] = row.seconds;
+        [put / check, remove / check]
+    });
+    part.add_short("put, remove / check", range(ratios), String::new());
+    Ok(part)
 }
 
-fn row(table: &Table, version: u32, most_bytes: usize) -> Result<(), String> {
+fn measure(version: u32, most_bytes: usize) -> Result<Row, String> {
     let (file, names) = Repository {
         version,
         widths: index_file::NESTED,
@@ -40,15 +45,40 @@ fn row(table: &Table, version: u32, most_bytes: usize) -> Result<(), String> {
         most_bytes,
     }
     .lay_out();
-    let times = medians(&file, &names[names.len() / 2])?;
-    let mut cells = vec![
-        format!("version {version}"),
-        mib(file.len()),
-        milliseconds(times[0]),
-    ];
-    cells.extend(times[1..].iter().map(|&time| beside(time, times[0])));
-    table.row(&cells);
-    Ok(())
+    let bytes = file.len();
+    progress(
+        "edits",
+        &format!("version {version}, {:.1} MiB", mib(bytes)),
+    );
+    let seconds = medians(&file, &names[names.len() / 2])?;
+    Ok(Row {
+        version,
+        bytes,
+        seconds,
+    })
+}
+
+fn table(rows: &[Row]) -> Table {
+    let mut table = Table::new(&[
+        "File",
+        "MiB",
+        "check",
+        "rewrite in 2",
+        "rewrite in 4",
+        "put",
+        "remove",
+    ]);
+    for row in rows {
+        let [check, others @ ..] = row.seconds;
+        let mut cells = vec![
+            format!("version {}", row.version),
+            format!("{:.1}", mib(row.bytes)),
+            milliseconds(check),
+        ];
+        cells.extend(others.map(|seconds| beside(seconds, check)));
+        table.row(cells);
+    }
+    table
 }
 
 /// The median seconds of each call. A name is removed, and one beside it put.

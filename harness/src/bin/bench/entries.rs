@@ -1,5 +1,6 @@
 //! Entry k beside check, and a walk beside entry k.
 
+use crate::part::{progress, Part};
 use crate::table::{beside, milliseconds, nanoseconds, Table};
 use harness::ffi::{Fields, Name, StartReply, StepReply};
 use harness::index_file::{self, Order, Repository};
@@ -10,25 +11,26 @@ const ENTRIES: u32 = 100_000;
 /// Every so many entries of a walk are compared with those that entry k shows.
 const STRIDE: u32 = 1000;
 
-pub fn figures() -> Result<(), String> {
-    let table = Table::new(
-        "Entry k in a file of 100,000 entries; in brackets, the multiple of check's time.",
-        &[
-            ("File", 9),
-            ("check", 9),
-            ("the first", 16),
-            ("the middle", 16),
-            ("the last", 16),
-        ],
-    );
+pub fn figures() -> Result<Part, String> {
+    let mut part = Part::new("Single entries and a walk");
+    part.add("Entry k in a file of 100,000 entries; in brackets, the multiple of check's time.");
+    part.add(single_entries()?);
+    part.add("A walk over 100,000 entries of version 2, beside entry k for a hundred of them.");
+    part.add(walk()?);
+    Ok(part)
+}
+
+fn single_entries() -> Result<Table, String> {
+    let mut table = Table::new(&["File", "check", "the first", "the middle", "the last"]);
     for version in [2, 4] {
+        progress("entries", &format!("single entries, version {version}"));
         let (file, names) = file(version);
         let times = any_entry(&file, &names)?;
         let mut cells = vec![format!("version {version}"), milliseconds(times[0])];
         cells.extend(times[1..].iter().map(|&time| beside(time, times[0])));
-        table.row(&cells);
+        table.row(cells);
     }
-    walk()
+    Ok(table)
 }
 
 fn file(version: u32) -> (Vec<u8>, Vec<Vec<u8>>) {
@@ -75,25 +77,21 @@ pub fn shown<'a>(file: &'a [u8], work: &'a [u8], name: Name) -> &'a [u8] {
     &buffer[name.offset..name.offset + name.length]
 }
 
-fn walk() -> Result<(), String> {
+fn walk() -> Result<Table, String> {
+    progress("entries", "a walk");
     let (file, _) = file(2);
     let [start, walk, entries] = walk_and_entries(&file)?;
-    let (step, entry) = (
-        walk / f64::from(ENTRIES),
-        entries / f64::from(ENTRIES / STRIDE),
-    );
-    let table = Table::new(
-        "A walk over 100,000 entries of version 2, beside entry k for a hundred of them.",
-        &[
-            ("Entries", 0),
-            ("walk_start", 0),
-            ("all steps", 9),
-            ("a step", 8),
-            ("entry k", 9),
-            ("entry k / step", 0),
-        ],
-    );
-    table.row(&[
+    let step = walk / f64::from(ENTRIES);
+    let entry = entries / f64::from(ENTRIES / STRIDE);
+    let mut table = Table::new(&[
+        "Entries",
+        "walk_start",
+        "all steps",
+        "a step",
+        "entry k",
+        "entry k / step",
+    ]);
+    table.row(vec![
         ENTRIES.to_string(),
         milliseconds(start),
         milliseconds(walk),
@@ -101,7 +99,7 @@ fn walk() -> Result<(), String> {
         milliseconds(entry),
         format!("{:.0}", entry / step),
     ]);
-    Ok(())
+    Ok(table)
 }
 
 /// The median seconds of the walk's start, of all its steps, and of entry k for each of those that are compared.

@@ -1,28 +1,41 @@
-//! The figures of the library, each beside the one that it is to be read with. Without an argument all are measured.
+//! The figures of the library, each beside the one that it is to be read with. Without an argument all are measured,
+//! and the page docs/SPEED.md is written.
 
 #![deny(warnings)]
 
+mod calls;
 mod check;
 mod edits;
 mod entries;
 mod hostile;
+mod levels;
+mod machine;
+mod page;
+mod part;
+mod plot;
+mod scale;
 mod sha1;
+mod size;
 mod stack;
+mod svg;
 mod table;
 
-use harness::timing;
+use part::Part;
 use std::env;
 use std::process::exit;
-use std::thread;
 
-type Section = fn() -> Result<(), String>;
+/// A part's name, and what measures it.
+type Measure = (&'static str, fn() -> Result<Part, String>);
 
-const SECTIONS: [(&str, Section); 5] = [
+/// The parts in the page's order.
+const PARTS: [Measure; 7] = [
+    ("size", size::figures),
     ("check", check::figures),
     ("sha1", sha1::figures),
     ("entries", entries::figures),
     ("edits", edits::figures),
     ("stack", stack::figures),
+    ("hostile", hostile::figures),
 ];
 
 fn main() {
@@ -35,41 +48,47 @@ fn main() {
 }
 
 fn run(arguments: &[&str]) -> Result<(), String> {
-    let one = |name: &str| SECTIONS.into_iter().find(|section| section.0 == name);
     match arguments {
-        [] => {
-            head(arguments);
-            SECTIONS.iter().try_for_each(|(_, figures)| figures())?;
-            hostile::figures(hostile::STACK, "")
-        }
-        ["hostile", rest @ ..] if rest.len() <= 2 => {
-            let kib = rest.first().map_or(Ok(hostile::STACK), |text| text.parse());
-            let kib = kib.unwrap_or_else(|_| usage());
-            head(arguments);
-            hostile::figures(kib, rest.get(1).unwrap_or(&""))
-        }
+        [] => all(),
         [name] => {
-            let (_, figures) = one(name).unwrap_or_else(|| usage());
-            head(arguments);
-            figures()
+            let part = PARTS.into_iter().find(|part| part.0 == *name);
+            let (_, figures) = part.unwrap_or_else(|| usage());
+            one(arguments, figures)
+        }
+        ["hostile", kib, rest @ ..] if rest.len() <= 1 => {
+            let kib = kib.parse().unwrap_or_else(|_| usage());
+            let name = rest.first().unwrap_or(&"");
+            one(arguments, || hostile::figures_of(kib, name))
         }
         _ => usage(),
     }
 }
 
-fn usage() -> ! {
-    eprintln!("usage: bench [check | sha1 | entries | edits | stack | hostile [KIB [NAME]]]");
-    exit(2);
+/// Prints one part.
+fn one(arguments: &[&str], figures: impl FnOnce() -> Result<Part, String>) -> Result<(), String> {
+    let command = [&["./bench"], arguments].concat().join(" ");
+    println!("{}", page::head(&command));
+    print!("{}", figures()?.text);
+    Ok(())
 }
 
-/// The command and the machine.
-fn head(arguments: &[&str]) {
-    let command = [&["./bench"], arguments].concat().join(" ");
-    let processors = thread::available_parallelism().map_or(1, |number| number.get());
-    println!(
-        "`{command}` on {}, {processors} processors. Times are the processor's: medians of {} runs in turn in one \
-        process, where nothing else is said.",
-        timing::processor(),
-        timing::RUNS
+/// Prints all parts, each when it is measured, and writes the page.
+fn all() -> Result<(), String> {
+    page::writable()?;
+    println!("{}", page::head("./bench"));
+    let mut parts = Vec::new();
+    for (number, (name, figures)) in PARTS.iter().enumerate() {
+        eprintln!("bench: part {} of {}: {name}", number + 1, PARTS.len());
+        let part = figures()?;
+        println!("{}", part.text);
+        parts.push(part);
+    }
+    page::write(parts)
+}
+
+fn usage() -> ! {
+    eprintln!(
+        "usage: bench [size | check | sha1 | entries | edits | stack | hostile [KIB [NAME]]]"
     );
+    exit(2);
 }

@@ -1,5 +1,6 @@
 //! The proved SHA-1 against plain Rust.
 
+use crate::part::{progress, Part};
 use crate::table::{milliseconds, nanoseconds, ratio, Table};
 use harness::{ffi, plain, timing};
 use std::cell::Cell;
@@ -10,31 +11,27 @@ const SHORT_TOTAL: usize = 2 << 20;
 
 type Digest = [u8; ffi::DIGEST];
 
-pub fn figures() -> Result<(), String> {
-    let table = Table::new(
-        "SHA-1 against plain Rust (loops over 80 words, no special instructions).",
-        &[
-            ("Bytes a message", 0),
-            ("ours", 9),
-            ("plain", 9),
-            ("ours / plain", 0),
-        ],
-    );
+pub fn figures() -> Result<Part, String> {
+    let mut table = Table::new(&["Bytes a message", "ours", "plain", "ours / plain"]);
     for length in [LONG, 64, 300, 1000] {
+        progress("sha1", &format!("{length} bytes"));
         let [ours, plain] = medians(length, (SHORT_TOTAL / length).max(1))?;
         let time = if length == LONG {
             milliseconds
         } else {
             nanoseconds
         };
-        table.row(&[
+        table.row(vec![
             length.to_string(),
             time(ours),
             time(plain),
             ratio(ours, plain),
         ]);
     }
-    Ok(())
+    let mut part = Part::new("SHA-1");
+    part.add("SHA-1 against plain Rust (loops over 80 words, no special instructions).");
+    part.add(table);
+    Ok(part)
 }
 
 /// The median seconds a message, of the proved function and of plain Rust.

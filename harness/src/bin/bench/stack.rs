@@ -1,132 +1,129 @@
-//! The deepest stack of each call, over the files that take most.
+//! The deepest stack of each call over the files that take most.
 
-use crate::entries::shown;
-use crate::table::Table;
-use harness::ffi::{self, CheckReply};
+use crate::calls::{Request, CALLS};
+use crate::levels::{self, AIM, LEVELS, SHALLOW, SHALLOW_AIM, SHORT};
+use crate::part::{progress, Part};
+use crate::table::{kib, Table};
 use harness::hostile::{self, Case};
-use harness::index_file::{self, list_entry};
-use harness::stack;
 
-/// How long the files are whose length does not matter.
-const SHORT: usize = 1 << 16;
+const TEXT: &str = "The deepest stack of each call in KiB: on files of every depth, whose cache trees have up to 128 levels, \
+    and on those of at most 16 levels; the root is the first. The files are chains of directories, searches of every \
+    kind for a sibling, long names, and short ones of the files that were made to be slow. A call runs on a stack that \
+    was painted before, and what lost the paint is counted.";
 
-/// What the calls are asked on a file, and what they may write to.
-struct Request {
-    file: Vec<u8>,
-    counts: CheckReply,
-    /// The last entry, to be removed, or where there is none the path to the last level.
-    old: Vec<u8>,
-    /// An entry beside it, to be put.
-    new: Vec<u8>,
-    asked: u32,
-    work: Vec<u8>,
-    out: Vec<u8>,
+/// A file, and how many levels its tree has at most.
+struct File {
+    levels: usize,
+    case: Case,
 }
 
-/// A call, and what stack it took.
-type Call = (&'static str, fn(&mut Request) -> usize);
-
-const CALLS: [Call; 10] = [
-    ("check", |r| depth(|| ffi::check(&r.file, &mut r.work))),
-    ("entry", |r| {
-        let k = r.counts.entries.saturating_sub(1);
-        depth(|| ffi::entry(&r.file, &mut r.work, k))
-    }),
-    ("tree_node", |r| {
-        let k = r.counts.nodes.saturating_sub(1);
-        depth(|| ffi::tree_node(&r.file, &mut r.work, k))
-    }),
-    ("undo_record", |r| {
-        let k = r.counts.records.saturating_sub(1);
-        depth(|| ffi::undo_record(&r.file, &mut r.work, k))
-    }),
-    ("rewrite", |r| {
-        depth(|| ffi::rewrite(&r.file, &mut r.work, &mut r.out, r.asked))
-    }),
-    ("put", |r| {
-        depth(|| {
-            ffi::put(
-                &r.file,
-                &mut r.work,
-                &mut r.out,
-                r.asked,
-                &r.new,
-                list_entry(),
-            )
-        })
-    }),
-    ("remove", |r| {
-        depth(|| ffi::remove(&r.file, &mut r.work, &mut r.out, r.asked, &r.old, 0))
-    }),
-    ("walk_start", |r| {
-        depth(|| ffi::walk_start(&r.file, &mut r.work))
-    }),
-    ("walk_next", |r| {
-        depth(|| ffi::walk_next(&r.file, 12, r.counts.entries))
-    }),
-    ("sha1", |r| depth(|| ffi::sha1(&r.file))),
-];
-
-fn depth<T>(mut call: impl FnMut() -> T) -> usize {
-    stack::depth(&mut || drop(call()))
+pub fn figures() -> Result<Part, String> {
+    let (any, shallow) = deepest()?;
+    let series = levels::measure()?;
+    let mut part = Part::new("Stack");
+    part.add(TEXT);
+    part.add(call_table(&any, &shallow));
+    part.add(verdict(&any, &shallow));
+    part.add(levels::TEXT);
+    part.add(levels::table(&series));
+    for (what, deepest, aim) in [
+        ("the deepest stack of a call", &any, AIM),
+        (
+            "the same on trees of at most 16 levels",
+            &shallow,
+            SHALLOW_AIM,
+        ),
+    ] {
+        part.add_short(
+            what,
+            format!("{:.1} KiB", most(deepest)),
+            format!("{aim:.0} KiB"),
+        );
+    }
+    part.panel = Some(levels::panel(&series));
+    Ok(part)
 }
 
-pub fn figures() -> Result<(), String> {
-    let mut deepest = CALLS.map(|_| (0, ""));
-    for case in files() {
-        let name = case.name;
-        let mut request = request(case)?;
+/// The bytes that a call took at most, and on which file.
+type Deepest = Vec<(usize, String)>;
+
+/// The deepest of each call on all files, and on those with shallow trees.
+fn deepest() -> Result<(Deepest, Deepest), String> {
+    let mut any = vec![(0, String::new()); CALLS.len()];
+    let mut shallow = any.clone();
+    for file in files() {
+        progress("stack", &file.case.name);
+        let mut request = Request::new(&file.case, file.levels)?;
         for asked in [2, 4] {
             request.asked = asked;
-            measure(&mut request, name, &mut deepest);
+            let depths = CALLS.map(|(_, call)| call(&mut request));
+            keep(&mut any, &depths, &file.case.name);
+            if file.levels <= SHALLOW {
+                keep(&mut shallow, &depths, &file.case.name);
+            }
         }
     }
-    let title = "The deepest stack of each call over deep trees and long names.";
-    let table = Table::new(title, &[("Call", 11), ("KiB", 5), ("deepest on", 40)]);
-    for ((call, _), (bytes, name)) in CALLS.iter().zip(deepest) {
-        let kib = format!("{:.1}", bytes as f64 / 1024.0);
-        table.row(&[call.to_string(), kib, name.to_string()]);
-    }
-    Ok(())
+    Ok((any, shallow))
 }
 
-fn files() -> Vec<Case> {
-    let mut files = hostile::deep_cases(SHORT);
-    files.extend(hostile::long_name_cases(SHORT));
-    files.push(hostile::undo_case(SHORT));
+fn keep(deepest: &mut Deepest, depths: &[usize], name: &str) {
+    for (most, &bytes) in deepest.iter_mut().zip(depths) {
+        if bytes > most.0 {
+            *most = (bytes, name.to_string());
+        }
+    }
+}
+
+fn files() -> Vec<File> {
+    let mut files = Vec::new();
+    let mut add = |levels, cases: Vec<Case>| {
+        files.extend(cases.into_iter().map(|case| File { levels, case }));
+    };
+    for levels in LEVELS {
+        add(levels, hostile::deep_cases(levels, SHORT));
+        add(levels, hostile::search_cases(levels));
+    }
+    add(hostile::SHORT_LEVELS, hostile::short_cases());
+    add(1, hostile::long_name_cases(SHORT));
+    add(1, vec![hostile::undo_case(SHORT)]);
     files
 }
 
-fn request(case: Case) -> Result<Request, String> {
-    let mut work = vec![0; ffi::WORKSPACE];
-    let counts = ffi::check(&case.bytes, &mut work);
-    if counts.refusal != 0 {
-        return Err(format!("{}: {counts:?}", case.name));
+fn call_table(any: &Deepest, shallow: &Deepest) -> Table {
+    let shallow_head = format!("at most {SHALLOW} levels");
+    let mut table = Table::new(&[
+        "Call",
+        "any depth",
+        "deepest on",
+        &shallow_head,
+        "deepest on",
+    ]);
+    for ((call, _), (any, shallow)) in CALLS.iter().zip(any.iter().zip(shallow)) {
+        table.row(vec![
+            call.to_string(),
+            format!("{:.1}", kib(any.0)),
+            any.1.clone(),
+            format!("{:.1}", kib(shallow.0)),
+            shallow.1.clone(),
+        ]);
     }
-    let old = match counts.entries {
-        0 => [b"aaaa/", &b"d/".repeat(126)[..], b"x"].concat(),
-        n => {
-            let last = ffi::entry(&case.bytes, &mut work, n - 1);
-            shown(&case.bytes, &work, last.name).to_vec()
-        }
-    };
-    Ok(Request {
-        new: [&old[..old.len() - 1], b"~"].concat(),
-        old,
-        counts,
-        file: case.bytes,
-        asked: 0,
-        work,
-        out: vec![0; index_file::LARGEST],
-    })
+    table
 }
 
-/// Runs each call, and keeps the deepest.
-fn measure(request: &mut Request, name: &'static str, deepest: &mut [(usize, &str)]) {
-    for ((_, call), most) in CALLS.iter().zip(deepest) {
-        let bytes = call(request);
-        if bytes > most.0 {
-            *most = (bytes, name);
-        }
-    }
+/// The KiB of the deepest call.
+fn most(deepest: &Deepest) -> f64 {
+    kib(deepest.iter().map(|(bytes, _)| *bytes).max().unwrap_or(0))
+}
+
+fn verdict(any: &Deepest, shallow: &Deepest) -> String {
+    let told = |kib: f64, aim: f64| {
+        let met = if kib <= aim { "is kept" } else { "is not kept" };
+        format!("{kib:.1} KiB, and the limit of {aim:.0} {met}")
+    };
+    format!(
+        "The deepest call takes {}; on files of at most {SHALLOW} levels, {}. The start of a thread takes some KiB \
+        more.",
+        told(most(any), AIM),
+        told(most(shallow), SHALLOW_AIM)
+    )
 }
