@@ -1,8 +1,9 @@
 """A test of the tests: it needs no program of the library.
 
-It holds index_reader against the stored vectors, against the answers known from the making of files, against
-bytes written out by hand and against Git. Then it sees that the tests notice what they should: a row of wrong readings,
-each made from index_reader by one edit, stand-in programs that are right, wrong or fail, and wrong assurance pages. The last line is 'N passed, M failed', and the exit status is 0 only where M is 0.
+It holds index_reader against the stored vectors, against the answers known from the making of files, against bytes
+written out by hand and against Git. Then it sees that the tests notice what they should: a row of wrong readings, each
+made from index_reader by one edit, stand-in programs that are right, wrong or fail, and wrong assurance pages. The last
+line is 'N passed, M failed', and the exit status is 0 only where M is 0.
 """
 
 import contextlib
@@ -11,7 +12,6 @@ import io
 import os
 import shlex
 import shutil
-import struct
 import subprocess
 import sys
 import tempfile
@@ -32,13 +32,16 @@ from report import Report
 HERE = os.path.dirname(os.path.abspath(__file__))
 SEEDS = range(0, 60)
 
-# A program that answers each request with the bytes of its file.
-ECHO = """\
+# Programs that answer requests: each with the bytes of its file, or with one refusal.
+LOOP = """\
 for line in sys.stdin.buffer:
     file, name = (int(word) for word in line.split()[1:3])
-    sys.stdout.buffer.write(b"done %d\\n" % file + sys.stdin.buffer.read(file + name)[:file])
+    data = sys.stdin.buffer.read(file + name)[:file]
+    sys.stdout.buffer.write(ANSWER)
     sys.stdout.flush()
 """
+ECHO = LOOP.replace("ANSWER", 'b"done %d\\n" % file + data')
+REFUSING = LOOP.replace("ANSWER", 'b"refused 5 12\\n"')
 
 
 # ---- the reader against what is known
@@ -209,7 +212,7 @@ def edit_stand_ins(report: Report) -> None:
     folder = tempfile.mkdtemp(prefix="stand-in-")
     wrong = (
         ("input-bytes", ECHO),
-        ("one-answer", ECHO.replace('b"done %d\\n" % file + ', 'b"refused 5 12\\n" + 0 * ')),
+        ("one-answer", REFUSING),
         ("one-request", "sys.stdin.buffer.readline()\nsys.exit(1)\n"),
         ("silent", "pass\n"),
     )
