@@ -1,14 +1,13 @@
 -- The record that is shown: record number n of the list is what the bytes at its place say.
 use mathlib.Core.Path.{_≡_, refl, sym, ap, _∙_}
 use mathlib.Core.List.{List, [], _∷_}
-use mathlib.Core.Bool.{true, cond}
+use mathlib.Core.Bool.{true}
 use mathlib.Core.Option.{some}
 use Prim.Native.Nat.{ℕ, zero, suc, _+_, _-_, _≤_, _<_}
 use native.Mathlib.Omega.{arith}
 use lib.ListN.{length, take, drop, replicate, drop-of-length-le}
 use lib.Seq.{drop-drop}
-use lib.Dec.{ltb, lit≤}
-use borrow.Author.Tests.{lt-ltb}
+use lib.Dec.{lit≤}
 use Rattle.format.specs.Bytes.{before}
 use Rattle.format.specs.Names.{okName, compare, isBelow}
 use Rattle.format.specs.Records.{Undo}
