@@ -93,22 +93,22 @@ module _ (p : ℕ) where
         need-placed p (eqb m (length s)) _ _ (need-placed p (distinct (t .subtrees)) _ _ refl)
 
 -- the answer at any place
-tree-placed : (want p : ℕ) (d : List ℕ) → treeOf want d (readShape 20 0 d) ≡ treeOf want d (readShape 20 p d)
+tree-placed : (p : ℕ) (d : List ℕ) → treeOf (readShape 20 0 d) ≡ treeOf (readShape 20 p d)
 unfolding treeOf
-tree-placed want p d = sym (ap (treeOf want d) (shape-placed p 20 d) ∙ by (readShape 20 0 d))
+tree-placed p d = sym (ap treeOf (shape-placed p 20 d) ∙ by (readShape 20 0 d))
   where
-    by : (x : Read Tree) → treeOf want d (placed p x) ≡ treeOf want d x
+    by : (x : Read Tree) → treeOf (placed p x) ≡ treeOf x
     by (bad n q) = refl
     by (good t m) = refl
 
-pub answered : (want : ℕ) (d : List ℕ) (r : TreeRead) → treeOf want d (readShape 20 0 d) ≡ r → (p : ℕ) → r ≡ treeOf want d (readShape 20 p d)
-answered want d r e p = sym e ∙ tree-placed want p d
+pub answered : (d : List ℕ) (r : TreeRead) → treeOf (readShape 20 0 d) ≡ r → (p : ℕ) → r ≡ treeOf (readShape 20 p d)
+answered d r e p = sym e ∙ tree-placed p d
 
 -- a refusal is 15 at the place
-pub tree-fault : (want p : ℕ) (d : List ℕ) → T.Bad ≡ treeOf want d (readShape 20 p d) → readShape 20 p d ≡ bad 15 p
+pub tree-fault : (p : ℕ) (d : List ℕ) → T.Bad ≡ treeOf (readShape 20 p d) → readShape 20 p d ≡ bad 15 p
 unfolding treeOf
-tree-fault want p d e = shape-placed p 20 d ∙ by (readShape 20 0 d) (e ∙ sym (tree-placed want p d))
+tree-fault p d e = shape-placed p 20 d ∙ by (readShape 20 0 d) (e ∙ sym (tree-placed p d))
   where
-    by : (x : Read Tree) → T.Bad ≡ treeOf want d x → placed p x ≡ bad 15 p
+    by : (x : Read Tree) → T.Bad ≡ treeOf x → placed p x ≡ bad 15 p
     by (bad n q) e = refl
     by (good t m) e = let z : _≡_ {A = ℕ} 0 1 = cc in absurd (omega arith)

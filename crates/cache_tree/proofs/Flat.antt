@@ -78,21 +78,31 @@ trees-step k (x ∷ s) h m e =
 
 -- ---- a list of siblings that was read
 
-reads-is : (s : List ℕ) (f g : Forest) (k m n : ℕ) → Reads s f k m → f ≡ g → m ≡ n → Reads s g k n
-reads-is s f g k m n r e i = rw (← e, ← i) r
+-- siblings with at most so many levels
+pub data Levels : ℕ → Forest → Type 0 where
+  levels-none : {l : ℕ} → Levels l nil
+  levels-more : {l : ℕ} {n : Node} {kids after : Forest} → Levels l kids → Levels (suc l) after → Levels (suc l) (tree n kids after)
 
-pub forest-reads : (l k : ℕ) (s : List ℕ) (f : Forest) (m : ℕ) → readForest 20 0 l k s ≡ good f m → Reads s f k m
+reads-is : (l : ℕ) (s : List ℕ) (f g : Forest) (k m n : ℕ) → Reads s f k m × Levels l f → f ≡ g → m ≡ n → Reads s g k n × Levels l g
+reads-is l s f g k m n r e i = rw (← e, ← i) r
+
+pub forest-shape : (l k : ℕ) (s : List ℕ) (f : Forest) (m : ℕ) → readForest 20 0 l k s ≡ good f m → Reads s f k m × Levels l f
 unfolding readForest readSiblings
-forest-reads zero zero s f m e = good-inv nil f 0 m e (λ same size. reads-is s nil f 0 0 m reads-none same size)
-forest-reads zero (suc k) s f m e = bad-good 15 0 f m e
-forest-reads (suc l) zero s f m e = good-inv nil f 0 m e (λ same size. reads-is s nil f 0 0 m reads-none same size)
-forest-reads (suc l) (suc k) s f m e =
+forest-shape zero zero s f m e = good-inv nil f 0 m e (λ same size. reads-is zero s nil f 0 0 m (reads-none, levels-none) same size)
+forest-shape zero (suc k) s f m e = bad-good 15 0 f m e
+forest-shape (suc l) zero s f m e = good-inv nil f 0 m e (λ same size. reads-is (suc l) s nil f 0 0 m (reads-none, levels-none) same size)
+forest-shape (suc l) (suc k) s f m e =
     bind-inv (readNode 20 0 s) _ f m e λ h a i q r is.
     need-inv (okNodeName (h .node .name)) 15 0 _ f i r λ ok r₁.
     bind-inv (readForest 20 0 l (h .subtrees) (drop a s)) _ f i r₁ λ kids b j q₁ r₂ is₁.
     bind-inv (readForest 20 0 (suc l) k (drop b (drop a s))) _ f j r₂ λ after c o q₂ r₃ is₂.
     good-inv (tree (h .node) kids after) f 0 o r₃ λ same z.
-    reads-is s _ f (suc k) _ m (reads-more q (forest-reads l (h .subtrees) (drop a s) kids b q₁) (forest-reads (suc l) k (drop b (drop a s)) after c q₂)) same (omega arith)
+    let below = forest-shape l (h .subtrees) (drop a s) kids b q₁ in
+    let rest = forest-shape (suc l) k (drop b (drop a s)) after c q₂ in
+    reads-is (suc l) s _ f (suc k) _ m (reads-more q (below .0) (rest .0), levels-more (below .1) (rest .1)) same (omega arith)
+
+pub forest-reads : (l k : ℕ) (s : List ℕ) (f : Forest) (m : ℕ) → readForest 20 0 l k s ≡ good f m → Reads s f k m
+forest-reads l k s f m e = forest-shape l k s f m e .0
 
 -- ---- what stands where
 
@@ -113,7 +123,7 @@ unfolding width
 reads-width s _ _ _ reads-none = refl
 reads-width s _ _ _ (reads-more q r t) = ap suc (reads-width _ _ _ _ t)
 
-drops : (a b c : ℕ) (s : List ℕ) → drop c (drop b (drop a s)) ≡ drop (a + (b + c)) s
+pub drops : (a b c : ℕ) (s : List ℕ) → drop c (drop b (drop a s)) ≡ drop (a + (b + c)) s
 drops a b c s = drop-drop c b (drop a s) ∙ drop-drop (b + c) a s
 
 -- three parts of a node: its own bytes, its subtrees, its later siblings

@@ -7,4 +7,5 @@ pub mod Differ
 pub mod Bits
 pub mod Apart
 pub mod Shape
+pub mod Levels
 pub mod Faults

@@ -1,9 +1,8 @@
 -- The format's readings as this crate's functions answer them. Every fault is 15, so an answer has no number.
-use mathlib.Core.List.{List, [], _∷_}
-use mathlib.Core.Bool.{Bool, cond}
+use mathlib.Core.List.{List}
 use Prim.Native.Nat.{ℕ, zero, suc, _+_}
 use lib.ListN.{drop}
-use Rattle.format.specs.Records.{Forest, nil, tree, Item, items}
+use Rattle.format.specs.Records.{Forest, nil, tree}
 use Rattle.format.specs.Layout.{okNodeName}
 use Rattle.format.specs.Reading.{Read, bad, good, need, bind}
 use Rattle.format.specs.Reader.{readNode, readForest}
@@ -22,29 +21,16 @@ unfoldable pub size : Forest → ℕ
 size nil = 0
 size (tree n kids more) = suc (size kids + size more)
 
--- the first of two that is not 0
-abbrev pub either : ℕ → ℕ → ℕ
-either zero b = b
-either (suc a) b = suc a
+-- siblings that begin at a place
+unfoldable pub listAt : ℕ → Read Forest → ListRead
+listAt at (bad n p) = L.Bad
+listAt at (good f m) = L.Good (at + m) (size f)
 
--- the level of the item that is the kth from 1 on; 0 where there is none
-unfoldable pub levelIn : ℕ → List Item → ℕ
-levelIn zero [] = 0
-levelIn (suc k) [] = 0
-levelIn zero (i ∷ is) = 0
-levelIn (suc zero) (i ∷ is) = i .level
-levelIn (suc (suc k)) (i ∷ is) = levelIn (suc k) is
-
--- siblings that begin at a place, on a level
-unfoldable pub listAt : ℕ → ℕ → ℕ → Read Forest → ListRead
-listAt at level want (bad n p) = L.Bad
-listAt at level want (good f m) = L.Good (at + m) (size f) (levelIn want (items level f))
-
--- a node on a level and its list of subtrees; whether the node itself is wanted
-abbrev pub rooted : Bool → ℕ → ListRead → ListRead
-rooted wanted level L.Bad = L.Bad
-rooted wanted level (L.Good next n l) = L.Good next (n + 1) (cond wanted level l)
+-- a node and its list of subtrees
+abbrev pub rooted : ListRead → ListRead
+rooted L.Bad = L.Bad
+rooted (L.Good next n) = L.Good next (n + 1)
 
 abbrev pub nodesIn : ListRead → ℕ
 nodesIn L.Bad = 0
-nodesIn (L.Good next n l) = n
+nodesIn (L.Good next n) = n

@@ -4,17 +4,16 @@ use fields::find;
 use tree_nodes::node::NodeRead;
 use tree_nodes::node::read_node;
 ghost use mathlib.Core.Path.{_≡_};
-ghost use mathlib.Core.Bool.{cond};
-ghost use Prim.Native.Nat.{_+_, _-_, _≤_, _<_};
+ghost use Prim.Native.Nat.{_≤_, _<_};
 ghost use lib.ListN.{length, drop};
 ghost use Rattle.format.specs.Layout.{okNodeName};
 ghost use Rattle.format.specs.Reader.{readForest};
-ghost use Rattle.cache_tree.specs.Answers.{readOne, either, listAt, rooted, nodesIn};
+ghost use Rattle.cache_tree.specs.Answers.{readOne, listAt, rooted, nodesIn};
 
-// The place after a list, its number of nodes in all, and the level of the node that was wanted, 0 where it is not among these.
+// The place after a list and its number of nodes in all.
 pub enum ListRead {
     Bad,
-    Good { next: usize, nodes: u32, level: u32 },
+    Good { next: usize, nodes: u32 },
 }
 
 // Whether a node below the root may have this name: 1 byte or more, and no "/".
@@ -27,62 +26,24 @@ fn name_ok(name: &[u8]) -> bool
     find(name, 0, 47) == name.len()
 }
 
-// a less b, 0 at least.
-fn less(a: u32, b: u32) -> u32
-    ensures { λ r. ⌜ r ≡ a - b ⌝ }
-{
-    if a < b {
-        return 0;
-    }
-    a - b
-}
-
-// The first of two that is not 0.
-fn first(a: u32, b: u32) -> u32
-    ensures { λ r. ⌜ r ≡ either a b ⌝ }
-{
-    if a == 0 {
-        return b;
-    }
-    a
-}
-
-// The level of a node that is wanted, else that of one below it.
-fn either_level(wanted: bool, a: u32, b: u32) -> u32
-    ensures { λ r. ⌜ r ≡ cond wanted a b ⌝ }
-{
-    if wanted {
-        return a;
-    }
-    b
-}
-
-// A node on a level and its list of subtrees.
-pub(crate) fn with_root(listed: ListRead, wanted: bool, level: u32) -> ListRead
+// A node and its list of subtrees.
+pub(crate) fn with_root(listed: ListRead) -> ListRead
     requires { ⌜ nodesIn listed < 4294967295 ⌝ }
-    ensures { λ r. ⌜ r ≡ rooted wanted level listed ⌝ }
+    ensures { λ r. ⌜ r ≡ rooted listed ⌝ }
 {
     match listed {
         ListRead::Bad => ListRead::Bad,
-        ListRead::Good {
-            next,
-            nodes,
-            level: below,
-        } => {
-            let mine = either_level(wanted, level, below);
-            ListRead::Good {
-                next: next,
-                nodes: nodes + 1,
-                level: mine,
-            }
-        }
+        ListRead::Good { next, nodes } => ListRead::Good {
+            next: next,
+            nodes: nodes + 1,
+        },
     }
 }
 
-// The node at a place and all below it, with at most so many levels. want counts from 1; 0 means none.
-pub fn read_subtree(d: &[u8], at: usize, levels: u32, want: u32) -> ListRead
+// The node at a place and all below it, with at most so many levels.
+pub fn read_subtree(d: &[u8], at: usize, levels: u32) -> ListRead
     requires { ⌜ (at ≤ length (now d)) × (length (now d) ≤ 16777216) × (levels ≤ 127) ⌝ }
-    ensures { λ r. ⌜ r ≡ listAt at (129 - levels) want (readOne levels (drop at (now (d .entry)))) ⌝ }
+    ensures { λ r. ⌜ r ≡ listAt at (readOne levels (drop at (now (d .entry)))) ⌝ }
 {
     if levels == 0 {
         return ListRead::Bad;
@@ -93,9 +54,8 @@ pub fn read_subtree(d: &[u8], at: usize, levels: u32, want: u32) -> ListRead
         NodeRead::Good(node) => {
             let nul = node.nul;
             if name_ok(&d[at..nul]) {
-                let below = less(want, 1);
-                let listed = read_list(d, node.next, levels - 1, node.subtrees, below);
-                return with_root(listed, want == 1, 129 - levels);
+                let listed = read_list(d, node.next, levels - 1, node.subtrees);
+                return with_root(listed);
             }
             ListRead::Bad
         }
@@ -103,37 +63,28 @@ pub fn read_subtree(d: &[u8], at: usize, levels: u32, want: u32) -> ListRead
 }
 
 // k siblings at a place and all below them, with at most so many levels.
-pub fn read_list(d: &[u8], at: usize, levels: u32, k: u32, want: u32) -> ListRead
+pub fn read_list(d: &[u8], at: usize, levels: u32, k: u32) -> ListRead
     requires { ⌜ (at ≤ length (now d)) × (length (now d) ≤ 16777216) × (levels ≤ 127) ⌝ }
-    ensures { λ r. ⌜ r ≡ listAt at (129 - levels) want (readForest 20 0 levels k (drop at (now (d .entry)))) ⌝ }
+    ensures { λ r. ⌜ r ≡ listAt at (readForest 20 0 levels k (drop at (now (d .entry)))) ⌝ }
 {
     let mut place = at;
     let mut left = k;
-    let mut wanted = want;
     let mut nodes: u32 = 0;
-    let mut level: u32 = 0;
     while 0 < left {
-        let read = read_subtree(d, place, levels, wanted);
+        let read = read_subtree(d, place, levels);
         match read {
             ListRead::Bad => {
                 return ListRead::Bad;
             }
-            ListRead::Good {
-                next,
-                nodes: n,
-                level: l,
-            } => {
+            ListRead::Good { next, nodes: n } => {
                 place = next;
                 left -= 1;
-                wanted = less(wanted, n);
                 nodes += n;
-                level = first(level, l);
             }
         }
     }
     ListRead::Good {
         next: place,
         nodes: nodes,
-        level: level,
     }
 }

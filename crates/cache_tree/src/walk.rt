@@ -2,30 +2,87 @@
 use tree_nodes::node::NodeRead;
 use tree_nodes::node::read_node;
 ghost use mathlib.Core.Path.{_≡_};
-ghost use Prim.Native.Nat.{_+_, _≤_};
+ghost use Prim.Native.Nat.{suc, _+_, _-_, _≤_, _<_};
 ghost use lib.ListN.{length, drop};
-ghost use Rattle.format.specs.Places.{nodeStart};
 ghost use Rattle.cache_tree.specs.Flat.{treesLength};
+ghost use Rattle.cache_tree.specs.Levels.{stackOf, climbed, passed, NodeFound};
 
-// Where node number k begins, from 0 on; the end where there are fewer.
-pub fn place_of(d: &[u8], k: u32) -> usize
-    ensures { λ r. ⌜ (r ≡ nodeStart 20 k (now (d .entry))) × (r ≤ length (now (d .entry))) ⌝ }
+// The place of a node in the data and its level, from 1 on.
+pub struct NodePlace {
+    pub place: usize,
+    pub level: u32,
+}
+
+fn one_less(n: u32) -> u32
+    ensures { λ r. ⌜ r ≡ n - 1 ⌝ }
 {
-    let mut place = 0;
+    if n == 0 {
+        return 0;
+    }
+    n - 1
+}
+
+// A node at a depth is passed, and its subtrees remain one depth further down.
+fn enter(remaining: &mut [u32; 128], depth: usize, subtrees: u32) -> usize
+    requires { ⌜ (length (now remaining) ≡ 128) × (depth < 128) ⌝ }
+    ensures { λ r. ⌜ (length (now (remaining .exit)) ≡ 128) × (r < 128) × ((0 < subtrees → depth < 127) → climbed (stackOf (now (remaining .exit)) (suc r)) ≡ passed subtrees (stackOf (now (remaining .entry)) (suc depth))) ⌝ }
+{
+    remaining[depth] = one_less(remaining[depth]);
+    if subtrees == 0 {
+        return depth;
+    }
+    if 126 < depth {
+        return depth;
+    }
+    remaining[depth + 1] = subtrees;
+    depth + 1
+}
+
+// Up from a depth to one on which siblings remain; the root's where there is none.
+fn climb(remaining: &[u32; 128], depth: usize) -> usize
+    requires { ⌜ depth < 128 ⌝ }
+    ensures { λ r. ⌜ (r < 128) × (stackOf (now (remaining .entry)) (suc r) ≡ climbed (stackOf (now (remaining .entry)) (suc depth))) ⌝ }
+{
+    let mut at = depth;
+    while 0 < at {
+        if 0 < remaining[at] {
+            return at;
+        }
+        at -= 1;
+    }
+    0
+}
+
+// Node number k, from 0 on; the end where there are fewer. On each depth down to the next node's, so many siblings remain.
+pub fn find_node(d: &[u8], k: u32) -> NodePlace
+    ensures { λ r. ⌜ NodeFound (now (d .entry)) k r ⌝ }
+{
+    let mut remaining = [0u32; 128];
+    remaining[0] = 1;
+    let mut depth: usize = 0;
+    let mut place: usize = 0;
     let mut left = k;
     while 0 < left {
         let read = read_node(d, place);
         match read {
             NodeRead::Bad => {
-                return d.len();
+                return NodePlace {
+                    place: d.len(),
+                    level: 0,
+                };
             }
             NodeRead::Good(node) => {
+                let below = enter(&mut remaining, depth, node.subtrees);
+                depth = climb(&remaining, below);
                 place = node.next;
                 left -= 1;
             }
         }
     }
-    place
+    NodePlace {
+        place: place,
+        level: depth as u32 + 1,
+    }
 }
 
 // The place after a node and all below it; the end where there is none. Each node adds its subtrees to those that are still to pass.

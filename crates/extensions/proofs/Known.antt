@@ -13,9 +13,8 @@ use Rattle.format_laws.proofs.Lists.{part-length}
 use Rattle.format_laws.proofs.Readings.{same-size}
 use Rattle.spelling_extensions.proofs.Undo.{read-undos, undos-read}
 use Rattle.resolve_undo.specs.declared.RecordsRead.the-variants as S
-use Rattle.format.specs.Places.{undoStart, dataIn}
+use Rattle.format.specs.Places.{dataIn}
 use Rattle.resolve_undo.specs.Answers.{recordsRead}
-use Rattle.resolve_undo.proofs.Showing.{read-place, shown-item}
 use Rattle.extensions.specs.declared.Found.{Found}
 use Rattle.extensions.specs.declared.One.{One}
 use Rattle.extensions.specs.declared.One.the-variants as O
@@ -38,8 +37,8 @@ module _ {A : Type 0} (p : ℕ) (x : Read A) (kind : A → Extension) where
     known-good a m e = rw (new, e) (same-size (omega arith))
 
 -- what is answered of a reading is answered of one that is equal to it
-pub answered-as : (wn wr : ℕ) (b : List ℕ) (at : ℕ) (found : Found) {x y : Read Extension} (r : One) → x ≡ y → Answered wn wr b at found y r → Answered wn wr b at found x r
-answered-as wn wr b at found r e h = rw e h
+pub answered-as : (b : List ℕ) (at : ℕ) (found : Found) {x y : Read Extension} (r : One) → x ≡ y → Answered b at found y r → Answered b at found x r
+answered-as b at found r e h = rw e h
 
 -- the data that end by their size
 pub data-sized : (b : List ℕ) (at end : ℕ) → Inside b at end → part b (at + 8) end ≡ dataIn (at + 8) b
@@ -51,31 +50,27 @@ data-sized b at end inside =
 
 -- ---- resolve undo
 
-records-inv {ℓ} : {X : Type ℓ} (want count place at : ℕ) (r : Read (List Undo)) → S.Good count place ≡ recordsRead want at r
-    → ((us : List Undo) (k : ℕ) → r ≡ good us k → X) → X
-records-inv want count place at (bad n p) e f = let z : _≡_ {A = ℕ} 0 1 = cc in absurd (omega arith)
-records-inv want count place at (good us k) e f = f us k refl
+records-inv {ℓ} : {X : Type ℓ} (count : ℕ) (r : Read (List Undo)) → S.Good count ≡ recordsRead r → ((us : List Undo) (k : ℕ) → r ≡ good us k → count ≡ length us → X) → X
+records-inv count (bad n p) e f = let z : _≡_ {A = ℕ} 0 1 = cc in absurd (omega arith)
+records-inv count (good us k) e f = f us k refl (cc)
 
-records-fault : (want place p : ℕ) (r : Read (List Undo)) → Faults 17 p r → S.Bad ≡ recordsRead want place r → r ≡ bad 17 p
-records-fault want place p (bad n q) h e = h .only n q refl
-records-fault want place p (good us k) h e = let z : _≡_ {A = ℕ} 0 1 = cc in absurd (omega arith)
+records-fault : (p : ℕ) (r : Read (List Undo)) → Faults 17 p r → S.Bad ≡ recordsRead r → r ≡ bad 17 p
+records-fault p (bad n q) h e = h .only n q refl
+records-fault p (good us k) h e = let z : _≡_ {A = ℕ} 0 1 = cc in absurd (omega arith)
 
-module _ (want : ℕ) (b : List ℕ) (at end : ℕ) (inside : Inside b at end) (found : Found) (new : found .undo .there ≡ false) where
-  pub undo-refused : ((p : ℕ) → S.Bad ≡ recordsRead want (undoStart 20 p want [] (part b (at + 8) end)) (undosIn p (part b (at + 8) end)))
-      → known (found .undo .there) at (undosIn at (part b (at + 8) end)) resolveUndo ≡ bad 17 at
-  undo-refused e = known-bad at _ resolveUndo _ new 17 (records-fault want _ at _ (undos-faults 20 at _ [] (part b (at + 8) end)) (e at))
+module _ (b : List ℕ) (at end : ℕ) (inside : Inside b at end) (found : Found) (new : found .undo .there ≡ false) where
+  pub undo-refused : S.Bad ≡ recordsRead (undosIn at (part b (at + 8) end)) → known (found .undo .there) at (undosIn at (part b (at + 8) end)) resolveUndo ≡ bad 17 at
+  undo-refused e = known-bad at _ resolveUndo _ new 17 (records-fault at _ (undos-faults 20 at _ [] (part b (at + 8) end)) e)
 
-  pub undo-added : (wn count place : ℕ)
-      → ((p : ℕ) → S.Good count place ≡ recordsRead want (undoStart 20 p want [] (part b (at + 8) end)) (undosIn p (part b (at + 8) end)))
-      → Answered wn want b at found (known (found .undo .there) at (undosIn at (part b (at + 8) end)) resolveUndo)
-      (O.Good end (record { tree = found .tree; undo = record { there = true; at = at + 8; end = end; records = count; «record_at» = place } }))
-  undo-added wn count place e =
+  pub undo-added : (count : ℕ) → S.Good count ≡ recordsRead (undosIn at (part b (at + 8) end))
+      → Answered b at found (known (found .undo .there) at (undosIn at (part b (at + 8) end)) resolveUndo)
+      (O.Good end (record { tree = found .tree; undo = record { there = true; at = at + 8; end = end; records = count } }))
+  undo-added count e =
       let d : List ℕ = part b (at + 8) end in
-      records-inv want count place _ (undosIn at d) (e at) λ us k q.
+      records-inv count (undosIn at d) e λ us k q number.
       let l = part-length b (at + 8) end (inside .1) in
       let h = undos-read 20 at (length d) [] d us k q in
-      let zero : undosIn 0 d ≡ good us (length d) = read-undos 20 0 (length d) (h .1) (omega arith) in
-      let item = read-place 0 want count place d us (length d) zero (e 0) in (
+      let zero : undosIn 0 d ≡ good us (length d) = read-undos 20 0 (length d) (h .1) (omega arith) in (
         resolveUndo us,
         known-good at _ resolveUndo _ new us k q ∙ same-size (omega arith),
         (
@@ -86,9 +81,7 @@ module _ (want : ℕ) (b : List ℕ) (at end : ℕ) (inside : Inside b at end) (
             inside = inside .1;
             sized = data-sized b at end inside;
             reads = zero;
-            records = item .0;
-            place = item .1;
-            wanted = λ more. rw (item .1 more) (shown-item 0 want d us (length d) zero more);
+            records = number;
           },
           refl,
           refl,

@@ -43,28 +43,28 @@ first-last (b ∷ l) a e = none-some (sym e)
 
 -- ---- what was found, with one extension more
 
-module _ (wn wr : ℕ) (b : List ℕ) (place : ℕ) (found f : Found) where
-  seen-added : (e : Extension) → Added wn wr b place found f e → seenOf f ≡ alsoSeen e (seenOf found)
+module _ (b : List ℕ) (place : ℕ) (found f : Found) where
+  seen-added : (e : Extension) → Added b place found f e → seenOf f ≡ alsoSeen e (seenOf found)
   seen-added (cacheTree t) (new, is, here, same) = rw (same, is .there)
   seen-added (resolveUndo us) (new, is, here, same) = rw (same, is .there)
   seen-added (other s d) same = rw same
 
-  no-tree : (o : Option Tree) → TreeFound wn b o (found .tree) → found .tree .there ≡ false → o ≡ none
+  no-tree : (o : Option Tree) → TreeFound b o (found .tree) → found .tree .there ≡ false → o ≡ none
   no-tree none h e = refl
   no-tree (some t) h e = false-true (sym e ∙ h .there)
 
-  no-undo : (o : Option (List Undo)) → UndoFound wr b o (found .undo) → found .undo .there ≡ false → o ≡ none
+  no-undo : (o : Option (List Undo)) → UndoFound b o (found .undo) → found .undo .there ≡ false → o ≡ none
   no-undo none h e = refl
   no-undo (some us) h e = false-true (sym e ∙ h .there)
 
   module _ (xs : List Extension) where
-    tree-found : (e : Extension) → TreeFound wn b (first (trees xs)) (found .tree) → Added wn wr b place found f e → TreeFound wn b (first (trees (xs ++ (e ∷ [])))) (f .tree)
+    tree-found : (e : Extension) → TreeFound b (first (trees xs)) (found .tree) → Added b place found f e → TreeFound b (first (trees (xs ++ (e ∷ [])))) (f .tree)
     unfolding trees
     tree-found (cacheTree t) h (new, is, here, same) = rw (trees-append xs (cacheTree t ∷ []), first-last (trees xs) t (no-tree (first (trees xs)) h new)) is
     tree-found (resolveUndo us) h (new, is, here, same) = rw (trees-append xs (resolveUndo us ∷ []), append-nil (trees xs), same) h
     tree-found (other s d) h same = rw (trees-append xs (other s d ∷ []), append-nil (trees xs), same) h
 
-    undo-found : (e : Extension) → UndoFound wr b (first (undos xs)) (found .undo) → Added wn wr b place found f e → UndoFound wr b (first (undos (xs ++ (e ∷ [])))) (f .undo)
+    undo-found : (e : Extension) → UndoFound b (first (undos xs)) (found .undo) → Added b place found f e → UndoFound b (first (undos (xs ++ (e ∷ [])))) (f .undo)
     unfolding undos
     undo-found (cacheTree t) h (new, is, here, same) = rw (undos-append xs (cacheTree t ∷ []), append-nil (undos xs), same) h
     undo-found (resolveUndo us) h (new, is, here, same) = rw (undos-append xs (resolveUndo us ∷ []), first-last (undos xs) us (no-undo (first (undos xs)) h new)) is
@@ -72,14 +72,14 @@ module _ (wn wr : ℕ) (b : List ℕ) (place : ℕ) (found f : Found) where
 
   -- the signature in front tells the kind; ns and d are any
   module _ (ns : List (List ℕ)) (d : List ℕ) (at next : ℕ) (inside : Inside b place next) where
-    tree-sought : (e : Extension) → Says 20 ns e (take 4 (drop place b)) d → Added wn wr b place found f e
+    tree-sought : (e : Extension) → Says 20 ns e (take 4 (drop place b)) d → Added b place found f e
         → Seeks TREE b at place (found .tree .there) (found .tree .at) → Seeks TREE b at next (f .tree .there) (f .tree .at)
     unfolding eqList
     tree-sought (cacheTree t) says (new, is, here, same) h = seeks-more TREE b at place _ _ h next _ _ inside λ rest. rw (new, says .0, is .there, here)
     tree-sought (resolveUndo us) says (new, is, here, same) h = seeks-more TREE b at place _ _ h next _ _ inside λ rest. rw (says .0, same)
     tree-sought (other s c) says same h = seeks-more TREE b at place _ _ h next _ _ inside λ rest. rw (says .4, same)
 
-    undo-sought : (e : Extension) → Says 20 ns e (take 4 (drop place b)) d → Added wn wr b place found f e
+    undo-sought : (e : Extension) → Says 20 ns e (take 4 (drop place b)) d → Added b place found f e
         → Seeks REUC b at place (found .undo .there) (found .undo .at) → Seeks REUC b at next (f .undo .there) (f .undo .at)
     unfolding eqList
     undo-sought (cacheTree t) says (new, is, here, same) h = seeks-more REUC b at place _ _ h next _ _ inside λ rest. rw (says .0, same)
@@ -101,17 +101,17 @@ module _ (ns : List (List ℕ)) (k : Seen) (p : ℕ) (s : List ℕ) (some : 1 �
 -- ---- the loop
 
 -- found is what the extensions from at to place have
-pub record Behind (wn wr : ℕ) (b : List ℕ) (ns : List (List ℕ)) (at place : ℕ) (found : Found) : Type 0 where
+pub record Behind (b : List ℕ) (ns : List (List ℕ)) (at place : ℕ) (found : Found) : Type 0 where
   pub list : List Extension
   pub order : at ≤ place
   pub whole : extensionsOf 20 ns noneSeen at (drop at b) ≡ inFront list (place - at) (extensionsOf 20 ns (seenOf found) place (drop place b))
-  pub tree : TreeFound wn b (first (trees list)) (found .tree)
-  pub undo : UndoFound wr b (first (undos list)) (found .undo)
+  pub tree : TreeFound b (first (trees list)) (found .tree)
+  pub undo : UndoFound b (first (undos list)) (found .undo)
   pub tree-at : Seeks TREE b at place (found .tree .there) (found .tree .at)
   pub undo-at : Seeks REUC b at place (found .undo .there) (found .undo .at)
 
-module _ (wn wr : ℕ) (b : List ℕ) (ns : List (List ℕ)) (at : ℕ) where
-  pub behind-none : Behind wn wr b ns at at nothing
+module _ (b : List ℕ) (ns : List (List ℕ)) (at : ℕ) where
+  pub behind-none : Behind b ns at at nothing
   unfolding trees undos
   behind-none =
       let none : at - at ≡ 0 = omega arith in
@@ -125,7 +125,7 @@ module _ (wn wr : ℕ) (b : List ℕ) (ns : List (List ℕ)) (at : ℕ) where
         undo-at = seeks-none REUC b at 0;
       }
 
-  module _ (place : ℕ) (found : Found) (h : Behind wn wr b ns at place found) where
+  module _ (place : ℕ) (found : Found) (h : Behind b ns at place found) where
     pub behind-end : length b ≤ place → place ≤ length b → extensionsOf 20 ns noneSeen at (drop at b) ≡ good (h .list) (length b - at)
     unfolding inFront
     behind-end end inside =
@@ -142,7 +142,7 @@ module _ (wn wr : ℕ) (b : List ℕ) (ns : List (List ℕ)) (at : ℕ) where
       behind-bad n e = h .whole ∙ rw (step-bad ns (seenOf found) place (drop place b) left n place e)
 
       pub behind-more : (next : ℕ) (f : Found) (e : Extension) → Inside b place next → readExtension 20 ns (seenOf found) place (drop place b) ≡ good e (next - place)
-          → Added wn wr b place found f e → Behind wn wr b ns at next f
+          → Added b place found f e → Behind b ns at next f
       behind-more next f e inside reads added =
           let o = h .order in
           let says = extension-data 20 ns (seenOf found) place (drop place b) e (next - place) reads .2 in
@@ -155,14 +155,14 @@ module _ (wn wr : ℕ) (b : List ℕ) (ns : List (List ℕ)) (at : ℕ) where
                 h .whole
                 ∙ rw (
                   step-good ns (seenOf found) place (drop place b) left e (next - place) reads,
-                  ← (seen-added wn wr b place found f e added),
+                  ← (seen-added b place found f e added),
                   drop-drop (next - place) place b,
                   there,
                   front-front (h .list) (e ∷ []) (place - at) (next - place),
                   size,
                 );
-            tree = tree-found wn wr b place found f (h .list) e (h .tree) added;
-            undo = undo-found wn wr b place found f (h .list) e (h .undo) added;
-            tree-at = tree-sought wn wr b place found f ns _ at next inside e says added (h .tree-at);
-            undo-at = undo-sought wn wr b place found f ns _ at next inside e says added (h .undo-at);
+            tree = tree-found b place found f (h .list) e (h .tree) added;
+            undo = undo-found b place found f (h .list) e (h .undo) added;
+            tree-at = tree-sought b place found f ns _ at next inside e says added (h .tree-at);
+            undo-at = undo-sought b place found f ns _ at next inside e says added (h .undo-at);
           }

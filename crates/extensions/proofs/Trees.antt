@@ -1,11 +1,10 @@
 -- The cache-tree extension, from the reading of its data and the test of its counts.
 use mathlib.Core.Path.{_≡_, refl, sym, ap, _∙_}
 use mathlib.Core.List.{List}
-use mathlib.Core.Bool.{Bool, true, false, cond}
-use Prim.Native.Nat.{ℕ, suc, _+_}
+use mathlib.Core.Bool.{Bool, true, false}
+use Prim.Native.Nat.{ℕ, _+_}
 use native.Mathlib.Omega.{arith}
 use lib.ListN.{length}
-use lib.Dec.{ltb}
 use borrow.Author.Tests.{eqb-true}
 use Rattle.format.specs.Records.{Tree, treeItems}
 use Rattle.format.specs.Layout.{cacheTree, distinct, okTreeCounts}
@@ -14,8 +13,6 @@ use Rattle.format.specs.Reader.{readNodes, readTree}
 use Rattle.format_laws.proofs.Lists.{part-length}
 use Rattle.format_laws.proofs.Readings.{good-inv, need-inv, bind-inv, same-size}
 use Rattle.cache_tree.specs.declared.TreeRead.the-variants as T
-use Rattle.cache_tree.specs.Answers.{levelIn}
-use Rattle.format.specs.Places.{nodeStart}
 use Rattle.cache_tree.specs.Shape.{readShape, treeOf, placed}
 use Rattle.cache_tree.proofs.Shape.{tree-counts}
 use Rattle.cache_tree.proofs.Faults.{shape-placed, tree-fault}
@@ -37,12 +34,10 @@ shape-inv d t m e f =
     let all : i ≡ length d = eqb-true _ _ whole in
     f (omega arith) (nodes ∙ cc) (rw is at differ)
 
-tree-inv {ℓ} : {X : Type ℓ} (want : ℕ) (d : List ℕ) (n place level : ℕ) (r : Read Tree) → T.Good n place level ≡ treeOf want d r
-    → ((t : Tree) (m : ℕ) → r ≡ good t m → n ≡ length (treeItems t) → place ≡ cond (ltb want (length (treeItems t))) (nodeStart 20 want d) 0 → level ≡ levelIn (suc want) (treeItems t) → X)
-    → X
+tree-inv {ℓ} : {X : Type ℓ} (n : ℕ) (r : Read Tree) → T.Good n ≡ treeOf r → ((t : Tree) (m : ℕ) → r ≡ good t m → n ≡ length (treeItems t) → X) → X
 unfolding treeOf
-tree-inv want d n place level (bad a p) e f = let z : _≡_ {A = ℕ} 0 1 = cc in absurd (omega arith)
-tree-inv want d n place level (good t m) e f = f t m refl (cc) (cc) (cc)
+tree-inv n (bad a p) e f = let z : _≡_ {A = ℕ} 0 1 = cc in absurd (omega arith)
+tree-inv n (good t m) e f = f t m refl (cc)
 
 -- the same reading at another place, and the test of the counts
 shape-at : (p : ℕ) (d : List ℕ) (t : Tree) (m : ℕ) → readShape 20 0 d ≡ good t m → readShape 20 p d ≡ good t m
@@ -52,33 +47,33 @@ tree-read : (ns : List (List ℕ)) (p : ℕ) (d : List ℕ) (t : Tree) (m : ℕ)
 unfolding bind
 tree-read ns p d t m e = tree-counts 20 ns p d ∙ rw (shape-at p d t m e)
 
-module _ (want wr : ℕ) (b : List ℕ) (at end : ℕ) (inside : Inside b at end) (found : Found) (new : found .tree .there ≡ false) (ns : List (List ℕ)) where
-  pub tree-refused : ((p : ℕ) → T.Bad ≡ treeOf want (part b (at + 8) end) (readShape 20 p (part b (at + 8) end)))
+module _ (b : List ℕ) (at end : ℕ) (inside : Inside b at end) (found : Found) (new : found .tree .there ≡ false) (ns : List (List ℕ)) where
+  pub tree-refused : ((p : ℕ) → T.Bad ≡ treeOf (readShape 20 p (part b (at + 8) end)))
       → known (found .tree .there) at (readTree 20 ns at (part b (at + 8) end)) cacheTree ≡ bad 15 at
   unfolding bind
   tree-refused e =
       let d : List ℕ = part b (at + 8) end in
-      known-bad at _ cacheTree _ new 15 (tree-counts 20 ns at d ∙ rw (tree-fault want at d (e at)))
+      known-bad at _ cacheTree _ new 15 (tree-counts 20 ns at d ∙ rw (tree-fault at d (e at)))
 
   -- counted is what the test of the counts says of the tree in the data
-  module _ (n place level : ℕ) (counted : Bool) (e : (p : ℕ) → T.Good n place level ≡ treeOf want (part b (at + 8) end) (readShape 20 p (part b (at + 8) end)))
+  module _ (n : ℕ) (counted : Bool) (e : (p : ℕ) → T.Good n ≡ treeOf (readShape 20 p (part b (at + 8) end)))
       (test : (t : Tree) (m : ℕ) → readNodes 20 0 (part b (at + 8) end) ≡ good t m → distinct (t .subtrees) ≡ true → counted ≡ okTreeCounts ns t) where
     pub tree-miscounted : counted ≡ false → known (found .tree .there) at (readTree 20 ns at (part b (at + 8) end)) cacheTree ≡ bad 16 at
     unfolding shift need
     tree-miscounted wrong =
         let d : List ℕ = part b (at + 8) end in
-        tree-inv want d n place level (readShape 20 0 d) (e 0) λ t m q number place-is level-is.
+        tree-inv n (readShape 20 0 d) (e 0) λ t m q number.
         shape-inv d t m q λ size nodes differ.
         let miscounts : okTreeCounts ns t ≡ false = sym (test t _ nodes differ) ∙ wrong in
         known-bad at _ cacheTree _ new 16 (tree-read ns at d t m q ∙ rw miscounts)
 
     pub tree-added : counted ≡ true
-        → Answered want wr b at found (known (found .tree .there) at (readTree 20 ns at (part b (at + 8) end)) cacheTree)
-        (O.Good end (record { tree = record { there = true; at = at + 8; end = end; nodes = n; node = place; level = level }; undo = found .undo }))
+        → Answered b at found (known (found .tree .there) at (readTree 20 ns at (part b (at + 8) end)) cacheTree)
+        (O.Good end (record { tree = record { there = true; at = at + 8; end = end; nodes = n }; undo = found .undo }))
     unfolding shift need
     tree-added right =
         let d : List ℕ = part b (at + 8) end in
-        tree-inv want d n place level (readShape 20 0 d) (e 0) λ t m q number place-is level-is.
+        tree-inv n (readShape 20 0 d) (e 0) λ t m q number.
         shape-inv d t m q λ size nodes differ.
         let l = part-length b (at + 8) end (inside .1) in
         let counts : okTreeCounts ns t ≡ true = sym (test t _ nodes differ) ∙ right in
@@ -94,8 +89,6 @@ module _ (want wr : ℕ) (b : List ℕ) (at end : ℕ) (inside : Inside b at end
               sized = data-sized b at end inside;
               reads = nodes;
               nodes = number;
-              node = place-is;
-              level = level-is;
             },
             refl,
             refl,

@@ -17,18 +17,18 @@ use Rattle.extensions.specs.declared.One.the-variants as O
 use Rattle.extensions.specs.Heads.{Inside}
 use Rattle.extensions.specs.Found.{TreeIs, TreeFound, UndoIs, UndoFound}
 
--- ---- one extension. wn is the number of the node that is wanted, wr that of the record
+-- ---- one extension
 
 -- f is what was found, and the extension at a place besides
-abbrev pub Added : ℕ → ℕ → List ℕ → ℕ → Found → Found → Extension → Type 0
-Added wn wr b at found f (cacheTree t) = (found .tree .there ≡ false) × TreeIs wn b t (f .tree) × (f .tree .at ≡ at + 8) × (f .undo ≡ found .undo)
-Added wn wr b at found f (resolveUndo us) = (found .undo .there ≡ false) × UndoIs wr b us (f .undo) × (f .undo .at ≡ at + 8) × (f .tree ≡ found .tree)
-Added wn wr b at found f (other s d) = f ≡ found
+abbrev pub Added : List ℕ → ℕ → Found → Found → Extension → Type 0
+Added b at found f (cacheTree t) = (found .tree .there ≡ false) × TreeIs b t (f .tree) × (f .tree .at ≡ at + 8) × (f .undo ≡ found .undo)
+Added b at found f (resolveUndo us) = (found .undo .there ≡ false) × UndoIs b us (f .undo) × (f .undo .at ≡ at + 8) × (f .tree ≡ found .tree)
+Added b at found f (other s d) = f ≡ found
 
 -- the reading x of the extension at a place, answered
-abbrev pub Answered : ℕ → ℕ → List ℕ → ℕ → Found → Read Extension → One → Type 0
-Answered wn wr b at found x (O.Bad n) = x ≡ bad n at
-Answered wn wr b at found x (O.Good next f) = (e : Extension) × (x ≡ good e (next - at)) × Added wn wr b at found f e
+abbrev pub Answered : List ℕ → ℕ → Found → Read Extension → One → Type 0
+Answered b at found x (O.Bad n) = x ≡ bad n at
+Answered b at found x (O.Good next f) = (e : Extension) × (x ≡ good e (next - at)) × Added b at found f e
 
 -- the place after it is in the body
 abbrev pub OneInside : List ℕ → ℕ → One → Type 0
@@ -36,8 +36,8 @@ OneInside b at (O.Bad n) = Unit
 OneInside b at (O.Good next f) = Inside b at next
 
 -- what a function leaves behind that reads the extension at a place as read does of the entries' names
-pub record Passed (read : List (List ℕ) → Read Extension) (wn wr v count : ℕ) (b work : List ℕ) (at : ℕ) (found : Found) (work′ : List ℕ) (r : One) : Type 0 where
-  pub answered : (es : List Entry) (m : ℕ) → readEntries 20 v count start 12 (drop 12 b) ≡ good es m → Answered wn wr b at found (read (names es)) r
+pub record Passed (read : List (List ℕ) → Read Extension) (v count : ℕ) (b work : List ℕ) (at : ℕ) (found : Found) (work′ : List ℕ) (r : One) : Type 0 where
+  pub answered : (es : List Entry) (m : ℕ) → readEntries 20 v count start 12 (drop 12 b) ≡ good es m → Answered b at found (read (names es)) r
   pub inside : OneInside b at r
   pub long : length work′ ≡ length work
   pub past : drop 8192 work′ ≡ drop 8192 work
@@ -45,21 +45,21 @@ pub record Passed (read : List (List ℕ) → Read Extension) (wn wr v count : �
 -- ---- all extensions
 
 -- the list was read from a place to the end of the body; what was found stands in the first extension with its signature
-pub record Whole (wn wr : ℕ) (b : List ℕ) (at : ℕ) (x : Read (List Extension)) (f : Found) : Type 0 where
+pub record Whole (b : List ℕ) (at : ℕ) (x : Read (List Extension)) (f : Found) : Type 0 where
   pub list : List Extension
   pub reads : x ≡ good list (length b - at)
-  pub tree : TreeFound wn b (first (trees list)) (f .tree)
-  pub undo : UndoFound wr b (first (undos list)) (f .undo)
+  pub tree : TreeFound b (first (trees list)) (f .tree)
+  pub undo : UndoFound b (first (undos list)) (f .undo)
   pub tree-at : f .tree .there ≡ true → f .tree .at ≡ dataPlace TREE at b
   pub undo-at : f .undo .there ≡ true → f .undo .at ≡ dataPlace REUC at b
 
-abbrev pub AllAnswered : ℕ → ℕ → List ℕ → ℕ → Read (List Extension) → Extended → Type 0
-AllAnswered wn wr b at x (E.Bad n p) = x ≡ bad n p
-AllAnswered wn wr b at x (E.Good f) = Whole wn wr b at x f
+abbrev pub AllAnswered : List ℕ → ℕ → Read (List Extension) → Extended → Type 0
+AllAnswered b at x (E.Bad n p) = x ≡ bad n p
+AllAnswered b at x (E.Good f) = Whole b at x f
 
 -- what the reading of all extensions from a place on leaves behind
-pub record Ran (wn wr v count : ℕ) (b work : List ℕ) (at : ℕ) (work′ : List ℕ) (r : Extended) : Type 0 where
+pub record Ran (v count : ℕ) (b work : List ℕ) (at : ℕ) (work′ : List ℕ) (r : Extended) : Type 0 where
   pub answered : (es : List Entry) (m : ℕ) → readEntries 20 v count start 12 (drop 12 b) ≡ good es m
-      → AllAnswered wn wr b at (readExtensions 20 (names es) (length (drop at b)) noneSeen at (drop at b)) r
+      → AllAnswered b at (readExtensions 20 (names es) (length (drop at b)) noneSeen at (drop at b)) r
   pub long : length work′ ≡ length work
   pub past : drop 8192 work′ ≡ drop 8192 work

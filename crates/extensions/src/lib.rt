@@ -1,6 +1,6 @@
 // All extensions of a body: which there are, where the data of the known ones stand, or the first refusal.
 ghost use mathlib.Core.Path.{_≡_};
-ghost use Prim.Native.Nat.{ℕ, _+_, _≤_};
+ghost use Prim.Native.Nat.{_+_, _≤_};
 ghost use lib.ListN.{length, drop};
 ghost use Rattle.format.specs.Layout.{cacheTree, resolveUndo};
 ghost use Rattle.format.specs.Reader.{readTree, readExtension};
@@ -20,15 +20,12 @@ pub enum Head {
     Other(usize),
 }
 
-// Whether there is a cache tree, where its data stand in the body, how many nodes it has, and the node that was wanted: its place in
-// the data and its level, 0 where there are fewer nodes.
+// Whether there is a cache tree, where its data stand in the body, and how many nodes it has.
 pub struct TreePlace {
     pub there: bool,
     pub at: usize,
     pub end: usize,
     pub nodes: u32,
-    pub node: usize,
-    pub level: u32,
 }
 
 // The same of the resolve-undo records.
@@ -37,7 +34,6 @@ pub struct UndoPlace {
     pub at: usize,
     pub end: usize,
     pub records: u32,
-    pub record_at: usize,
 }
 
 // What was found so far.
@@ -98,33 +94,30 @@ fn none_found() -> Found
             at: 0,
             end: 0,
             nodes: 0,
-            node: 0,
-            level: 0,
         },
         undo: UndoPlace {
             there: false,
             at: 0,
             end: 0,
             records: 0,
-            record_at: 0,
         },
     }
 }
 
 // The resolve-undo extension at a place, whose data end at end.
-fn add_undo(b: &[u8], at: usize, end: usize, found: Found, want: u32) -> One
+fn add_undo(b: &[u8], at: usize, end: usize, found: Found) -> One
     requires { ⌜ Inside (now b) at end × (length (now b) ≤ 16777216) ⌝ }
-    ensures { λ r. ⌜ ((wn : ℕ) → Answered wn want (now (b .entry)) at found (known (found .undo .there) at (undosIn at (part (now (b .entry)) (at + 8) end)) resolveUndo) r) × OneInside (now (b .entry)) at r ⌝ }
+    ensures { λ r. ⌜ Answered (now (b .entry)) at found (known (found .undo .there) at (undosIn at (part (now (b .entry)) (at + 8) end)) resolveUndo) r × OneInside (now (b .entry)) at r ⌝ }
 {
     if found.undo.there {
         return One::Bad(14);
     }
     let tree = found.tree;
     let from = at + 8;
-    let read = resolve_undo::read_undos(&b[from..end], want);
+    let read = resolve_undo::read_undos(&b[from..end]);
     match read {
         RecordsRead::Bad => One::Bad(17),
-        RecordsRead::Good(records, place) => One::Good(
+        RecordsRead::Good(records) => One::Good(
             end,
             Found {
                 tree: tree,
@@ -133,7 +126,6 @@ fn add_undo(b: &[u8], at: usize, end: usize, found: Found, want: u32) -> One
                     at: from,
                     end: end,
                     records: records,
-                    record_at: place,
                 },
             },
         ),
@@ -150,24 +142,19 @@ fn add_tree(
     count: u32,
     work: &mut [u8],
     seed: u64,
-    want: u32,
 ) -> One
     requires { ⌜ Inside (now b) at end × Room (now b) (now work) ⌝ }
-    ensures { λ r. ⌜ ((wr : ℕ) → Passed (λ ns. known (found .tree .there) at (readTree 20 ns at (part (now (b .entry)) (at + 8) end)) cacheTree) want wr v count (now (b .entry)) (now (work .entry)) at found (now (work .exit)) r) ⌝ }
+    ensures { λ r. ⌜ Passed (λ ns. known (found .tree .there) at (readTree 20 ns at (part (now (b .entry)) (at + 8) end)) cacheTree) v count (now (b .entry)) (now (work .entry)) at found (now (work .exit)) r ⌝ }
 {
     if found.tree.there {
         return One::Bad(14);
     }
     let undo = found.undo;
     let from = at + 8;
-    let read = cache_tree::read_tree(&b[from..end], &mut *work, seed, want);
+    let read = cache_tree::read_tree(&b[from..end], &mut *work, seed);
     match read {
         TreeRead::Bad => One::Bad(15),
-        TreeRead::Good {
-            nodes,
-            place,
-            level,
-        } => {
+        TreeRead::Good(nodes) => {
             if counts_ok(&b[from..end], b, v, count, work, seed) {
                 return One::Good(
                     end,
@@ -177,8 +164,6 @@ fn add_tree(
                             at: from,
                             end: end,
                             nodes: nodes,
-                            node: place,
-                            level: level,
                         },
                         undo: undo,
                     },
@@ -198,23 +183,20 @@ fn read_extension(
     count: u32,
     work: &mut [u8],
     seed: u64,
-    want_node: u32,
-    want_record: u32,
 ) -> One
     requires { ⌜ (at ≤ length (now b)) × Room (now b) (now work) ⌝ }
-    ensures { λ r. ⌜ Passed (λ ns. readExtension 20 ns (seenOf found) at (drop at (now (b .entry)))) «want_node» «want_record» v count (now (b .entry)) (now (work .entry)) at found (now (work .exit)) r ⌝ }
+    ensures { λ r. ⌜ Passed (λ ns. readExtension 20 ns (seenOf found) at (drop at (now (b .entry)))) v count (now (b .entry)) (now (work .entry)) at found (now (work .exit)) r ⌝ }
 {
     let head = read_head(b, at);
     match head {
         Head::Bad(n) => One::Bad(n),
-        Head::Tree(end) => add_tree(b, at, end, found, v, count, work, seed, want_node),
-        Head::Undo(end) => add_undo(b, at, end, found, want_record),
+        Head::Tree(end) => add_tree(b, at, end, found, v, count, work, seed),
+        Head::Undo(end) => add_undo(b, at, end, found),
         Head::Other(end) => One::Good(end, found),
     }
 }
 
-// All extensions of a body, from a place on. v and count are the version and the number of entries, seed is any number; a node of the
-// cache tree and a resolve-undo record are wanted, by their numbers from 0 on.
+// All extensions of a body, from a place on. v and count are the version and the number of entries, seed is any number.
 pub fn read_extensions(
     b: &[u8],
     at: usize,
@@ -222,26 +204,14 @@ pub fn read_extensions(
     count: u32,
     work: &mut [u8],
     seed: u64,
-    want_node: u32,
-    want_record: u32,
 ) -> Extended
     requires { ⌜ (at ≤ length (now b)) × Room (now b) (now work) ⌝ }
-    ensures { λ r. ⌜ Ran «want_node» «want_record» v count (now (b .entry)) (now (work .entry)) at (now (work .exit)) r ⌝ }
+    ensures { λ r. ⌜ Ran v count (now (b .entry)) (now (work .entry)) at (now (work .exit)) r ⌝ }
 {
     let mut place = at;
     let mut found = none_found();
     while place < b.len() {
-        let one = read_extension(
-            b,
-            place,
-            found,
-            v,
-            count,
-            &mut *work,
-            seed,
-            want_node,
-            want_record,
-        );
+        let one = read_extension(b, place, found, v, count, &mut *work, seed);
         match one {
             One::Bad(n) => {
                 return Extended::Bad(n, place);

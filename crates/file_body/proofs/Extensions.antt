@@ -63,7 +63,7 @@ extension-after signature content out out₁ out′ at after r four x y =
 -- ---- the cache tree
 
 module _ (b name : List ℕ) (tree : TreePlace) where
-  pub tree-within : (o : Option Tree) → TreeFound 0 b o tree → tree .there ≡ true → Within b (tree .at) (tree .end)
+  pub tree-within : (o : Option Tree) → TreeFound b o tree → tree .there ≡ true → Within b (tree .at) (tree .end)
   tree-within none h t = clash t (ap (λ (x : TreePlace). x .there) h)
   tree-within (some s) h t = record { order = h .order; inside = h .inside }
 
@@ -83,18 +83,18 @@ module _ (b name : List ℕ) (tree : TreePlace) where
   no-tree-text true = refl
   no-tree-text false = refl
 
-  pub tree-grown : (way : Bool) (out out₁ : List ℕ) (at after : ℕ) (o : Option Tree) → TreeFound 0 b o tree → Differ o → tree .there ≡ true
+  pub tree-grown : (way : Bool) (out out₁ : List ℕ) (at after : ℕ) (o : Option Tree) → TreeFound b o tree → Differ o → tree .there ≡ true
       → TreeWrote way out at out₁ after → (at ≤ after) × (length out₁ ≡ length out)
   tree-grown way out out₁ at after none h d t w = clash t (ap (λ (x : TreePlace). x .there) h)
   tree-grown way out out₁ at after (some s) h d t w = let x = w s _ (h .reads) (d s refl) in (omega (arith, x .end), x .long)
 
-  pub tree-wrote : (way : Bool) (out out₁ out′ : List ℕ) (at after r : ℕ) (o : Option Tree) → TreeFound 0 b o tree → Differ o → tree .there ≡ true
+  pub tree-wrote : (way : Bool) (out out₁ out′ : List ℕ) (at after r : ℕ) (o : Option Tree) → TreeFound b o tree → Differ o → tree .there ≡ true
       → TreeWrote way out (at + 8) out₁ after → Wrote out₁ at (TREE ++ put32 (after - (at + 8))) out′ r
       → Wrote out at (writeCacheTree (treeAfter way name o)) out′ after
   tree-wrote way out out₁ out′ at after r none h d t w y = clash t (ap (λ (x : TreePlace). x .there) h)
   tree-wrote way out out₁ out′ at after r (some s) h d t w y = rw (tree-text way s) (extension-after TREE _ out out₁ out′ at after r refl (w s _ (h .reads) (d s refl)) y)
 
-  pub no-tree-wrote : (way : Bool) (out : List ℕ) (at : ℕ) (o : Option Tree) → TreeFound 0 b o tree → tree .there ≡ false
+  pub no-tree-wrote : (way : Bool) (out : List ℕ) (at : ℕ) (o : Option Tree) → TreeFound b o tree → tree .there ≡ false
       → Wrote out at (writeCacheTree (treeAfter way name o)) out at
   no-tree-wrote way out at none h t = rw (no-tree-text way) (wrote-nothing out at)
   no-tree-wrote way out at (some s) h t = clash (h .there) t
@@ -102,11 +102,11 @@ module _ (b name : List ℕ) (tree : TreePlace) where
 -- ---- resolve undo
 
 module _ (b : List ℕ) (undo : UndoPlace) where
-  pub undo-within : (o : Option (List Undo)) → UndoFound 0 b o undo → undo .there ≡ true → Within b (undo .at) (undo .end)
+  pub undo-within : (o : Option (List Undo)) → UndoFound b o undo → undo .there ≡ true → Within b (undo .at) (undo .end)
   undo-within none h t = clash t (ap (λ (x : UndoPlace). x .there) h)
   undo-within (some us) h t = record { order = h .order; inside = h .inside }
 
-  pub undo-wrote : (out out₁ out′ : List ℕ) (at p r : ℕ) (o : Option (List Undo)) → UndoFound 0 b o undo → undo .there ≡ true
+  pub undo-wrote : (out out₁ out′ : List ℕ) (at p r : ℕ) (o : Option (List Undo)) → UndoFound b o undo → undo .there ≡ true
       → Wrote out at (REUC ++ put32 (undo .end - undo .at)) out₁ p → Wrote out₁ p (part b (undo .at) (undo .end)) out′ r
       → Wrote out at (writeResolveUndo o) out′ r
   unfolding writeResolveUndo writeExtension
@@ -118,7 +118,7 @@ module _ (b : List ℕ) (undo : UndoPlace) where
       let head : Wrote out at (REUC ++ put32 (length d)) out₁ p = rw size at x in
       rw (copied, ← append-assoc REUC (put32 (length d)) d) (wrote-then out (REUC ++ put32 (length d)) d out₁ out′ at p r head y)
 
-  pub no-undo-wrote : (out : List ℕ) (at : ℕ) (o : Option (List Undo)) → UndoFound 0 b o undo → undo .there ≡ false → Wrote out at (writeResolveUndo o) out at
+  pub no-undo-wrote : (out : List ℕ) (at : ℕ) (o : Option (List Undo)) → UndoFound b o undo → undo .there ≡ false → Wrote out at (writeResolveUndo o) out at
   unfolding writeResolveUndo
   no-undo-wrote out at none h t = wrote-nothing out at
   no-undo-wrote out at (some us) h t = clash (h .there) t

@@ -58,8 +58,8 @@ Differ o = (t : Tree) → o ≡ some t → distinct (t .subtrees) ≡ true
 pub record Has (b : List ℕ) (parts : Parts) (r : Records) : Type 0 where
   pub entries : readEntries 20 (parts .version) (parts .count) start 12 (drop 12 b) ≡ good (r .entries) (parts .end - 12)
   pub counted : length (r .entries) ≡ parts .count
-  pub tree : TreeFound 0 b (r .cacheTree) (parts .found .tree)
-  pub undo : UndoFound 0 b (r .resolveUndo) (parts .found .undo)
+  pub tree : TreeFound b (r .cacheTree) (parts .found .tree)
+  pub undo : UndoFound b (r .resolveUndo) (parts .found .undo)
   pub differ : Differ (r .cacheTree)
 
 -- it can be written with an edit; fields and name are those of the entry that is put

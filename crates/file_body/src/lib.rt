@@ -77,8 +77,8 @@ fn put_cache_tree(
     out: &mut [u8],
     at: usize,
 ) -> usize
-    requires { ⌜ (length (now b) ≤ 16777216) × (at < 562949953421304) × ((o : Option Tree) × TreeFound 0 (now b) o tree × Differ o) ⌝ }
-    ensures { λ r. ⌜ ((o : Option Tree) → TreeFound 0 (now (b .entry)) o tree → Differ o → Wrote (now (out .entry)) at (writeCacheTree (treeAfter way (now (name .entry)) o)) (now (out .exit)) r) × (r ≤ at + 16777224) × (length (now (out .exit)) ≡ length (now (out .entry))) ⌝ }
+    requires { ⌜ (length (now b) ≤ 16777216) × (at < 562949953421304) × ((o : Option Tree) × TreeFound (now b) o tree × Differ o) ⌝ }
+    ensures { λ r. ⌜ ((o : Option Tree) → TreeFound (now (b .entry)) o tree → Differ o → Wrote (now (out .entry)) at (writeCacheTree (treeAfter way (now (name .entry)) o)) (now (out .exit)) r) × (r ≤ at + 16777224) × (length (now (out .exit)) ≡ length (now (out .entry))) ⌝ }
 {
     if tree.there {
         let from = tree.at;
@@ -93,8 +93,8 @@ fn put_cache_tree(
 
 // The resolve-undo records, whose data are copied.
 fn put_resolve_undo(b: &[u8], undo: UndoPlace, out: &mut [u8], at: usize) -> usize
-    requires { ⌜ (length (now b) ≤ 16777216) × (at ≤ 562949970198528) × ((o : Option (List Undo)) × UndoFound 0 (now b) o undo) ⌝ }
-    ensures { λ r. ⌜ ((o : Option (List Undo)) → UndoFound 0 (now (b .entry)) o undo → Wrote (now (out .entry)) at (writeResolveUndo o) (now (out .exit)) r) × (r ≤ at + 16777224) × (length (now (out .exit)) ≡ length (now (out .entry))) ⌝ }
+    requires { ⌜ (length (now b) ≤ 16777216) × (at ≤ 562949970198528) × ((o : Option (List Undo)) × UndoFound (now b) o undo) ⌝ }
+    ensures { λ r. ⌜ ((o : Option (List Undo)) → UndoFound (now (b .entry)) o undo → Wrote (now (out .entry)) at (writeResolveUndo o) (now (out .exit)) r) × (r ≤ at + 16777224) × (length (now (out .exit)) ≡ length (now (out .entry))) ⌝ }
 {
     if undo.there {
         let from = undo.at;

@@ -56,11 +56,11 @@ module _ (v : ℕ) (b : List ℕ) (count : ℕ) (counted : count ≡ be32 b 8) w
       unfolding readBody bind shift contents
       body-read xs k e = rw (← counted, entries, rest, ← last, e)
 
-      body-contains : 12 ≤ length b → length b ≤ 16777216 → (wn wr : ℕ) (found : Found)
-          → E.Whole wn wr b end (readExtensions 20 (names es) (length (drop end b)) noneSeen end (drop end b)) found
-          → Contains wn wr (readBody 20 v b) b (record { version = v; count = count; end = end; found = found })
+      body-contains : 12 ≤ length b → length b ≤ 16777216 → (found : Found)
+          → E.Whole b end (readExtensions 20 (names es) (length (drop end b)) noneSeen end (drop end b)) found
+          → Contains (readBody 20 v b) b (record { version = v; count = count; end = end; found = found })
       unfolding contents
-      body-contains least most wn wr found h =
+      body-contains least most found h =
           let taken : m ≡ end - 12 = omega arith in
           record {
             contents = contents (h .list);
@@ -79,10 +79,10 @@ module _ (v : ℕ) (b : List ℕ) (count : ℕ) (counted : count ≡ be32 b 8) w
           }
 
   -- after the run of entries, which ends at a place
-  module _ (end : ℕ) (run : R.Good end ≡ runOf (readEntries 20 v count F.start 12 (drop 12 b))) (wn wr : ℕ) (work work′ : List ℕ) where
-    pub body-refused : (n p : ℕ) → E.Ran wn wr v count b work end work′ (X.Bad n p) → readBody 20 v b ≡ bad n p
+  module _ (end : ℕ) (run : R.Good end ≡ runOf (readEntries 20 v count F.start 12 (drop 12 b))) (work work′ : List ℕ) where
+    pub body-refused : (n p : ℕ) → E.Ran v count b work end work′ (X.Bad n p) → readBody 20 v b ≡ bad n p
     body-refused n p h = runOf-good _ end run λ es m e last. body-no-extensions es m e end last n p (h .answered es m e)
 
-    pub body-accepted : (found : Found) → 12 ≤ length b → length b ≤ 16777216 → E.Ran wn wr v count b work end work′ (X.Good found)
-        → Contains wn wr (readBody 20 v b) b (record { version = v; count = count; end = end; found = found })
-    body-accepted found least most h = runOf-good _ end run λ es m e last. body-contains es m e end last least most wn wr found (h .answered es m e)
+    pub body-accepted : (found : Found) → 12 ≤ length b → length b ≤ 16777216 → E.Ran v count b work end work′ (X.Good found)
+        → Contains (readBody 20 v b) b (record { version = v; count = count; end = end; found = found })
+    body-accepted found least most h = runOf-good _ end run λ es m e last. body-contains es m e end last least most found (h .answered es m e)

@@ -23,9 +23,8 @@ bodyOf f = bodyIn 20 f
 unfoldable pub inRoom : List ℕ → Read Contents → Read Contents
 inRoom work x = cond (tooSmall work) (bad 19 0) x
 
--- the reading x has the contents of which the code answers parts; b is the body, wn and wr are the numbers of the node and of the
--- record that were wanted
-pub record Contains (wn wr : ℕ) (x : Read Contents) (b : List ℕ) (parts : Parts) : Type 0 where
+-- the reading x has the contents of which the code answers parts; b is the body
+pub record Contains (x : Read Contents) (b : List ℕ) (parts : Parts) : Type 0 where
   pub contents : Contents
   pub taken : ℕ
   pub read : x ≡ good contents taken
@@ -35,11 +34,11 @@ pub record Contains (wn wr : ℕ) (x : Read Contents) (b : List ℕ) (parts : Pa
   pub end : contents .end ≡ parts .end
   pub counted : length (contents .records .entries) ≡ parts .count
   pub entries : readEntries 20 (parts .version) (parts .count) F.start 12 (drop 12 b) ≡ good (contents .records .entries) (parts .end - 12)
-  pub tree : TreeFound wn b (contents .records .cacheTree) (parts .found .tree)
-  pub undo : UndoFound wr b (contents .records .resolveUndo) (parts .found .undo)
+  pub tree : TreeFound b (contents .records .cacheTree) (parts .found .tree)
+  pub undo : UndoFound b (contents .records .resolveUndo) (parts .found .undo)
   pub tree-at : parts .found .tree .there ≡ true → parts .found .tree .at ≡ dataPlace TREE (parts .end) b
   pub undo-at : parts .found .undo .there ≡ true → parts .found .undo .at ≡ dataPlace REUC (parts .end) b
 
-abbrev pub WholeOf : ℕ → ℕ → Read Contents → List ℕ → Whole → Type 0
-WholeOf wn wr x b (W.Bad n p) = x ≡ bad n p
-WholeOf wn wr x b (W.Good parts) = Contains wn wr x b parts
+abbrev pub WholeOf : Read Contents → List ℕ → Whole → Type 0
+WholeOf x b (W.Bad n p) = x ≡ bad n p
+WholeOf x b (W.Good parts) = Contains x b parts

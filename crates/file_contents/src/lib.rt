@@ -28,32 +28,15 @@ pub enum Whole {
 }
 
 // The body b of version v with so many entries.
-fn read_body(
-    b: &[u8],
-    v: u32,
-    count: u32,
-    work: &mut [u8],
-    seed: u64,
-    want_node: u32,
-    want_record: u32,
-) -> Whole
+fn read_body(b: &[u8], v: u32, count: u32, work: &mut [u8], seed: u64) -> Whole
     requires { ⌜ Room (now b) (now work) × (count ≡ be32 (now b) 8) ⌝ }
-    ensures { λ r. ⌜ WholeOf «want_node» «want_record» (readBody 20 v (now (b .entry))) (now (b .entry)) r × (drop 8192 (now (work .exit)) ≡ drop 8192 (now (work .entry))) ⌝ }
+    ensures { λ r. ⌜ WholeOf (readBody 20 v (now (b .entry))) (now (b .entry)) r × (drop 8192 (now (work .exit)) ≡ drop 8192 (now (work .entry))) ⌝ }
 {
     let run = entries_run::run_entries(b, v, &mut *work, count);
     match run {
         Run::Bad(n, p) => Whole::Bad(n, p),
         Run::Good(end) => {
-            let read = extensions::read_extensions(
-                b,
-                end,
-                v,
-                count,
-                work,
-                seed,
-                want_node,
-                want_record,
-            );
+            let read = extensions::read_extensions(b, end, v, count, work, seed);
             match read {
                 Extended::Bad(n, p) => Whole::Bad(n, p),
                 Extended::Good(found) => Whole::Good(Parts {
@@ -67,37 +50,29 @@ fn read_body(
     }
 }
 
-// The whole file. want_node and want_record are numbers of a node and of a record, from 0 on.
-pub fn read_whole(file: &[u8], work: &mut [u8], want_node: u32, want_record: u32) -> Whole
+// The whole file.
+pub fn read_whole(file: &[u8], work: &mut [u8]) -> Whole
     requires { ⌜ 8192 ≤ length (now work) ⌝ }
-    ensures { λ r. ⌜ WholeOf «want_node» «want_record» (readFile 20 sha1 (now (file .entry))) (bodyOf (now (file .entry))) r × (drop 8192 (now (work .exit)) ≡ drop 8192 (now (work .entry))) ⌝ }
+    ensures { λ r. ⌜ WholeOf (readFile 20 sha1 (now (file .entry))) (bodyOf (now (file .entry))) r × (drop 8192 (now (work .exit)) ≡ drop 8192 (now (work .entry))) ⌝ }
 {
     let header = file_header::read_header(file);
     match header {
         Header::Bad(n, p) => Whole::Bad(n, p),
         Header::Good(h) => {
             let n = file.len() - 20;
-            read_body(
-                &file[..n],
-                h.version,
-                h.count,
-                work,
-                h.seed,
-                want_node,
-                want_record,
-            )
+            read_body(&file[..n], h.version, h.count, work, h.seed)
         }
     }
 }
 
 // The same for any workspace, which is cleared afterwards; one below 8,192 bytes is refused with 19 and left as it is.
-pub fn read_cleared(file: &[u8], work: &mut [u8], want_node: u32, want_record: u32) -> Whole
-    ensures { λ r. ⌜ WholeOf «want_node» «want_record» (inRoom (now (work .entry)) (readFile 20 sha1 (now (file .entry)))) (bodyOf (now (file .entry))) r × (now (work .exit) ≡ cleared (now (work .entry))) ⌝ }
+pub fn read_cleared(file: &[u8], work: &mut [u8]) -> Whole
+    ensures { λ r. ⌜ WholeOf (inRoom (now (work .entry)) (readFile 20 sha1 (now (file .entry)))) (bodyOf (now (file .entry))) r × (now (work .exit) ≡ cleared (now (work .entry))) ⌝ }
 {
     if work.len() < fields::LONGEST {
         return Whole::Bad(19, 0);
     }
-    let whole = read_whole(file, &mut *work, want_node, want_record);
+    let whole = read_whole(file, &mut *work);
     fields::clear_from(work, 0);
     whole
 }

@@ -7,7 +7,6 @@ use Prim.Native.Nat.{ℕ, _+_, _-_, _≤_, _<_}
 use native.Mathlib.Omega.{arith}
 use lib.ListN.{length, take, drop, getD, replicate, length-take, length-drop}
 use lib.Seq.{drop-drop}
-use borrow.Author.Tests.{lt-ltb}
 use Rattle.format.specs.Records as F
 use Rattle.format.specs.Layout.{isValid}
 use Rattle.format.specs.Reading.{good}
@@ -21,8 +20,10 @@ use Rattle.tree_nodes.specs.Answers.{counted, objectLength, nodeOf, nodeAt}
 use Rattle.format.specs.Places.{dataIn, nodeStart}
 use Rattle.tree_nodes.proofs.Readings.{node-took}
 use Rattle.tree_nodes.proofs.Nodes.{node-named, object-valid, node-object}
+use Rattle.cache_tree.specs.declared.walk.NodePlace.{NodePlace}
+use Rattle.cache_tree.specs.Levels.{NodeFound}
 use Rattle.cache_tree.proofs.Flat.{Shown}
-use Rattle.cache_tree.proofs.Shape.{tree-item, level-is}
+use Rattle.cache_tree.proofs.Shape.{tree-item}
 use Rattle.file.specs.declared.Shown.the-variants as S
 use Rattle.file.specs.Answers.{View, refused, inFile, listed, itemsOf, partIn, nameIn, countWith, nodeSaid, countNumber}
 use Rattle.file.proofs.Laws.{part-in, part-within, item-none}
@@ -38,57 +39,58 @@ use Rattle.index.proofs.Views.{part-of-body, item-some, pick-none, pick
 root : F.Tree → F.Item
 root t = record { node = t .root; level = 1; subtrees = 0 }
 
--- where the data stand, and in them the node that was wanted
+-- where the data stand
 pub record Within (f : List ℕ) (tree : TreePlace) : Type 0 where
   pub order : tree .at ≤ tree .end
   pub inside : tree .end ≤ length f
   pub long : length (part f (tree .at) (tree .end)) ≡ tree .end - tree .at
-  pub place : tree .node < tree .end - tree .at
 
--- and the item that it is
-pub record Stands (k : ℕ) (f : List ℕ) (tree : TreePlace) (i : F.Item) : Type 0 where
+-- the node that was found in them, and the item that it is
+pub record Stands (k : ℕ) (f : List ℕ) (tree : TreePlace) (node : NodePlace) (i : F.Item) : Type 0 where
   pub within : Within f tree
-  pub place : tree .at + nodeStart 20 k (dataIn (tree .at) (bodyOf f)) ≡ tree .at + tree .node
-  pub level : i .level ≡ tree .level
+  pub place : tree .at + nodeStart 20 k (dataIn (tree .at) (bodyOf f)) ≡ tree .at + node .place
+  pub level : i .level ≡ node .level
   pub taken : ℕ
-  pub reads : readNode 20 0 (drop (tree .node) (part f (tree .at) (tree .end))) ≡ good (record { node = i .node; subtrees = i .subtrees }) taken
+  pub reads : readNode 20 0 (drop (node .place) (part f (tree .at) (tree .end))) ≡ good (record { node = i .node; subtrees = i .subtrees }) taken
 
 module _ (k : ℕ) (f : List ℕ) (tree : TreePlace) where
-  stands-is : (t : F.Tree) → TreeIs k (bodyOf f) t tree → k < tree .nodes → Stands k f tree (getD (F.treeItems t) k (root t))
-  stands-is t is more =
-      let d : List ℕ = part f (tree .at) (tree .end) in
-      let same : part (bodyOf f) (tree .at) (tree .end) ≡ d = part-of-body f (tree .at) (tree .end) (is .order) (is .inside) in
+  within-is : (t : F.Tree) → TreeIs (bodyOf f) t tree → Within f tree
+  within-is t is =
       let b : length (bodyOf f) ≤ length f = simp length-take (omega arith) in
-      let few : k < length (F.treeItems t) = omega (arith, is .nodes) in
-      let place : tree .node ≡ nodeStart 20 k d = is .node ∙ rw (lt-ltb k (length (F.treeItems t)) few, same) in
-      let reads : readNodes 20 0 d ≡ good t (length d) = rw same at (is .reads) in
-      let shown : Shown (drop (nodeStart 20 k d) d) (getD (F.treeItems t) k (root t)) = tree-item d t (length d) reads k (root t) few in
-      let took = node-took 20 0 (drop (nodeStart 20 k d) d) .of _ _ (shown .reads) in
       let order = is .order in
       let inside = is .inside in
-      let long : length d ≡ tree .end - tree .at = simp (length-take, length-drop) (omega arith) in
-      record {
-        within = record { order = order; inside = omega arith; long = long; place = omega (arith, took, length-drop (nodeStart 20 k d) d) };
-        place = ap (λ n. tree .at + n) (sym (place ∙ ap (nodeStart 20 k) (sym same ∙ is .sized)));
-        level = sym (is .level ∙ level-is k (F.treeItems t) (root t) few);
-        taken = shown .taken;
-        reads = rw place (shown .reads);
-      }
+      record { order = order; inside = omega arith; long = simp (length-take, length-drop) (omega arith) }
 
-  -- by what was found
-  pub stands {ℓ} : {X : Type ℓ} (o : Option F.Tree) → TreeFound k (bodyOf f) o tree → k < tree .nodes
-      → ((i : F.Item) → listed (itemsOf o) k ≡ inFile i → tree .there ≡ true → Stands k f tree i → X) → X
-  stands none is more g = let z : tree .nodes ≡ 0 = ap (λ (x : TreePlace). x .nodes) is in absurd (omega arith)
-  stands (some t) is more g =
-      let few : k < length (F.treeItems t) = omega (arith, is .nodes) in
-      g (getD (F.treeItems t) k (root t)) (pick-file false _ _ refl (item-some (F.treeItems t) k (root t) few)) (is .there) (stands-is t is more)
+  pub within : (o : Option F.Tree) → TreeFound (bodyOf f) o tree → k < tree .nodes → Within f tree
+  within none is more = let z : tree .nodes ≡ 0 = ap (λ (x : TreePlace). x .nodes) is in absurd (omega arith)
+  within (some t) is more = within-is t is
 
-  pub within : (o : Option F.Tree) → TreeFound k (bodyOf f) o tree → k < tree .nodes → Within f tree
-  within o is more = stands o is more λ i v there h. h .within
-
-  pub no-node-there : (o : Option F.Tree) → TreeFound k (bodyOf f) o tree → tree .nodes ≤ k → listed (itemsOf o) k ≡ refused 18 0
+  pub no-node-there : (o : Option F.Tree) → TreeFound (bodyOf f) o tree → tree .nodes ≤ k → listed (itemsOf o) k ≡ refused 18 0
   no-node-there none is few = refl
   no-node-there (some t) is few = pick-none false _ (item-none (F.treeItems t) k (omega (arith, is .nodes)))
+
+  module _ (node : NodePlace) (found : NodeFound (part f (tree .at) (tree .end)) k node) where
+    stands-is : (t : F.Tree) → TreeIs (bodyOf f) t tree → k < length (F.treeItems t) → Stands k f tree node (getD (F.treeItems t) k (root t))
+    stands-is t is few =
+        let d : List ℕ = part f (tree .at) (tree .end) in
+        let same : part (bodyOf f) (tree .at) (tree .end) ≡ d = part-of-body f (tree .at) (tree .end) (is .order) (is .inside) in
+        let reads : readNodes 20 0 d ≡ good t (length d) = rw same at (is .reads) in
+        let shown : Shown (drop (nodeStart 20 k d) d) (getD (F.treeItems t) k (root t)) = tree-item d t (length d) reads k (root t) few in
+        record {
+          within = within-is t is;
+          place = ap (λ n. tree .at + n) (sym (found .place ∙ ap (nodeStart 20 k) (sym same ∙ is .sized)));
+          level = sym (found .level t (length d) (root t) reads few);
+          taken = shown .taken;
+          reads = rw (found .place) (shown .reads);
+        }
+
+    -- by what was read of the file
+    pub stands {ℓ} : {X : Type ℓ} (o : Option F.Tree) → TreeFound (bodyOf f) o tree → k < tree .nodes
+        → ((i : F.Item) → listed (itemsOf o) k ≡ inFile i → tree .there ≡ true → Stands k f tree node i → X) → X
+    stands none is more g = let z : tree .nodes ≡ 0 = ap (λ (x : TreePlace). x .nodes) is in absurd (omega arith)
+    stands (some t) is more g =
+        let few : k < length (F.treeItems t) = omega (arith, is .nodes) in
+        g (getD (F.treeItems t) k (root t)) (pick-file false _ _ refl (item-some (F.treeItems t) k (root t) few)) (is .there) (stands-is t is few)
 
 -- ---- what is read there
 
@@ -171,43 +173,43 @@ module _ (d : List ℕ) (at : ℕ) (i : F.Item) (taken : ℕ)
       let q = rw reads at e in
       let is : n ≡ nodeOf at (record { node = i .node; subtrees = i .subtrees }) taken = cc in rw is parts-are
 
--- the places of the node that was wanted
-pub places : (k : ℕ) (f : List ℕ) (tree : TreePlace) (o : Option F.Tree) → TreeFound k (bodyOf f) o tree → k < tree .nodes
-    → (n : Code.Node) → N.Good n ≡ nodeAt (tree .node) (readNode 20 0 (drop (tree .node) (part f (tree .at) (tree .end))))
-    → (tree .node ≤ n .nul) × (n .valid ≡ true → n .object + 20 ≤ length (part f (tree .at) (tree .end)))
-places k f tree o is more n e =
-    stands k f tree o is more λ i v there h.
-    let p = node-parts (part f (tree .at) (tree .end)) (tree .node) i (h .taken) (h .reads) n e in (p .named, p .there)
+-- the places of the node that was found
+pub places : (k : ℕ) (f : List ℕ) (tree : TreePlace) (node : NodePlace) → NodeFound (part f (tree .at) (tree .end)) k node → (o : Option F.Tree) → TreeFound (bodyOf f) o tree → k < tree .nodes
+    → (n : Code.Node) → N.Good n ≡ nodeAt (node .place) (readNode 20 0 (drop (node .place) (part f (tree .at) (tree .end))))
+    → (node .place ≤ n .nul) × (n .valid ≡ true → n .object + 20 ≤ length (part f (tree .at) (tree .end)))
+places k f tree node found o is more n e =
+    stands k f tree node found o is more λ i v there h.
+    let p = node-parts (part f (tree .at) (tree .end)) (node .place) i (h .taken) (h .reads) n e in (p .named, p .there)
 
 -- ---- the answer
 
-pub node-shows : (k : ℕ) (f : List ℕ) (tree : TreePlace) (at : ℕ) (v : View F.Item) (i : F.Item) → v ≡ inFile i → Stands k f tree i
+pub node-shows : (k : ℕ) (f : List ℕ) (tree : TreePlace) (node : NodePlace) (at : ℕ) (v : View F.Item) (i : F.Item) → v ≡ inFile i → Stands k f tree node i
     → tree .at + nodeStart 20 k (dataIn (tree .at) (bodyOf f)) ≡ at
-    → (n : Code.Node) → NodeParts (part f (tree .at) (tree .end)) (tree .node) i n
+    → (n : Code.Node) → NodeParts (part f (tree .at) (tree .end)) (node .place) i n
     → (object : List ℕ) → object ≡ cond (n .valid) (take 20 (drop (n .object) (part f (tree .at) (tree .end)))) (replicate 20 0)
     → NodeShows at v f
     (record {
-      shown = S.InFile (tree .at + tree .node) (n .nul - tree .node);
-      level = tree .level;
+      shown = S.InFile (tree .at + node .place) (n .nul - node .place);
+      level = node .level;
       valid = n .valid;
       count = n .count;
       subtrees = n .subtrees;
       object = object;
     })
 unfolding nodeSaid nameIn
-node-shows k f tree at v i is h placed n p object o =
+node-shows k f tree node at v i is h placed n p object o =
     let d : List ℕ = part f (tree .at) (tree .end) in
     let w = h .within in
     let named = p .named in
     let inside = p .inside in
-    let fits : tree .at + tree .node + (n .nul - tree .node) ≤ length f = omega arith in
-    let name : partIn (tree .at + tree .node) (n .nul - tree .node) f ≡ i .node .name =
+    let fits : tree .at + node .place + (n .nul - node .place) ≤ length f = omega arith in
+    let name : partIn (tree .at + node .place) (n .nul - node .place) f ≡ i .node .name =
     part-in _ _ f fits
     ∙ sym
     (p .name
-    ∙ part-within (tree .end - tree .at) (tree .node) (n .nul - tree .node) (drop (tree .at) f) (omega arith)
-    ∙ ap (take (n .nul - tree .node)) (drop-drop (tree .node) (tree .at) f)) in
-    let own : tree .at + tree .node ≡ at = sym (h .place) ∙ placed in
+    ∙ part-within (tree .end - tree .at) (node .place) (n .nul - node .place) (drop (tree .at) f) (omega arith)
+    ∙ ap (take (n .nul - node .place)) (drop-drop (node .place) (tree .at) f)) in
+    let own : tree .at + node .place ≡ at = sym (h .place) ∙ placed in
     let same : object ≡ i .node .object = o ∙ sym (p .object) in
     record {
       whole = rw (is, own, p .size, same, p .valid, p .count, p .subtrees, ← (h .level)) refl;

@@ -29,7 +29,7 @@ module _ (w : ℕ) (hash : List ℕ → List ℕ) (f : List ℕ) (c : Contents) 
       let count : be32 (bodyIn w f) 8 ≡ be32 f 8 = be32-take f (length f - w) 8 fits in
       (h .version, h .end ∙ ap (λ (x : Read (List Entry)). 12 + taken x) (sym (rw count at (h .entries))))
 
-module _ (wn wr : ℕ) (work f : List ℕ) (parts : Parts) (h : Contains wn wr (inRoom work (readFile 20 sha1 f)) (bodyOf f) parts) where
+module _ (work f : List ℕ) (parts : Parts) (h : Contains (inRoom work (readFile 20 sha1 f)) (bodyOf f) parts) where
   read : readFile 20 sha1 f ≡ good (h .contents) (h .taken)
   read = sym (in-room work (readFile 20 sha1 f) (room-of _ _ _ _ (h .read))) ∙ h .read
 

@@ -12,13 +12,13 @@ use Rattle.format.specs.Records as F
 use Rattle.format.specs.Places.{dataIn, undoStart}
 use Rattle.resolve_undo.specs.declared.Shown as Code
 use Rattle.resolve_undo.specs.Answers.{undoAt, item, shown}
-use Rattle.resolve_undo.proofs.Showing.{shown-path, missing-zeros}
+use Rattle.resolve_undo.proofs.Showing.{shown-item, shown-path, missing-zeros}
 use Rattle.file.specs.declared.Shown.the-variants as S
 use Rattle.file.specs.Answers.{View, refused, inFile, listed, partIn, nameIn, undoSaid}
 use Rattle.file.proofs.Laws.{part-in, part-within, item-none}
 use Rattle.extensions.specs.declared.UndoPlace.{UndoPlace}
 use Rattle.extensions.specs.Heads.{part}
-use Rattle.extensions.specs.Found.{UndoFound}
+use Rattle.extensions.specs.Found.{UndoIs, UndoFound}
 use Rattle.file_contents.specs.Contents.{bodyOf}
 use Rattle.index.specs.Calls.{UndoShows}
 use Rattle.index.proofs.Views.{part-of-body, item-some, pick-none, pick-file}
@@ -35,40 +35,48 @@ pub record Within (f : List ℕ) (undo : UndoPlace) : Type 0 where
   pub order : undo .at ≤ undo .end
   pub inside : undo .end ≤ length f
 
--- and in them the record that was wanted
-pub record Stands (k : ℕ) (f : List ℕ) (undo : UndoPlace) (u : F.Undo) : Type 0 where
+-- and in them a record that is found at a place
+pub record Stands (k : ℕ) (f : List ℕ) (undo : UndoPlace) (place : ℕ) (u : F.Undo) : Type 0 where
   pub within : Within f undo
-  pub place : undo .at + undoStart 20 0 k [] (dataIn (undo .at) (bodyOf f)) ≡ undo .at + undo .«record_at»
-  pub reads : undoAt 20 0 (drop (undo .«record_at») (part f (undo .at) (undo .end))) ≡ some u
+  pub found : undo .at + undoStart 20 0 k [] (dataIn (undo .at) (bodyOf f)) ≡ undo .at + place
+  pub reads : undoAt 20 0 (drop place (part f (undo .at) (undo .end))) ≡ some u
 
 no-record : F.Undo
 no-record = record { path = []; first = record { mode = 0; object = [] }; second = record { mode = 0; object = [] }; third = record { mode = 0; object = [] } }
 
 module _ (k : ℕ) (f : List ℕ) (undo : UndoPlace) where
-  -- by what was found
-  pub stands {ℓ} : {X : Type ℓ} (o : Option (List F.Undo)) → UndoFound k (bodyOf f) o undo → k < undo .records
-      → ((u : F.Undo) → listed o k ≡ inFile u → undo .there ≡ true → Stands k f undo u → X) → X
-  stands none is more g = let z : undo .records ≡ 0 = ap (λ (x : UndoPlace). x .records) is in absurd (omega arith)
-  stands (some us) is more g =
+  within-is : (us : List F.Undo) → UndoIs (bodyOf f) us undo → Within f undo
+  within-is us is = let b : length (bodyOf f) ≤ length f = simp length-take (omega arith) in record { order = is .order; inside = omega (arith, is .inside) }
+
+  pub within : (o : Option (List F.Undo)) → UndoFound (bodyOf f) o undo → k < undo .records → Within f undo
+  within none is more = let z : undo .records ≡ 0 = ap (λ (x : UndoPlace). x .records) is in absurd (omega arith)
+  within (some us) is more = within-is us is
+
+  -- by what was read of the file
+  pub stands {ℓ} : {X : Type ℓ} (place : ℕ) → place ≡ undoStart 20 0 k [] (part f (undo .at) (undo .end)) → (o : Option (List F.Undo)) → UndoFound (bodyOf f) o undo → k < undo .records
+      → ((u : F.Undo) → listed o k ≡ inFile u → undo .there ≡ true → Stands k f undo place u → X) → X
+  stands place e none is more g = let z : undo .records ≡ 0 = ap (λ (x : UndoPlace). x .records) is in absurd (omega arith)
+  stands place e (some us) is more g =
+      let d : List ℕ = part f (undo .at) (undo .end) in
       let few : k < length us = omega (arith, is .records) in
-      let b : length (bodyOf f) ≤ length f = simp length-take (omega arith) in
       let there : getElem? us k ≡ some (getD us k no-record) = item-some us k no-record few in
-      let same = part-of-body f (undo .at) (undo .end) (is .order) (is .inside) in
+      let same : part (bodyOf f) (undo .at) (undo .end) ≡ d = part-of-body f (undo .at) (undo .end) (is .order) (is .inside) in
       g (getD us k no-record) (pick-file false _ _ refl there) (is .there)
-      (record { within = record { order = is .order; inside = omega (arith, is .inside) }; place = ap (λ n. undo .at + n) (sym (is .place few ∙ ap (undoStart 20 0 k []) (is .sized))); reads = rw same at (is .wanted few) ∙ item-is k us ∙ there })
+      (record {
+        within = within-is us is;
+        found = ap (λ n. undo .at + n) (sym (e ∙ ap (undoStart 20 0 k []) (sym same ∙ is .sized)));
+        reads = rw e (shown-item 0 k d us (length d) (rw same at (is .reads)) few ∙ item-is k us ∙ there);
+      })
 
-  pub within : (o : Option (List F.Undo)) → UndoFound k (bodyOf f) o undo → k < undo .records → Within f undo
-  within o is more = stands o is more λ u v there h. h .within
-
-  pub no-record-there : (o : Option (List F.Undo)) → UndoFound k (bodyOf f) o undo → undo .records ≤ k → listed o k ≡ refused 18 0
+  pub no-record-there : (o : Option (List F.Undo)) → UndoFound (bodyOf f) o undo → undo .records ≤ k → listed o k ≡ refused 18 0
   no-record-there none is few = refl
   no-record-there (some us) is few = pick-none false _ (item-none us k (omega (arith, is .records)))
 
 -- ---- the answer
 
-module _ (k : ℕ) (f : List ℕ) (undo : UndoPlace) (place : ℕ) (v : View F.Undo) (u : F.Undo) (is : v ≡ inFile u) (h : Stands k f undo u)
+module _ (k : ℕ) (f : List ℕ) (undo : UndoPlace) (found place : ℕ) (v : View F.Undo) (u : F.Undo) (is : v ≡ inFile u) (h : Stands k f undo found u)
     (placed : undo .at + undoStart 20 0 k [] (dataIn (undo .at) (bodyOf f)) ≡ place) (s : Code.Shown)
-    (shows : s ≡ shown (undo .«record_at») (undoAt 20 0 (drop (undo .«record_at») (part f (undo .at) (undo .end)))))
+    (shows : s ≡ shown found (undoAt 20 0 (drop found (part f (undo .at) (undo .end)))))
     (inside : s .path + s .«path_length» ≤ length (part f (undo .at) (undo .end))) where
   pub undo-shows : UndoShows place v f
       (record {
@@ -83,21 +91,21 @@ module _ (k : ℕ) (f : List ℕ) (undo : UndoPlace) (place : ℕ) (v : View F.U
   unfolding undoSaid nameIn
   undo-shows =
       let d : List ℕ = part f (undo .at) (undo .end) in
-      let q : s ≡ shown (undo .«record_at») (some u) = shows ∙ ap (shown (undo .«record_at»)) (h .reads) in
+      let q : s ≡ shown found (some u) = shows ∙ ap (shown found) (h .reads) in
       let long : length d ≤ undo .end - undo .at = simp length-take (omega arith) in
       let w = h .within in
-      let at : s .path ≡ undo .«record_at» = ap (λ (x : Code.Shown). x .path) q in
+      let at : s .path ≡ found = ap (λ (x : Code.Shown). x .path) q in
       let size : s .«path_length» ≡ length (u .path) = ap (λ (x : Code.Shown). x .«path_length») q in
       let fits : undo .at + s .path + s .«path_length» ≤ length f = omega arith in
       let name : partIn (undo .at + s .path) (s .«path_length») f ≡ u .path =
       part-in _ _ f fits
       ∙ ap (take (s .«path_length»)) (sym (drop-drop (s .path) (undo .at) f))
       ∙ sym (part-within (undo .end - undo .at) (s .path) (s .«path_length») (drop (undo .at) f) (omega arith))
-      ∙ rw (at, size) (shown-path 20 0 (drop (undo .«record_at») d) u (lit≤ tt) (h .reads)) in
-      let own : undo .at + s .path ≡ place = ap (λ n. undo .at + n) at ∙ sym (h .place) ∙ placed in
+      ∙ rw (at, size) (shown-path 20 0 (drop found d) u (lit≤ tt) (h .reads)) in
+      let own : undo .at + s .path ≡ place = ap (λ n. undo .at + n) at ∙ sym (h .found) ∙ placed in
       record {
         whole = rw (is, own, q) refl;
         said = λ work. rw (name, q, is) refl;
         inside = λ work. fits;
-        zeros = rw q (missing-zeros 20 0 (drop (undo .«record_at») d) u (lit≤ tt) (h .reads));
+        zeros = rw q (missing-zeros 20 0 (drop found d) u (lit≤ tt) (h .reads));
       }

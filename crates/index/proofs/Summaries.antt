@@ -15,16 +15,16 @@ use Rattle.file.specs.Answers.{treeCount, undoCount, checkedOf}
 use Rattle.file_contents.specs.declared.Parts.{Parts}
 use Rattle.file_contents.specs.Contents.{Contains}
 
-module _ (wn wr : ℕ) (b : List ℕ) (found : Found) where
-  tree-count : (o : Option F.Tree) → TreeFound wn b o (found .tree) → cond (found .tree .there) (Present (found .tree .nodes)) Absent ≡ treeCount o
+module _ (b : List ℕ) (found : Found) where
+  tree-count : (o : Option F.Tree) → TreeFound b o (found .tree) → cond (found .tree .there) (Present (found .tree .nodes)) Absent ≡ treeCount o
   tree-count none h = rw h
   tree-count (some t) h = rw (h .there, h .nodes)
 
-  undo-count : (o : Option (List F.Undo)) → UndoFound wr b o (found .undo) → cond (found .undo .there) (Present (found .undo .records)) Absent ≡ undoCount o
+  undo-count : (o : Option (List F.Undo)) → UndoFound b o (found .undo) → cond (found .undo .there) (Present (found .undo .records)) Absent ≡ undoCount o
   undo-count none h = rw h
   undo-count (some us) h = rw (h .there, h .records)
 
-pub check-says : (wn wr : ℕ) (x : Read Contents) (b : List ℕ) (parts : Parts) (h : Contains wn wr x b parts)
+pub check-says : (x : Read Contents) (b : List ℕ) (parts : Parts) (h : Contains x b parts)
     → K.Accepted
     (record {
       version = parts .version;
@@ -34,12 +34,12 @@ pub check-says : (wn wr : ℕ) (x : Read Contents) (b : List ℕ) (parts : Parts
       records = cond (parts .found .undo .there) (Present (parts .found .undo .records)) Absent;
     })
     ≡ checkedOf (good (h .contents) (h .taken))
-check-says wn wr x b parts h =
+check-says x b parts h =
     rw (
       h .version,
       h .end,
       h .counted,
-      tree-count wn wr b (parts .found) (h .contents .records .cacheTree) (h .tree),
-      undo-count wn wr b (parts .found) (h .contents .records .resolveUndo) (h .undo),
+      tree-count b (parts .found) (h .contents .records .cacheTree) (h .tree),
+      undo-count b (parts .found) (h .contents .records .resolveUndo) (h .undo),
     )
     refl

@@ -17,6 +17,7 @@ ghost use Rattle.file.specs.declared.Count.the-variants.{Absent, Present};
 ghost use Rattle.file.specs.Answers.{cleared, pick, listed, itemsOf, checkAnswer, entryAnswer, nodeAnswer, undoAnswer};
 ghost use Rattle.file_contents.specs.Contents.{bodyOf};
 ghost use Rattle.index.specs.Calls.{EntryShows, NodeShows, UndoShows};
+use cache_tree::walk::find_node;
 use entries_run::Sought;
 use extensions::TreePlace;
 use extensions::UndoPlace;
@@ -80,22 +81,24 @@ fn node_object(d: &[u8], node: Node) -> [u8; 20]
     [0u8; 20]
 }
 
-// Node number k of the cache tree, which was wanted when the file was read. Where there is one, it reads well again.
+// Node number k of the cache tree. Where there is one, it reads well again.
 fn show_node(file: &[u8], tree: TreePlace, k: u32) -> NodeAnswer
-    requires { ⌜ ((o : Option F.Tree) × TreeFound k (bodyOf (now file)) o tree) ⌝ }
-    ensures { λ r. ⌜ ((o : Option F.Tree) (at : ℕ) → TreeFound k (bodyOf (now (file .entry))) o tree → (tree .there ≡ true → tree .at + nodeStart 20 k (dataIn (tree .at) (bodyOf (now (file .entry)))) ≡ at) → NodeShows at (listed (itemsOf o) k) (now (file .entry)) r) ⌝ }
+    requires { ⌜ ((o : Option F.Tree) × TreeFound (bodyOf (now file)) o tree) ⌝ }
+    ensures { λ r. ⌜ ((o : Option F.Tree) (at : ℕ) → TreeFound (bodyOf (now (file .entry))) o tree → (tree .there ≡ true → tree .at + nodeStart 20 k (dataIn (tree .at) (bodyOf (now (file .entry)))) ≡ at) → NodeShows at (listed (itemsOf o) k) (now (file .entry)) r) ⌝ }
 {
     if tree.nodes <= k {
         return refused_node(18, 0);
     }
     let from = tree.at;
     let end = tree.end;
-    let read = read_node(&file[from..end], tree.node);
+    let found = find_node(&file[from..end], k);
+    let place = found.place;
+    let read = read_node(&file[from..end], place);
     match read {
         NodeRead::Bad => refused_node(18, 0),
         NodeRead::Good(node) => NodeAnswer {
-            shown: Shown::InFile(from + tree.node, node.nul - tree.node),
-            level: tree.level,
+            shown: Shown::InFile(from + place, node.nul - place),
+            level: found.level,
             valid: node.valid,
             count: node.count,
             subtrees: node.subtrees,
@@ -104,17 +107,18 @@ fn show_node(file: &[u8], tree: TreePlace, k: u32) -> NodeAnswer
     }
 }
 
-// Record number k of the resolve-undo records, which was wanted when the file was read.
+// Record number k of the resolve-undo records.
 fn show_record(file: &[u8], undo: UndoPlace, k: u32) -> UndoAnswer
-    requires { ⌜ ((o : Option (List F.Undo)) × UndoFound k (bodyOf (now file)) o undo) ⌝ }
-    ensures { λ r. ⌜ ((o : Option (List F.Undo)) (at : ℕ) → UndoFound k (bodyOf (now (file .entry))) o undo → (undo .there ≡ true → undo .at + undoStart 20 0 k [] (dataIn (undo .at) (bodyOf (now (file .entry)))) ≡ at) → UndoShows at (listed o k) (now (file .entry)) r) ⌝ }
+    requires { ⌜ ((o : Option (List F.Undo)) × UndoFound (bodyOf (now file)) o undo) ⌝ }
+    ensures { λ r. ⌜ ((o : Option (List F.Undo)) (at : ℕ) → UndoFound (bodyOf (now (file .entry))) o undo → (undo .there ≡ true → undo .at + undoStart 20 0 k [] (dataIn (undo .at) (bodyOf (now (file .entry)))) ≡ at) → UndoShows at (listed o k) (now (file .entry)) r) ⌝ }
 {
     if undo.records <= k {
         return refused_undo(18, 0);
     }
     let from = undo.at;
     let end = undo.end;
-    let s = resolve_undo::show_undo(&file[from..end], undo.record_at);
+    let place = resolve_undo::find_undo(&file[from..end], k);
+    let s = resolve_undo::show_undo(&file[from..end], place);
     let first = s.first_object;
     let second = s.second_object;
     let third = s.third_object;
@@ -144,7 +148,7 @@ fn count_of(there: bool, n: u32) -> Count
 pub fn check(file: &[u8], work: &mut [u8]) -> Checked
     ensures { λ r. ⌜ (r ≡ checkAnswer (now (work .entry)) (readFile 20 sha1 (now (file .entry)))) × (now (work .exit) ≡ cleared (now (work .entry))) ⌝ }
 {
-    let whole = read_cleared(file, work, 0, 0);
+    let whole = read_cleared(file, work);
     match whole {
         Whole::Bad(n, p) => Checked::Refused(n, p),
         Whole::Good(parts) => Checked::Accepted(Summary {
@@ -161,7 +165,7 @@ pub fn check(file: &[u8], work: &mut [u8]) -> Checked
 pub fn entry(file: &[u8], work: &mut [u8], k: u32) -> EntryAnswer
     ensures { λ r. ⌜ EntryShows (entryNamePlace 20 k (now (file .entry))) (entryAnswer (now (work .entry)) k (readFile 20 sha1 (now (file .entry)))) (now (file .entry)) (now (work .entry)) (now (work .exit)) r ⌝ }
 {
-    let whole = read_cleared(file, &mut *work, 0, 0);
+    let whole = read_cleared(file, &mut *work);
     match whole {
         Whole::Bad(n, p) => refused_entry(n, p),
         Whole::Good(parts) => {
@@ -177,7 +181,7 @@ pub fn entry(file: &[u8], work: &mut [u8], k: u32) -> EntryAnswer
 pub fn tree_node(file: &[u8], work: &mut [u8], k: u32) -> NodeAnswer
     ensures { λ r. ⌜ NodeShows (nodePlace 20 k (now (file .entry))) (nodeAnswer (now (work .entry)) k (readFile 20 sha1 (now (file .entry)))) (now (file .entry)) r × (now (work .exit) ≡ cleared (now (work .entry))) ⌝ }
 {
-    let whole = read_cleared(file, work, k, 0);
+    let whole = read_cleared(file, work);
     match whole {
         Whole::Bad(n, p) => refused_node(n, p),
         Whole::Good(parts) => show_node(file, parts.found.tree, k),
@@ -188,7 +192,7 @@ pub fn tree_node(file: &[u8], work: &mut [u8], k: u32) -> NodeAnswer
 pub fn undo_record(file: &[u8], work: &mut [u8], k: u32) -> UndoAnswer
     ensures { λ r. ⌜ UndoShows (undoPlace 20 k (now (file .entry))) (undoAnswer (now (work .entry)) k (readFile 20 sha1 (now (file .entry)))) (now (file .entry)) r × (now (work .exit) ≡ cleared (now (work .entry))) ⌝ }
 {
-    let whole = read_cleared(file, work, 0, k);
+    let whole = read_cleared(file, work);
     match whole {
         Whole::Bad(n, p) => refused_undo(n, p),
         Whole::Good(parts) => show_record(file, parts.found.undo, k),

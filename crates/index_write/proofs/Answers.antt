@@ -144,7 +144,7 @@ module _ (f work work₁ : List ℕ) (clear : work₁ ≡ cleared work) where
   call-refused ask n p out e = writes-bad _ n p out work work₁ (answered-bad work (readFile 20 sha1 f) ask n p e) clear
 
   -- it is accepted
-  module _ (parts : Parts) (h : Contains 0 0 (inRoom work (readFile 20 sha1 f)) (bodyOf f) parts) where
+  module _ (parts : Parts) (h : Contains (inRoom work (readFile 20 sha1 f)) (bodyOf f) parts) where
     room : 8192 ≤ length work
     room = room-of work (readFile 20 sha1 f) (h .contents) (h .taken) (h .read)
 

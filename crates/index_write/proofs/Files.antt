@@ -47,7 +47,7 @@ name-short s h =
 
 -- ---- a file that was read
 
-module _ (f : List ℕ) (bytes : Bytes f) (parts : Parts) (h : Contains 0 0 (readFile 20 sha1 f) (bodyOf f) parts) where
+module _ (f : List ℕ) (bytes : Bytes f) (parts : Parts) (h : Contains (readFile 20 sha1 f) (bodyOf f) parts) where
   spelled : Spells 20 sha1 (h .contents .records) f
   spelled = read-spelled 20 sha1 length-sha1 f (h .contents) (h .taken) bytes (h .read)
 

@@ -43,7 +43,7 @@ pub record Typed (fields : Fields) : Type 0 where
 -- the file f was read, and parts tell where its records stand; the workspace is long enough
 pub record Opened (f work : List ℕ) (parts : Parts) : Type 0 where
   pub room : 8192 ≤ length work
-  pub contains : Contains 0 0 (readFile 20 sha1 f) (bodyOf f) parts
+  pub contains : Contains (readFile 20 sha1 f) (bodyOf f) parts
 
 -- and an edit is to be made; fields and name are those of the entry that is put
 pub record Planned (f work : List ℕ) (parts : Parts) (edit : Edit) (fields : Fields) (name : List ℕ) : Type 0 where

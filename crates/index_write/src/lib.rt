@@ -199,7 +199,7 @@ fn remove_read(
 pub fn rewrite(file: &[u8], work: &mut [u8], out: &mut [u8], asked: u32) -> Written
     ensures { λ r. ⌜ Saves (now (file .entry)) asked (λ q. q) (rewriteAnswer 20 sha1 (now (work .entry)) asked (length (now (out .entry))) (readFile 20 sha1 (now (file .entry)))) (now (out .entry)) (now (work .entry)) (now (out .exit)) (now (work .exit)) r ⌝ }
 {
-    let whole = read_cleared(file, &mut *work, 0, 0);
+    let whole = read_cleared(file, &mut *work);
     match whole {
         Whole::Bad(n, p) => Written::Refused(n, p),
         Whole::Good(parts) => rewrite_read(file, parts, work, out, asked),
@@ -218,7 +218,7 @@ pub fn put(
     ensures { λ r. ⌜ Saves (now (file .entry)) asked (putRecord 20 (entryWith fields (now (name .entry)))) (putAnswer 20 sha1 (now (work .entry)) asked (entryWith fields (now (name .entry))) (length (now (out .entry))) (readFile 20 sha1 (now (file .entry)))) (now (out .entry)) (now (work .entry)) (now (out .exit)) (now (work .exit)) r ⌝ }
 {
     typed(fields);
-    let whole = read_cleared(file, &mut *work, 0, 0);
+    let whole = read_cleared(file, &mut *work);
     match whole {
         Whole::Bad(n, p) => Written::Refused(n, p),
         Whole::Good(parts) => put_read(file, parts, work, out, asked, name, fields),
@@ -236,7 +236,7 @@ pub fn remove(
 ) -> Written
     ensures { λ r. ⌜ Saves (now (file .entry)) asked (removeRecord 20 (record { name = now (name .entry); stage = stage })) (removeAnswer 20 sha1 (now (work .entry)) asked (record { name = now (name .entry); stage = stage }) (length (now (out .entry))) (readFile 20 sha1 (now (file .entry)))) (now (out .entry)) (now (work .entry)) (now (out .exit)) (now (work .exit)) r ⌝ }
 {
-    let whole = read_cleared(file, &mut *work, 0, 0);
+    let whole = read_cleared(file, &mut *work);
     match whole {
         Whole::Bad(n, p) => Written::Refused(n, p),
         Whole::Good(parts) => remove_read(file, parts, work, out, asked, name, stage),

@@ -17,12 +17,16 @@ use Rattle.resolve_undo.specs.Answers.{recordsRead, valueOf, undoAt, sho
 abbrev one : ℕ → List ℕ
 one b = b ∷ 0 ∷ 48 ∷ 0 ∷ 49 ∷ 48 ∷ 48 ∷ 54 ∷ 52 ∷ 52 ∷ 0 ∷ 48 ∷ 0 ∷ replicate 20 b
 
-second-place : recordsRead 1 (undoStart 20 0 1 [] (one 97 ++ one 98)) (readUndos 20 0 66 [] (one 97 ++ one 98)) ≡ S.Good 2 33
-unfolding eqList before lacks componentsFrom components okComponent okComponents okName compare modeText someStage need shift bind readText needSome modeIn readMode readStage readStages readUndo readUndos afterUndo undoStart
+both-read : recordsRead (readUndos 20 0 66 [] (one 97 ++ one 98)) ≡ S.Good 2
+unfolding eqList before lacks componentsFrom components okComponent okComponents okName compare modeText someStage need shift bind readText needSome modeIn readMode readStage readStages readUndo readUndos
+both-read = refl
+
+second-place : undoStart 20 0 1 [] (one 97 ++ one 98) ≡ 33
+unfolding eqList before lacks componentsFrom components okComponent okComponents okName compare modeText someStage need shift bind readText needSome modeIn readMode readStage readStages readUndo afterUndo undoStart
 second-place = refl
 
-not-rising : recordsRead 1 (undoStart 20 0 1 [] (one 97 ++ one 97)) (readUndos 20 0 66 [] (one 97 ++ one 97)) ≡ S.Bad
-unfolding eqList before lacks componentsFrom components okComponent okComponents okName compare modeText someStage need shift bind readText needSome modeIn readMode readStage readStages readUndo readUndos afterUndo undoStart
+not-rising : recordsRead (readUndos 20 0 66 [] (one 97 ++ one 97)) ≡ S.Bad
+unfolding eqList before lacks componentsFrom components okComponent okComponents okName compare modeText someStage need shift bind readText needSome modeIn readMode readStage readStages readUndo readUndos
 not-rising = refl
 
 second-shown : shown 33 (undoAt 20 0 (drop 33 (one 97 ++ one 98)))

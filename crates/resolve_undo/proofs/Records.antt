@@ -1,18 +1,15 @@
 -- The records of the data, one after another: what is answered of what is left.
 use mathlib.Core.Path.{_≡_, refl, sym, ap, _∙_}
 use mathlib.Core.List.{List, [], _∷_}
-use mathlib.Core.Bool.{false, cond}
 use Prim.Native.Nat.{ℕ, suc, _+_, _-_, _≤_, _<_}
 use native.Mathlib.Omega.{arith}
 use lib.ListN.{length, take, drop, length-drop, drop-of-length-le}
 use lib.Seq.{drop-drop, length-take-le}
-use lib.Dec.{eqb, ltb, lit≤}
-use borrow.Author.Tests.{ltb-true, ltb-false, lt-ltb, le-ltb, eqb-true, eqb-false, ne-eqb}
+use lib.Dec.{lit≤}
 use Rattle.format.specs.Bytes.{before}
 use Rattle.format.specs.Records.{Undo}
 use Rattle.format.specs.Reading.{Read, bad, good, shift, bind}
 use Rattle.format.specs.Reader.{readUndo, readUndos}
-use Rattle.format_laws.proofs.Tests.{by-test}
 use Rattle.format_laws.proofs.Texts.{before-le, text-inv}
 use Rattle.format_laws.proofs.Readings.{need-inv, bind-inv}
 use Rattle.spelling_extensions.proofs.Undo.{undosOf, undosOf-end, undosOf-step}
@@ -48,77 +45,40 @@ undo-begins w p previous s u k wide q =
 
 -- ---- all records
 
--- what is answered where r are the records from at on, after n others: place is where the record asked for begins, where it is one of the n,
--- and more is how far after at it begins, where it is one of r
-abbrev recordsFrom : ℕ → ℕ → ℕ → ℕ → ℕ → Read (List Undo) → RecordsRead
-recordsFrom want n place at more (bad k p) = S.Bad
-recordsFrom want n place at more (good us k) = S.Good (n + length us) (cond (ltb want n) place (cond (ltb want (n + length us)) (at + more) 0))
+-- what is answered where r are the records after n others
+abbrev recordsFrom : ℕ → Read (List Undo) → RecordsRead
+recordsFrom n (bad k p) = S.Bad
+recordsFrom n (good us k) = S.Good (n + length us)
 
 -- the same of the records that the data d has from at on
-abbrev pub answerFrom : ℕ → ℕ → ℕ → ℕ → ℕ → List ℕ → List ℕ → RecordsRead
-answerFrom p want n place at previous d =
-    recordsFrom want n place at (undoStart 20 p (want - n) previous (drop at d)) (undosOf 20 p previous (drop at d))
+abbrev pub answerFrom : ℕ → ℕ → ℕ → List ℕ → List ℕ → RecordsRead
+answerFrom p n at previous d = recordsFrom n (undosOf 20 p previous (drop at d))
 
-from-none : (want place : ℕ) (r : Read (List Undo)) → recordsRead want place r ≡ recordsFrom want 0 0 0 place r
-from-none want place (bad n p) = refl
-from-none want place (good us k) =
-    let low : ltb want 0 ≡ false = le-ltb want 0 (omega arith) in
-    let sum : 0 + length us ≡ length us = omega arith in
-    let here : 0 + place ≡ place = omega arith in
-    rw (low, sum, here)
+from-none : (r : Read (List Undo)) → recordsRead r ≡ recordsFrom 0 r
+from-none (bad n p) = refl
+from-none (good us k) = let sum : 0 + length us ≡ length us = omega arith in rw sum
 
-pub from-start : (p want : ℕ) (d : List ℕ) → recordsRead want (undoStart 20 p want [] d) (readUndos 20 p (length d) [] d) ≡ answerFrom p want 0 0 0 [] d
+pub from-start : (p : ℕ) (d : List ℕ) → recordsRead (readUndos 20 p (length d) [] d) ≡ answerFrom p 0 0 [] d
 unfolding undosOf
-from-start p want d = let all : want - 0 ≡ want = omega arith in rw all (from-none want (undoStart 20 p want [] d) (readUndos 20 p (length d) [] d))
+from-start p d = from-none (readUndos 20 p (length d) [] d)
 
-found-or-none : (want n place more : ℕ) → (n ≤ want → place ≡ 0) → cond (ltb want n) place (cond (ltb want n) more 0) ≡ place
-found-or-none want n place more empty = by-test (ltb want n) (λ t. rw t) λ t. rw t (sym (empty (ltb-false want n t)))
-
-pub from-end : (p want n place at : ℕ) (previous d : List ℕ) → length d ≤ at → (n ≤ want → place ≡ 0) → answerFrom p want n place at previous d ≡ S.Good n place
-from-end p want n place at previous d end empty =
-    let sum : n + 0 ≡ n = omega arith in
-    rw (drop-of-length-le d end, undosOf-end, sum) (ap (S.Good n) (found-or-none want n place _ empty))
+pub from-end : (p n at : ℕ) (previous d : List ℕ) → length d ≤ at → answerFrom p n at previous d ≡ S.Good n
+from-end p n at previous d end = let sum : n + 0 ≡ n = omega arith in rw (drop-of-length-le d end, undosOf-end, sum)
 
 -- a record that is refused
-bad-from : (at : ℕ) (r : Read Undo) (k : Undo → ℕ → Read (List Undo)) (want n place more : ℕ) → R.Bad ≡ recordRead at r
-    → recordsFrom want n place at more (bind r k) ≡ S.Bad
+bad-from : (at n : ℕ) (r : Read Undo) (k : Undo → ℕ → Read (List Undo)) → R.Bad ≡ recordRead at r → recordsFrom n (bind r k) ≡ S.Bad
 unfolding bind
-bad-from at r k want n place more e = record-bad-inv at r e λ m p q. rw q
+bad-from at n r k e = record-bad-inv at r e λ m p q. rw q
 
-pub from-bad : (p want n place at : ℕ) (previous d : List ℕ) → at < length d → R.Bad ≡ recordRead at (readUndo 20 p previous (drop at d))
-    → answerFrom p want n place at previous d ≡ S.Bad
-from-bad p want n place at previous d inside e =
+pub from-bad : (p n at : ℕ) (previous d : List ℕ) → at < length d → R.Bad ≡ recordRead at (readUndo 20 p previous (drop at d)) → answerFrom p n at previous d ≡ S.Bad
+from-bad p n at previous d inside e =
     let long : 1 ≤ length (drop at d) = simp length-drop (omega arith) in
-    rw (undosOf-step 20 p previous (drop at d) long) (bad-from at _ _ want n place _ e)
+    rw (undosOf-step 20 p previous (drop at d) long) (bad-from at n _ _ e)
 
--- the place of the record asked for: before the one at n, that one, or after it
-place-step : (want n place at k y x len : ℕ) → (want ≡ n → y ≡ 0) → (n < want → y ≡ k + x)
-    → cond (ltb want n) place (cond (ltb want (n + 1 + len)) (at + y) 0)
-    ≡ cond (ltb want (n + 1)) (cond (eqb n want) at place) (cond (ltb want (n + 1 + len)) (at + k + x) 0)
-place-step want n place at k y x len here later =
-    by-test (ltb want n)
-    (λ t.
-    let l : want < n = ltb-true want n t in
-    rw (t, lt-ltb want (n + 1) (omega arith), ne-eqb n want (λ z. omega arith)))
-    λ t.
-    let l : n ≤ want = ltb-false want n t in
-    by-test (eqb n want)
-    (λ e.
-    let is : n ≡ want = eqb-true n want e in
-    let same : at + y ≡ at = omega (arith, here (sym is)) in
-    rw (t, e, lt-ltb want (n + 1) (omega arith), lt-ltb want (n + 1 + len) (omega arith), same))
-    λ e.
-    let more : n < want = omega (arith, eqb-false n want e) in
-    let sum : at + y ≡ at + k + x = omega (arith, later more) in
-    rw (t, le-ltb want (n + 1) (omega arith), sum)
-
-more-from : (want n place at k y x : ℕ) (u : Undo) → (want ≡ n → y ≡ 0) → (n < want → y ≡ k + x) → (r : Read (List Undo))
-    → recordsFrom want n place at y (shift k (bind r (λ us m. good (u ∷ us) 0))) ≡ recordsFrom want (n + 1) (cond (eqb n want) at place) (at + k) x r
+more-from : (n k : ℕ) (u : Undo) (r : Read (List Undo)) → recordsFrom n (shift k (bind r (λ us m. good (u ∷ us) 0))) ≡ recordsFrom (n + 1) r
 unfolding bind shift
-more-from want n place at k y x u here later (bad m p) = refl
-more-from want n place at k y x u here later (good us m) =
-    let sum : n + suc (length us) ≡ n + 1 + length us = omega arith in
-    rw sum (ap (S.Good (n + 1 + length us)) (place-step want n place at k y x (length us) here later))
+more-from n k u (bad m p) = refl
+more-from n k u (good us m) = ap S.Good (omega arith)
 
 -- the first record, the rest, and the place of a later one
 module _ (w p : ℕ) (previous s : List ℕ) (u : Undo) (k : ℕ) (q : readUndo w p previous s ≡ good u k) where
@@ -130,14 +90,6 @@ module _ (w p : ℕ) (previous s : List ℕ) (u : Undo) (k : ℕ) (q : readUndo 
   unfolding undoStart afterUndo
   place-after n = rw q
 
-place-first : (w p n : ℕ) (previous s : List ℕ) → n ≡ 0 → undoStart w p n previous s ≡ 0
-unfolding undoStart
-place-first w p n previous s h = rw h
-
--- where the record asked for has yet to come, no place is noted
-pub still-none : (want n place at : ℕ) → (n ≤ want → place ≡ 0) → n + 1 ≤ want → cond (eqb n want) at place ≡ 0
-still-none want n place at empty more = rw (ne-eqb n want (λ z. omega arith)) (empty (omega arith))
-
 -- a record that is read
 module _ (p at : ℕ) (previous d : List ℕ) (g : Record) (e : R.Good g ≡ recordRead at (readUndo 20 p previous (drop at d))) where
   pub path-fits : at ≤ length d → at + g .path ≤ length d
@@ -147,14 +99,33 @@ module _ (p at : ℕ) (previous d : List ℕ) (g : Record) (e : R.Good g ≡ rec
       let l = length-drop at d in
       rw is (omega arith)
 
-  pub from-good : at < length d → (want n place : ℕ)
-      → answerFrom p want n place at previous d ≡ answerFrom p want (n + 1) (cond (eqb n want) at place) (g .next) (take (g .path) (drop at d)) d
-  from-good inside want n place =
+  pub from-good : at < length d → (n : ℕ) → answerFrom p n at previous d ≡ answerFrom p (n + 1) (g .next) (take (g .path) (drop at d)) d
+  from-good inside n =
       record-good-inv at (readUndo 20 p previous (drop at d)) g e λ u k q is.
       let long : 1 ≤ length (drop at d) = simp length-drop (omega arith) in
       let h = undo-begins 20 p previous (drop at d) u k (lit≤ tt) q in
       rw (undos-after 20 p previous (drop at d) u k q long, is, h .0, ← (drop-drop k at d))
-      (more-from want n place at k _ _ u
-      (λ is. place-first 20 p (want - n) previous (drop at d) (omega arith))
-      (λ more. let less : want - n ≡ suc (want - (n + 1)) = omega arith in rw less (place-after 20 p previous (drop at d) u k q (want - (n + 1))))
-      (undosOf 20 p (u .path) (drop k (drop at d))))
+      (more-from n k u (undosOf 20 p (u .path) (drop k (drop at d))))
+
+  -- the record left after it
+  pub place-more : (left : ℕ) → 0 < left → at + undoStart 20 p left previous (drop at d) ≡ g .next + undoStart 20 p (left - 1) (take (g .path) (drop at d)) (drop (g .next) d)
+  place-more left some =
+      record-good-inv at (readUndo 20 p previous (drop at d)) g e λ u k q is.
+      let h = undo-begins 20 p previous (drop at d) u k (lit≤ tt) q in
+      let later = place-after 20 p previous (drop at d) u k q (left - 1) in
+      let one : left ≡ suc (left - 1) = omega arith in
+      rw (is, h .0, ← (drop-drop k at d)) (ap (λ n. at + undoStart 20 p n previous (drop at d)) one ∙ omega arith)
+
+-- ---- the place of a record
+
+module _ (p at left : ℕ) (previous d : List ℕ) where
+  pub place-end : left ≤ 0 → at + undoStart 20 p left previous (drop at d) ≡ at
+  unfolding undoStart
+  place-end h = let none : left ≡ 0 = omega arith in rw none (omega arith)
+
+  pub place-bad : 0 < left → R.Bad ≡ recordRead at (readUndo 20 p previous (drop at d)) → at + undoStart 20 p left previous (drop at d) ≡ at
+  unfolding undoStart afterUndo
+  place-bad some e =
+      record-bad-inv at (readUndo 20 p previous (drop at d)) e λ n q bad.
+      let one : left ≡ suc (left - 1) = omega arith in
+      rw (one, bad) (omega arith)

@@ -1,14 +1,13 @@
 -- The record that is shown: record number n of the list is what the bytes at its place say.
 use mathlib.Core.Path.{_≡_, refl, sym, ap, _∙_}
 use mathlib.Core.List.{List, [], _∷_}
-use mathlib.Core.Bool.{true, cond}
+use mathlib.Core.Bool.{true}
 use mathlib.Core.Option.{some}
 use Prim.Native.Nat.{ℕ, zero, suc, _+_, _-_, _≤_, _<_}
 use native.Mathlib.Omega.{arith}
 use lib.ListN.{length, take, drop, replicate, drop-of-length-le}
 use lib.Seq.{drop-drop}
-use lib.Dec.{ltb, lit≤}
-use borrow.Author.Tests.{lt-ltb}
+use lib.Dec.{lit≤}
 use Rattle.format.specs.Bytes.{before}
 use Rattle.format.specs.Names.{okName, compare, isBelow}
 use Rattle.format.specs.Records.{Undo}
@@ -19,9 +18,8 @@ use Rattle.format_laws.proofs.Readings.{good-inv, need-inv, bind-inv, need-good
 use Rattle.spelling_extensions.proofs.Undo.{undosOf, undosOf-end, undosOf-step}
 use Rattle.resolve_undo.specs.declared.Record.{Record}
 use Rattle.resolve_undo.specs.declared.RecordRead.the-variants as R
-use Rattle.resolve_undo.specs.declared.RecordsRead.the-variants as S
 use Rattle.format.specs.Places.{undoStart}
-use Rattle.resolve_undo.specs.Answers.{objectLength, objectsLength, objectIn, readThird, readSecond, readFirst, recordRead, item, recordsRead, valueOf, undoAt, nothing, shown}
+use Rattle.resolve_undo.specs.Answers.{objectLength, objectsLength, objectIn, readThird, readSecond, readFirst, recordRead, item, valueOf, undoAt, nothing, shown}
 use Rattle.resolve_undo.proofs.Laws.{record-bad-inv, record-good-inv, stages-read, undo-is}
 use Rattle.resolve_undo.proofs.Records.{undo-begins, place-after}
 
@@ -63,19 +61,11 @@ place-item w p (suc n) previous s us k q h =
     rw (← is, place-after w p previous s u i undoq n, ← (drop-drop (undoStart w p n (u .path) (drop i s)) i s))
     (place-item w p n (u .path) (drop i s) vs j undosq rest)
 
--- the same of the whole data, as the format reads it; how many there are and the place of one, of what the code answers
+-- the same of the whole data, as the format reads it
 pub shown-item : (p n : ℕ) (d : List ℕ) (us : List Undo) (k : ℕ) → readUndos 20 p (length d) [] d ≡ good us k → n < length us
     → undoAt 20 p (drop (undoStart 20 p n [] d) d) ≡ item n us
 unfolding undosOf
 shown-item p n d us k q h = place-item 20 p n [] d us k q h
-
-pub read-place : (p n count place : ℕ) (d : List ℕ) (us : List Undo) (k : ℕ) → readUndos 20 p (length d) [] d ≡ good us k
-    → S.Good count place ≡ recordsRead n (undoStart 20 p n [] d) (readUndos 20 p (length d) [] d)
-    → (count ≡ length us) × (n < length us → place ≡ undoStart 20 p n [] d)
-read-place p n count place d us k q e =
-    let f = rw q at e in
-    let place-is : place ≡ cond (ltb n (length us)) (undoStart 20 p n [] d) 0 = cc in
-    (cc, λ h. place-is ∙ rw (lt-ltb n (length us) h))
 
 value-inv {ℓ} : {X : Type ℓ} (r : Read Undo) (u : Undo) → valueOf r ≡ some u → ((k : ℕ) → r ≡ good u k → X) → X
 unfolding valueOf

@@ -4,7 +4,7 @@ use mathlib.Core.Bool.{true, false, cond}
 use mathlib.Core.Option.{Option, none, some}
 use Prim.Native.Nat.{ℕ, zero, suc, _+_, _-_, _≤_, _<_}
 use lib.ListN.{length, take, drop, replicate}
-use lib.Dec.{eqb, ltb}
+use lib.Dec.{eqb}
 use Rattle.format.specs.Records.{Undo}
 use Rattle.format.specs.Reading.{Read, bad, good, bind}
 use Rattle.format.specs.Reader.{readMode, readStages, readUndo}
@@ -87,10 +87,10 @@ item n [] = none
 item zero (u ∷ us) = some u
 item (suc n) (u ∷ us) = item n us
 
--- how many records there are, and the place of record number n, or 0 where there is none
-abbrev pub recordsRead : ℕ → ℕ → Read (List Undo) → RecordsRead
-recordsRead n place (bad k p) = S.Bad
-recordsRead n place (good us k) = S.Good (length us) (cond (ltb n (length us)) place 0)
+-- how many records there are
+abbrev pub recordsRead : Read (List Undo) → RecordsRead
+recordsRead (bad n p) = S.Bad
+recordsRead (good us k) = S.Good (length us)
 
 -- ---- the record at a place
 

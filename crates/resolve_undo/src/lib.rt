@@ -1,10 +1,9 @@
 // The resolve-undo records of an index: the data of its REUC extension, read.
 ghost use mathlib.Core.Path.{_≡_};
 ghost use mathlib.Core.List.{List, []};
-ghost use mathlib.Core.Bool.{cond, _&&_};
+ghost use mathlib.Core.Bool.{_&&_};
 ghost use Prim.Native.Nat.{ℕ, _+_, _≤_, _<_};
 ghost use lib.ListN.{length, take, drop};
-ghost use lib.Dec.{eqb};
 ghost use Rattle.format.specs.Names as Names;
 ghost use Rattle.format.specs.Reader.{modeIn, readMode, readStages, readUndo, readUndos};
 ghost use Rattle.format.specs.Places.{undoStart};
@@ -38,10 +37,10 @@ pub enum RecordRead {
     Good(Record),
 }
 
-// How many records there are, and the place of the one asked for, or 0.
+// How many records there are.
 pub enum RecordsRead {
     Bad,
-    Good(u32, usize),
+    Good(u32),
 }
 
 // A record as it is shown: the place and the length of its path, and its stages. Where a stage is missing, its mode and its object
@@ -198,26 +197,15 @@ pub fn read_undo(d: &[u8], at: usize, prior: usize, size: usize) -> RecordRead
     RecordRead::Bad
 }
 
-// The place at where the record in hand is the one asked for, else the place found before.
-fn pick(number: u32, want: u32, at: usize, place: usize) -> usize
-    ensures { λ r. ⌜ r ≡ cond (eqb number want) at place ⌝ }
-{
-    if number == want {
-        return at;
-    }
-    place
-}
-
-// The whole data: how many records there are, and where record number want begins.
-pub fn read_undos(d: &[u8], want: u32) -> RecordsRead
+// The whole data: how many records there are.
+pub fn read_undos(d: &[u8]) -> RecordsRead
     requires { ⌜ length (now d) ≤ 16777216 ⌝ }
-    ensures { λ r. ⌜ ((p : ℕ) → r ≡ recordsRead want (undoStart 20 p want [] (now (d .entry))) (readUndos 20 p (length (now (d .entry))) [] (now (d .entry)))) ⌝ }
+    ensures { λ r. ⌜ ((p : ℕ) → r ≡ recordsRead (readUndos 20 p (length (now (d .entry))) [] (now (d .entry)))) ⌝ }
 {
     let mut at: usize = 0;
     let mut prior: usize = 0;
     let mut size: usize = 0;
     let mut records: u32 = 0;
-    let mut place: usize = 0;
     while at < d.len() {
         let g = read_undo(d, at, prior, size);
         match g {
@@ -225,7 +213,6 @@ pub fn read_undos(d: &[u8], want: u32) -> RecordsRead
                 return RecordsRead::Bad;
             }
             RecordRead::Good(r) => {
-                place = pick(records, want, at, place);
                 prior = at;
                 size = r.path;
                 at = r.next;
@@ -233,7 +220,32 @@ pub fn read_undos(d: &[u8], want: u32) -> RecordsRead
         }
         records += 1;
     }
-    RecordsRead::Good(records, place)
+    RecordsRead::Good(records)
+}
+
+// Where record number k begins, from 0 on; where one on the way is refused, the place of that one.
+pub fn find_undo(d: &[u8], k: u32) -> usize
+    ensures { λ r. ⌜ r ≡ undoStart 20 0 k [] (now (d .entry)) ⌝ }
+{
+    let mut at: usize = 0;
+    let mut prior: usize = 0;
+    let mut size: usize = 0;
+    let mut left = k;
+    while 0 < left {
+        let g = read_undo(d, at, prior, size);
+        match g {
+            RecordRead::Bad => {
+                return at;
+            }
+            RecordRead::Good(r) => {
+                prior = at;
+                size = r.path;
+                at = r.next;
+                left -= 1;
+            }
+        }
+    }
+    at
 }
 
 // The object name of a stage, at a place; zeros where the stage is missing.

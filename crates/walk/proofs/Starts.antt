@@ -22,7 +22,7 @@ module _ (work : List ℕ) (x : Read Contents) where
   unfolding startAnswer inRoom
   start-is y e = started-by (tooSmall work) ∙ ap startedOf e
 
-  module _ (b : List ℕ) (parts : Parts) (h : Contains 0 0 (inRoom work x) b parts) where
+  module _ (b : List ℕ) (parts : Parts) (h : Contains (inRoom work x) b parts) where
     pub starts-four : parts .version ≡ 4 → startAnswer work x ≡ Refused 4 0
     starts-four e = start-is _ (h .read) ∙ rw (h .version, e)
 

@@ -176,7 +176,7 @@ pub fn place_after(file: &[u8], at: usize, left: u32) -> Place
 pub fn start(file: &[u8], work: &mut [u8]) -> Started
     ensures { λ r. ⌜ (r ≡ startAnswer (now (work .entry)) (readFile 20 sha1 (now (file .entry)))) × (now (work .exit) ≡ cleared (now (work .entry))) ⌝ }
 {
-    let whole = file_contents::read_cleared(file, work, 0, 0);
+    let whole = file_contents::read_cleared(file, work);
     match whole {
         Whole::Bad(n, p) => Started::Refused(n, p),
         Whole::Good(parts) => {

@@ -28,17 +28,17 @@ with-root-requires : tie.Need-with-root-requires
 with-root-requires c κs =
     let s = c .before .before .before .before .before .before .before .before in
     let p = s .pre in
-    let few = list-few (s .args .d .now) (c .before .before .before .before .read .given .0 .0 .next) _ _ _ _ (forest-sized _ _ _) (c .read-list .ensures) in
+    let few = list-few (s .args .d .now) (c .before .before .before .before .read .given .0 .0 .next) _ _ (forest-sized _ _ _) (c .read-list .ensures) in
     omega arith
 
 returns : tie.Need-returns
-returns c = c .with-root .ensures ∙ ap (rooted _ _) (c .before .read-list .ensures) ∙ sym (nodes-rooted _ _ _ (root-of (c .before .before .before .before)) (c .before .before .if1 .taken))
+returns c = c .with-root .ensures ∙ ap rooted (c .before .read-list .ensures) ∙ sym (nodes-rooted _ _ (root-of (c .before .before .before .before)) (c .before .before .if1 .taken))
 
 returns-2 : tie.Need-returns-2
-returns-2 c = sym (nodes-no-root _ _ (sym (c .enum-told .given .1) ∙ c .before .before .read-node .ensures))
+returns-2 c = sym (nodes-no-root _ (sym (c .enum-told .given .1) ∙ c .before .before .read-node .ensures))
 
 returns-3 : tie.Need-returns-3
-returns-3 c = sym (nodes-named _ _ _ (root-of (c .before .before)) (c .if1 .left))
+returns-3 c = sym (nodes-named _ _ (root-of (c .before .before)) (c .if1 .left))
 
 pub read-nodes-spec : {M : Type 1} → statement M
 read-nodes-spec =

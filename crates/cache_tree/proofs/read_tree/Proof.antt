@@ -2,13 +2,13 @@
 use mathlib.Core.Path.{refl, sym, _∙_}
 use native.Mathlib.Omega.{arith}
 use borrow.Author.Needs.{needs}
-use Rattle.cache_tree.proofs.Shape.{NodesAre, nodes-are, tree-no-nodes, tree-longer, tree-equal, tree-shown, tree-other}
+use Rattle.cache_tree.proofs.Shape.{NodesAre, nodes-are, tree-no-nodes, tree-longer, tree-equal, tree-shaped}
 use Rattle.cache_tree.proofs.Faults.{answered}
 use Rattle.cache_tree.proofs.read_tree.Statement.{statement}
 use Rattle.cache_tree.proofs.read_tree.Tie as tie
 
-nodes-of : (c : tie.After-known-told) → NodesAre (c .before .before .before .before .before .before .args .d .now) (c .before .before .before .before .before .before .args .want) (c .before .read .given .0 .0) (c .before .read .given .0 .1 .0) (c .before .read .given .0 .1 .1 .0)
-nodes-of c = nodes-are _ _ _ _ _ (sym (c .before .read .given .1) ∙ c .before .before .before .read-nodes .ensures)
+nodes-of : (c : tie.After-known-told) → NodesAre (c .before .before .before .before .before .before .args .d .now) (c .before .read .given .0 .0) (c .before .read .given .0 .1 .0)
+nodes-of c = nodes-are _ _ _ (sym (c .before .read .given .1) ∙ c .before .before .before .read-nodes .ensures)
 
 read-nodes-requires : tie.Need-read-nodes-requires
 read-nodes-requires c κs = search needs
@@ -20,38 +20,25 @@ enum-told : tie.Need-enum-told
 enum-told c = search needs
 
 returns : tie.Need-returns
-returns c = (answered _ _ _ (tree-no-nodes _ _ (sym (c .enum-told .given .1) ∙ c .before .before .read-nodes .ensures)), refl)
+returns c = (answered _ _ (tree-no-nodes _ (sym (c .enum-told .given .1) ∙ c .before .before .read-nodes .ensures)), refl)
 
 returns-2 : tie.Need-returns-2
-returns-2 c = (answered _ _ _ (tree-longer _ _ _ _ _ (nodes-of (c .before)) (c .if1 .taken)), refl)
+returns-2 c = (answered _ _ (tree-longer _ _ _ (nodes-of (c .before)) (c .if1 .taken)), refl)
 
 all-differ-requires : tie.Need-all-differ-requires
 all-differ-requires c κs = search needs
-
-place-of-requires : tie.Need-place-of-requires
-place-of-requires c κs = search needs
 
 same-length : tie.Need-same-length
 same-length c = search needs
 
 returns-3 : tie.Need-returns-3
-returns-3 c =
-    let differs = sym (c .before .before .before .before .before .all-differ .ensures .0) ∙ c .before .before .if2 .taken in
-    (answered _ _ _ (tree-shown _ _ _ _ _ (nodes-of (c .before .before .before .before .before .before .before .before)) (omega arith) differs _ (c .place-of .ensures .0) (c .before .if3 .taken)), c .before .before .before .before .before .all-differ .ensures .1)
+returns-3 c = (answered _ _ (tree-shaped _ _ _ (nodes-of (c .before .before .before .before .before .before)) (omega arith) (sym (c .before .before .before .all-differ .ensures .0) ∙ c .if2 .taken)), c .before .before .before .all-differ .ensures .1)
 
 same-length-2 : tie.Need-same-length-2
 same-length-2 c = search needs
 
 returns-4 : tie.Need-returns-4
-returns-4 c =
-    let differs = sym (c .before .before .before .before .all-differ .ensures .0) ∙ c .before .if2 .taken in
-    (answered _ _ _ (tree-other _ _ _ _ _ (nodes-of (c .before .before .before .before .before .before .before)) (omega arith) differs (c .if3 .left)), c .before .before .before .before .all-differ .ensures .1)
-
-same-length-3 : tie.Need-same-length-3
-same-length-3 c = search needs
-
-returns-5 : tie.Need-returns-5
-returns-5 c = (answered _ _ _ (tree-equal _ _ _ _ _ (nodes-of (c .before .before .before .before .before .before)) (omega arith) (sym (c .before .before .before .all-differ .ensures .0) ∙ c .if2 .left)), c .before .before .before .all-differ .ensures .1)
+returns-4 c = (answered _ _ (tree-equal _ _ _ (nodes-of (c .before .before .before .before .before .before)) (omega arith) (sym (c .before .before .before .all-differ .ensures .0) ∙ c .if2 .left)), c .before .before .before .all-differ .ensures .1)
 
 pub read-tree-spec : {M : Type 1} → statement M
 read-tree-spec =
@@ -63,10 +50,7 @@ read-tree-spec =
     returns
     returns-2
     all-differ-requires
-    place-of-requires
     same-length
     returns-3
     same-length-2
-    returns-4
-    same-length-3
-    returns-5)
+    returns-4)

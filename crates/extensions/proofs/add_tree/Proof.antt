@@ -8,8 +8,7 @@ use Rattle.extensions.proofs.add_tree.Statement.{statement}
 use Rattle.extensions.proofs.add_tree.Tie as tie
 
 returns : tie.Need-returns
-returns c =
-    λ wr. record { answered = λ es m q. known-seen _ _ _ _ (c .if1 .taken); inside = tt; long = refl; past = refl }
+returns c = record { answered = λ es m q. known-seen _ _ _ _ (c .if1 .taken); inside = tt; long = refl; past = refl }
 
 add-from : tie.Need-add-from
 add-from c = search needs
@@ -56,11 +55,10 @@ returns-2 c =
     let e = m .before .before .before .before in
     let st = e .before .before .before in
     let a = st .args in
-    λ wr.
     record {
       answered =
           λ es n q.
-          tree-added (a .want) wr (a .b .now) (a .at) (a .end) (st .pre .0) (a .found) (e .if1 .left) _ _ _ _ _
+          tree-added (a .b .now) (a .at) (a .end) (st .pre .0) (a .found) (e .if1 .left) _ _ _
           (λ p. sym (g .1) ∙ m .read-tree .ensures .0 p)
           (λ t i nodes differ. k .counts-ok .ensures .is es n t i q nodes differ)
           (c .if2 .taken);
@@ -78,11 +76,10 @@ returns-3 c =
     let e = m .before .before .before .before in
     let st = e .before .before .before in
     let a = st .args in
-    λ wr.
     record {
       answered =
           λ es n q.
-          tree-refused (a .want) wr (a .b .now) (a .at) (a .end) (st .pre .0) (a .found) (e .if1 .left) _
+          tree-refused (a .b .now) (a .at) (a .end) (st .pre .0) (a .found) (e .if1 .left) _
           (λ p. sym (c .enum-told .given .1) ∙ m .read-tree .ensures .0 p);
       inside = tt;
       long = omega arith;
@@ -101,11 +98,10 @@ returns-4 c =
     let e = m .before .before .before .before in
     let st = e .before .before .before in
     let a = st .args in
-    λ wr.
     record {
       answered =
           λ es n q.
-          tree-miscounted (a .want) wr (a .b .now) (a .at) (a .end) (st .pre .0) (a .found) (e .if1 .left) _ _ _ _ _
+          tree-miscounted (a .b .now) (a .at) (a .end) (st .pre .0) (a .found) (e .if1 .left) _ _ _
           (λ p. sym (g .1) ∙ m .read-tree .ensures .0 p)
           (λ t i nodes differ. k .counts-ok .ensures .is es n t i q nodes differ)
           (c .if2 .left);

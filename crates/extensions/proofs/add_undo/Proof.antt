@@ -6,8 +6,7 @@ use Rattle.extensions.proofs.add_undo.Statement.{statement}
 use Rattle.extensions.proofs.add_undo.Tie as tie
 
 returns : tie.Need-returns
-returns c =
-    (λ wn. known-seen _ _ _ _ (c .if1 .taken), tt)
+returns c = (known-seen _ _ _ _ (c .if1 .taken), tt)
 
 add-from : tie.Need-add-from
 add-from c = search needs
@@ -36,7 +35,7 @@ returns-2 c =
     let e = m .before .before .before in
     let st = e .before .before in
     let a = st .args in
-    (λ wn. undo-refused (a .want) (a .b .now) (a .at) (a .end) (st .pre .0) (a .found) (e .if1 .left) (λ p. sym (c .enum-told .given .1) ∙ m .read-undos .ensures p), tt)
+    (undo-refused (a .b .now) (a .at) (a .end) (st .pre .0) (a .found) (e .if1 .left) (sym (c .enum-told .given .1) ∙ m .read-undos .ensures (a .at)), tt)
 
 returns-3 : tie.Need-returns-3
 returns-3 c =
@@ -45,7 +44,7 @@ returns-3 c =
     let e = m .before .before .before in
     let st = e .before .before in
     let a = st .args in
-    (λ wn. undo-added (a .want) (a .b .now) (a .at) (a .end) (st .pre .0) (a .found) (e .if1 .left) wn _ _ (λ p. sym (g .1) ∙ m .read-undos .ensures p), st .pre .0)
+    (undo-added (a .b .now) (a .at) (a .end) (st .pre .0) (a .found) (e .if1 .left) _ (sym (g .1) ∙ m .read-undos .ensures (a .at)), st .pre .0)
 
 pub add-undo-spec : {M : Type 1} → statement M
 add-undo-spec =

@@ -50,9 +50,9 @@ returns-2 c =
     let h = g .before .before in
     let a = h .before .before .before .args in
     let t = rw (g .head2 .given .1) at (h .read-head .ensures) in
-    let r = d .add-tree .ensures (a .want-record) in
+    let r = d .add-tree .ensures in
     record {
-      answered = λ es m q. answered-as (a .want-node) (a .want-record) (a .b .now) (a .at) (a .found) (d .add-tree .result) (t .same (names es) (seenOf (a .found))) (r .answered es m q);
+      answered = λ es m q. answered-as (a .b .now) (a .at) (a .found) (d .add-tree .result) (t .same (names es) (seenOf (a .found))) (r .answered es m q);
       inside = r .inside;
       long = r .long;
       past = r .past;
@@ -66,7 +66,7 @@ returns-3 c =
     let t = rw (g .head3 .given .1) at (h .read-head .ensures) in
     let r = c .add-undo .ensures in
     record {
-      answered = λ es m q. answered-as (a .want-node) (a .want-record) (a .b .now) (a .at) (a .found) (c .add-undo .result) (t .same (names es) (seenOf (a .found))) (r .0 (a .want-node));
+      answered = λ es m q. answered-as (a .b .now) (a .at) (a .found) (c .add-undo .result) (t .same (names es) (seenOf (a .found))) (r .0);
       inside = r .1;
       long = refl;
       past = refl;

@@ -16,12 +16,12 @@ use Rattle.extensions.proofs.read_extensions.Statement.{statement}
 use Rattle.extensions.proofs.read_extensions.Tie as tie
 
 abbrev Inv-loop : tie.InvT-loop
-Inv-loop b at v count work₀ seed wn wr place₀ found₀ work place found =
+Inv-loop b at v count work₀ seed place₀ found₀ work place found =
     (place ≤ length b) × (length work ≡ length work₀) × (drop 8192 work ≡ drop 8192 work₀)
-    × ((es : List Entry) (m : ℕ) → readEntries 20 v count start 12 (drop 12 b) ≡ good es m → Behind wn wr b (names es) at place found)
+    × ((es : List Entry) (m : ℕ) → readEntries 20 v count start 12 (drop 12 b) ≡ good es m → Behind b (names es) at place found)
 
 abbrev μ-loop : tie.MeasureT-loop
-μ-loop b at v count work₀ seed wn wr place₀ found₀ work place found = length b - place
+μ-loop b at v count work₀ seed place₀ found₀ work place found = length b - place
 
 none-found-requires : tie.Need-none-found-requires Inv-loop μ-loop
 none-found-requires c κs = search needs
@@ -30,7 +30,7 @@ loop-holds : tie.Need-loop-holds Inv-loop μ-loop
 loop-holds c =
     let st = c .before .before .before in
     let a = st .args in
-    rw (c .none-found .ensures) (st .pre .0, refl, refl, λ es m q. behind-none (a .want-node) (a .want-record) (a .b .now) (names es) (a .at))
+    rw (c .none-found .ensures) (st .pre .0, refl, refl, λ es m q. behind-none (a .b .now) (names es) (a .at))
 
 read-extension-requires : tie.Need-read-extension-requires Inv-loop μ-loop
 read-extension-requires c κs =
@@ -55,7 +55,7 @@ returns c =
     record {
       answered =
           λ es m q.
-          behind-bad (a .want-node) (a .want-record) (a .b .now) (names es) (a .at) (l .loop .place) (l .loop .found) (l .loop .inv .3 es m q) (i .loop-test .taken) _ (t .answered es m q);
+          behind-bad (a .b .now) (names es) (a .at) (l .loop .place) (l .loop .found) (l .loop .inv .3 es m q) (i .loop-test .taken) _ (t .answered es m q);
       long = t .long ∙ l .loop .inv .1;
       past = t .past ∙ l .loop .inv .2;
     }
@@ -85,7 +85,7 @@ loop-again c =
       t .past ∙ l .loop .inv .2,
       λ es m q.
           let (x, reads, added) = t .answered es m q in
-          behind-more (a .want-node) (a .want-record) (a .b .now) (names es) (a .at) (l .loop .place) (l .loop .found) (l .loop .inv .3 es m q) (i .loop-test .taken) _ _ x (t .inside) reads added,
+          behind-more (a .b .now) (names es) (a .at) (l .loop .place) (l .loop .found) (l .loop .inv .3 es m q) (i .loop-test .taken) _ _ x (t .inside) reads added,
     )
 
 same-length-2 : tie.Need-same-length-2 Inv-loop μ-loop
@@ -102,7 +102,7 @@ returns-2 c =
           let h = l .loop .inv .3 es m q in
           record {
             list = h .list;
-            reads = behind-end (a .want-node) (a .want-record) (a .b .now) (names es) (a .at) (l .loop .place) (l .loop .found) h (c .loop-test .left) (l .loop .inv .0);
+            reads = behind-end (a .b .now) (names es) (a .at) (l .loop .place) (l .loop .found) h (c .loop-test .left) (l .loop .inv .0);
             tree = h .tree;
             undo = h .undo;
             tree-at = seeks-end TREE (a .b .now) (a .at) (l .loop .place) _ _ (h .tree-at) (l .loop .inv .0);

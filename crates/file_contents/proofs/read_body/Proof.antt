@@ -50,7 +50,7 @@ returns-2 c =
     let q = w .before .before .before .before in
     let st = q .before .before .before .before in
     let a = st .args in (
-      body-refused (a .v) (a .b .now) (a .count) (st .pre .1) _ (sym (w .run2 .given .1) ∙ q .run-entries .ensures .same) (a .want-node) (a .want-record) _ _ _ _
+      body-refused (a .v) (a .b .now) (a .count) (st .pre .1) _ (sym (w .run2 .given .1) ∙ q .run-entries .ensures .same) _ _ _ _
           (rw (c .before .read .given .1) at (x .read-extensions .ensures)),
       x .read-extensions .ensures .past ∙ q .run-entries .ensures .past,
     )
@@ -65,7 +65,7 @@ returns-3 c =
     let q = w .before .before .before .before in
     let st = q .before .before .before .before in
     let a = st .args in (
-      body-accepted (a .v) (a .b .now) (a .count) (st .pre .1) _ (sym (w .run2 .given .1) ∙ q .run-entries .ensures .same) (a .want-node) (a .want-record) _ _ _
+      body-accepted (a .v) (a .b .now) (a .count) (st .pre .1) _ (sym (w .run2 .given .1) ∙ q .run-entries .ensures .same) _ _ _
           (st .pre .0 .least) (st .pre .0 .most) (rw (c .before .read2 .given .1) at (x .read-extensions .ensures)),
       x .read-extensions .ensures .past ∙ q .run-entries .ensures .past,
     )

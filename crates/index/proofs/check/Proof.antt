@@ -13,7 +13,7 @@ use Rattle.index.proofs.check.Tie as tie
 accepted :
     (c : tie.After-whole2) →
     let a = c .before .before .before .before .before .before .before .before .args in
-    Contains 0 0 (inRoom (a .work .now) (readFile 20 sha1 (a .file .now))) (bodyOf (a .file .now)) (c .whole2 .given .0 .0)
+    Contains (inRoom (a .work .now) (readFile 20 sha1 (a .file .now))) (bodyOf (a .file .now)) (c .whole2 .given .0 .0)
 accepted c = rw (c .whole2 .given .1) at (c .before .before .before .before .read-cleared .ensures .0)
 
 read-cleared-requires : tie.Need-read-cleared-requires
@@ -47,7 +47,7 @@ returns-2 : tie.Need-returns-2
 returns-2 c =
     let w = c .before .before .before in
     let h = accepted w in (
-      rw (c .count-of2 .ensures, c .before .count-of .ensures) (check-says 0 0 _ _ _ h ∙ sym (check-is _ 0 _ _ (h .read))),
+      rw (c .count-of2 .ensures, c .before .count-of .ensures) (check-says _ _ _ h ∙ sym (check-is _ 0 _ _ (h .read))),
       w .before .before .before .before .read-cleared .ensures .1,
     )
 

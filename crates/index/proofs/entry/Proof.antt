@@ -18,7 +18,7 @@ use Rattle.index.proofs.entry.Tie as tie
 accepted :
     (c : tie.After-whole2) →
     let a = c .before .before .before .before .before .before .before .before .args in
-    Contains 0 0 (inRoom (a .work .now) (readFile 20 sha1 (a .file .now))) (bodyOf (a .file .now)) (c .whole2 .given .0 .0)
+    Contains (inRoom (a .work .now) (readFile 20 sha1 (a .file .now))) (bodyOf (a .file .now)) (c .whole2 .given .0 .0)
 accepted c = rw (c .whole2 .given .1) at (c .before .before .before .before .read-cleared .ensures .0)
 
 read-cleared-requires : tie.Need-read-cleared-requires
@@ -79,7 +79,7 @@ returns-3 c =
     let h = accepted w in
     let room = room-of _ _ _ _ (h .read) in
     let same : namePlace 20 (entryPlace 20 (w .whole2 .given .0 .0 .version) (a .k) (bodyOf (a .file .now))) (bodyOf (a .file .now)) ≡ entryNamePlace 20 (a .k) (a .file .now) =
-    name-place _ _ _ _ _ h (a .k) in
+    name-place _ _ _ h (a .k) in
     rw (← same) (shown-again _ _ (a .file .now) (a .work .now) _ _ _ _ (entry-is _ (a .k) _ _ (h .read) ∙ rw (h .version))
     (m .show-entry .ensures _ _ _ (h .entries) (t .if1 .left)) (q .read-cleared .ensures .1) room (omega arith))
 

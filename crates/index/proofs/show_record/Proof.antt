@@ -20,29 +20,42 @@ returns c =
     let a = c .before .before .before .before .args in
     λ o at is placed. undo-refused 18 0 (a .file .now) at _ _ (no-record-there (a .k) (a .file .now) (a .undo) o is (c .before .if1 .taken)) (c .refused-undo .ensures)
 
+sub-find-undo : tie.Need-sub-find-undo
+sub-find-undo c = inside c .order
+
+part-find-undo-start : tie.Need-part-find-undo-start
+part-find-undo-start c = let h = inside c in omega arith
+
+part-find-undo-end : tie.Need-part-find-undo-end
+part-find-undo-end c = inside c .inside
+
+find-undo-requires : tie.Need-find-undo-requires
+find-undo-requires c κs = search needs
+
 sub-show-undo : tie.Need-sub-show-undo
-sub-show-undo c = inside c .order
+sub-show-undo c = inside (c .before .before) .order
 
 part-show-undo-start : tie.Need-part-show-undo-start
-part-show-undo-start c = let h = inside c in omega arith
+part-show-undo-start c = let h = inside (c .before .before) in omega arith
 
 part-show-undo-end : tie.Need-part-show-undo-end
-part-show-undo-end c = inside c .inside
+part-show-undo-end c = inside (c .before .before) .inside
 
 show-undo-requires : tie.Need-show-undo-requires
 show-undo-requires c κs = search needs
 
-add-t12 : tie.Need-add-t12
-add-t12 c = search needs
+add-t13 : tie.Need-add-t13
+add-t13 c = search needs
 
 returns-2 : tie.Need-returns-2
 returns-2 c =
     let q = c .before .before .before .before in
-    let t = q .before .before in
+    let f = q .before .before in
+    let t = f .before .before in
     let a = t .before .before .before .args in
     λ o at is placed.
-    stands (a .k) (a .file .now) (a .undo) o is (t .if1 .left) λ u v there h.
-    undo-shows (a .k) (a .file .now) (a .undo) at _ u v h (placed there) _ (q .show-undo .ensures .0 0) (q .show-undo .ensures .1)
+    stands (a .k) (a .file .now) (a .undo) _ (f .find-undo .ensures) o is (t .if1 .left) λ u v there h.
+    undo-shows (a .k) (a .file .now) (a .undo) _ at _ u v h (placed there) _ (q .show-undo .ensures .0 0) (q .show-undo .ensures .1)
 
 pub show-record-spec : {M : Type 1} → statement M
 show-record-spec =
@@ -50,9 +63,13 @@ show-record-spec =
     (tie.spec
     refused-undo-requires
     returns
+    sub-find-undo
+    part-find-undo-start
+    part-find-undo-end
+    find-undo-requires
     sub-show-undo
     part-show-undo-start
     part-show-undo-end
     show-undo-requires
-    add-t12
+    add-t13
     returns-2)

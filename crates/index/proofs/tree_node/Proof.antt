@@ -12,7 +12,7 @@ use Rattle.index.proofs.tree_node.Tie as tie
 accepted :
     (c : tie.After-whole2) →
     let a = c .before .before .before .before .before .before .before .before .args in
-    Contains (a .k) 0 (inRoom (a .work .now) (readFile 20 sha1 (a .file .now))) (bodyOf (a .file .now)) (c .whole2 .given .0 .0)
+    Contains (inRoom (a .work .now) (readFile 20 sha1 (a .file .now))) (bodyOf (a .file .now)) (c .whole2 .given .0 .0)
 accepted c = rw (c .whole2 .given .1) at (c .before .before .before .before .read-cleared .ensures .0)
 
 read-cleared-requires : tie.Need-read-cleared-requires
@@ -50,7 +50,7 @@ returns-2 c =
     let q = w .before .before .before .before in
     let a = q .before .before .before .before .args in
     let h = accepted w in
-    (rw (node-is (a .work .now) (a .k) _ _ (h .read)) (c .show-node .ensures (h .contents .records .cacheTree) _ (h .tree) (node-place _ _ _ _ _ h (a .k))), q .read-cleared .ensures .1)
+    (rw (node-is (a .work .now) (a .k) _ _ (h .read)) (c .show-node .ensures (h .contents .records .cacheTree) _ (h .tree) (node-place _ _ _ h (a .k))), q .read-cleared .ensures .1)
 
 pub tree-node-spec : {M : Type 1} → statement M
 tree-node-spec =

@@ -12,7 +12,7 @@ use Rattle.index.proofs.undo_record.Tie as tie
 accepted :
     (c : tie.After-whole2) →
     let a = c .before .before .before .before .before .before .before .before .args in
-    Contains 0 (a .k) (inRoom (a .work .now) (readFile 20 sha1 (a .file .now))) (bodyOf (a .file .now)) (c .whole2 .given .0 .0)
+    Contains (inRoom (a .work .now) (readFile 20 sha1 (a .file .now))) (bodyOf (a .file .now)) (c .whole2 .given .0 .0)
 accepted c = rw (c .whole2 .given .1) at (c .before .before .before .before .read-cleared .ensures .0)
 
 read-cleared-requires : tie.Need-read-cleared-requires
@@ -50,7 +50,7 @@ returns-2 c =
     let q = w .before .before .before .before in
     let a = q .before .before .before .before .args in
     let h = accepted w in
-    (rw (undo-is (a .work .now) (a .k) _ _ (h .read)) (c .show-record .ensures (h .contents .records .resolveUndo) _ (h .undo) (undo-place _ _ _ _ _ h (a .k))), q .read-cleared .ensures .1)
+    (rw (undo-is (a .work .now) (a .k) _ _ (h .read)) (c .show-record .ensures (h .contents .records .resolveUndo) _ (h .undo) (undo-place _ _ _ h (a .k))), q .read-cleared .ensures .1)
 
 pub undo-record-spec : {M : Type 1} → statement M
 undo-record-spec =

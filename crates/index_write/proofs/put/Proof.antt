@@ -21,7 +21,7 @@ use Rattle.index_write.proofs.put.Tie as tie
 accepted :
     (c : tie.After-whole2) →
     let a = c .before .before .before .before .before .before .before .before .before .before .before .args in
-    Contains 0 0 (inRoom (a .work .now) (readFile 20 sha1 (a .file .now))) (bodyOf (a .file .now)) (c .whole2 .given .0 .0)
+    Contains (inRoom (a .work .now) (readFile 20 sha1 (a .file .now))) (bodyOf (a .file .now)) (c .whole2 .given .0 .0)
 accepted c = rw (c .whole2 .given .1) at (c .before .before .before .before .read-cleared .ensures .0)
 
 -- what is written is the one file of the result's records

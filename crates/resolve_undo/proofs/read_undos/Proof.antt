@@ -1,28 +1,27 @@
 -- The proof that `read_undos` meets its contract. The loop keeps the answer that what is left of the data gives.
-use mathlib.Core.Path.{_≡_, refl, sym, _∙_}
+use mathlib.Core.Path.{_≡_, sym, _∙_}
 use mathlib.Core.List.{[]}
 use Prim.Native.Nat.{ℕ, _+_, _≤_, _-_, zero-le}
 use native.Mathlib.Omega.{arith}
 use lib.ListN.{length, take, drop}
 use borrow.Author.Needs.{needs}
 use Rattle.format.specs.Reader.{readUndos}
-use Rattle.format.specs.Places.{undoStart}
 use Rattle.resolve_undo.specs.Answers.{recordsRead}
 use Rattle.resolve_undo.proofs.Laws.{record-bounds}
-use Rattle.resolve_undo.proofs.Records.{answerFrom, from-start, from-end, from-bad, from-good, path-fits, still-none}
+use Rattle.resolve_undo.proofs.Records.{answerFrom, from-start, from-end, from-bad, from-good, path-fits}
 use Rattle.resolve_undo.proofs.read_undos.Statement.{statement}
 use Rattle.resolve_undo.proofs.read_undos.Tie as tie
 
 abbrev Inv-loop : tie.InvT-loop
-Inv-loop d want at₀ prior₀ size₀ records₀ place₀ at prior size records place =
-    (at ≤ length d) × (prior + size ≤ length d) × (records ≤ at) × (records ≤ want → place ≡ 0)
-    × ((p : ℕ) → recordsRead want (undoStart 20 p want [] d) (readUndos 20 p (length d) [] d) ≡ answerFrom p want records place at (take size (drop prior d)) d)
+Inv-loop d at₀ prior₀ size₀ records₀ at prior size records =
+    (at ≤ length d) × (prior + size ≤ length d) × (records ≤ at)
+    × ((p : ℕ) → recordsRead (readUndos 20 p (length d) [] d) ≡ answerFrom p records at (take size (drop prior d)) d)
 
 abbrev μ-loop : tie.MeasureT-loop
-μ-loop d want at₀ prior₀ size₀ records₀ place₀ at prior size records place = length d - at
+μ-loop d at₀ prior₀ size₀ records₀ at prior size records = length d - at
 
 loop-holds : tie.Need-loop-holds Inv-loop μ-loop
-loop-holds c = (zero-le, zero-le, zero-le, λ h. refl, λ p. from-start p _ (c .before .args .d .now))
+loop-holds c = (zero-le, zero-le, zero-le, λ p. from-start p (c .before .args .d .now))
 
 read-undo-requires : tie.Need-read-undo-requires Inv-loop μ-loop
 read-undo-requires c κs = omega arith
@@ -35,45 +34,39 @@ returns c =
     let m = c .before .before in
     let l = m .before .before in
     let a = l .before .before .args in
-    λ p. sym (l .loop .inv .4 p ∙ from-bad p _ _ _ (l .loop .at) _ (a .d .now) (m .before .loop-test .taken) (sym (c .enum-told .given .1) ∙ m .read-undo .ensures .0 p))
+    λ p. sym (l .loop .inv .3 p ∙ from-bad p _ (l .loop .at) _ (a .d .now) (m .before .loop-test .taken) (sym (c .enum-told .given .1) ∙ m .read-undo .ensures .0 p))
 
 enum-known-g : tie.Need-enum-known-g Inv-loop μ-loop
 enum-known-g c = search needs
-
-pick-requires : tie.Need-pick-requires Inv-loop μ-loop
-pick-requires c κs = tt
 
 add-records : tie.Need-add-records Inv-loop μ-loop
 add-records c = omega arith
 
 loop-less : tie.Need-loop-less Inv-loop μ-loop
 loop-less c =
-    let m = c .before .before .before .before in
-    let b = record-bounds _ _ _ _ (m .read-undo .ensures .1) (c .before .before .g .given .1) in
+    let m = c .before .before .before in
+    let b = record-bounds _ _ _ _ (m .read-undo .ensures .1) (c .before .g .given .1) in
     omega arith
 
 loop-again : tie.Need-loop-again Inv-loop μ-loop
 loop-again c =
-    let m = c .before .before .before .before in
+    let m = c .before .before .before in
     let l = m .before .before in
     let a = l .before .before .args in
-    let g = c .before .before .g .given in
+    let g = c .before .g .given in
     let b = record-bounds _ _ _ _ (m .read-undo .ensures .1) (g .1) in
     let inside = m .before .loop-test .taken in (
       b .1,
       path-fits 0 (l .loop .at) _ (a .d .now) (g .0 .0) (sym (g .1) ∙ m .read-undo .ensures .0 0) (l .loop .inv .0),
       omega arith,
-      λ more. c .pick .ensures ∙ still-none (a .want) (l .loop .records) (l .loop .place) (l .loop .at) (l .loop .inv .3) more,
-      λ p.
-          rw (c .pick .ensures)
-          (l .loop .inv .4 p ∙ from-good p (l .loop .at) _ (a .d .now) (g .0 .0) (sym (g .1) ∙ m .read-undo .ensures .0 p) inside (a .want) (l .loop .records) (l .loop .place)),
+      λ p. l .loop .inv .3 p ∙ from-good p (l .loop .at) _ (a .d .now) (g .0 .0) (sym (g .1) ∙ m .read-undo .ensures .0 p) inside (l .loop .records),
     )
 
 returns-2 : tie.Need-returns-2 Inv-loop μ-loop
 returns-2 c =
     let l = c .before in
     let a = l .before .before .args in
-    λ p. sym (l .loop .inv .4 p ∙ from-end p (a .want) (l .loop .records) (l .loop .place) (l .loop .at) _ (a .d .now) (c .loop-test .left) (l .loop .inv .3))
+    λ p. sym (l .loop .inv .3 p ∙ from-end p (l .loop .records) (l .loop .at) _ (a .d .now) (c .loop-test .left))
 
 pub read-undos-spec : {M : Type 1} → statement M
 read-undos-spec =
@@ -86,7 +79,6 @@ read-undos-spec =
     enum-told
     returns
     enum-known-g
-    pick-requires
     add-records
     loop-less
     loop-again

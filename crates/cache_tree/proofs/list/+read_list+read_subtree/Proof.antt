@@ -19,8 +19,6 @@ use Rattle.cache_tree.proofs.list.+read_list+read_subtree.Lts-read_list
 use Rattle.cache_tree.proofs.list.read_subtree.Reads as read-subtree
 use Rattle.cache_tree.proofs.list.read_subtree.Kinds as read-subtree-kinds
 use Rattle.cache_tree.proofs.list.+read_list+read_subtree.Lts-read_subtree as read-subtree-lts
-use Rattle.cache_tree.proofs.list.first.Reads as first-reads
-use Rattle.cache_tree.proofs.list.less.Reads as less-reads
 use Rattle.cache_tree.proofs.list.name_ok.Reads as name-ok-reads
 use Rattle.cache_tree.proofs.list.with_root.Reads as with-root-reads
 use Rattle.tree_nodes.proofs.node.read_node.Reads as read-node-reads
@@ -53,160 +51,93 @@ read-subtree-below t =
     read-subtree.Pre
 
 abbrev read-list-Inv-loop : read-list-lts.InvT-loop
-read-list-Inv-loop d at levels k want place₀ left₀ wanted₀ nodes₀ level₀ place left wanted nodes level =
-    (at + nodes ≤ place) × (place ≤ length d) × (listAt at (129 - levels) want (readForest 20 0 levels k (drop at d)) ≡ plus nodes level (listAt place (129 - levels) wanted (readForest 20 0 levels left (drop place d))))
+read-list-Inv-loop d at levels k place₀ left₀ nodes₀ place left nodes =
+    (at + nodes ≤ place) × (place ≤ length d) × (listAt at (readForest 20 0 levels k (drop at d)) ≡ plus nodes (listAt place (readForest 20 0 levels left (drop place d))))
 
 abbrev read-list-μ-loop : read-list-lts.MeasureT-loop
-read-list-μ-loop d at levels k want place₀ left₀ wanted₀ nodes₀ level₀ place left wanted nodes level = left
+read-list-μ-loop d at levels k place₀ left₀ nodes₀ place left nodes = left
 
 -- the sibling that was read
 read-list-one : (t : ℕ) (c : read-list-lts.After-known-told (
   read-subtree-below t,
   read-subtree.Post,
-  less-reads.Asked,
-  less-reads.Learnt,
-  first-reads.Asked,
-  first-reads.Learnt,
 ) (read-list-at t) read-list.Post read-list-Inv-loop read-list-μ-loop) → ListIs
     (c .before .before .before .before .before .before .before .args .d .now)
     (c .before .before .before .before .before .loop .place)
-    (129 - c .before .before .before .before .before .before .before .args .levels)
-    (c .before .before .before .before .before .loop .wanted)
     (readOne (c .before .before .before .before .before .before .before .args .levels) (drop (c .before .before .before .before .before .loop .place) (c .before .before .before .before .before .before .before .args .d .now)))
     (c .before .read .given .0 .0)
     (c .before .read .given .0 .1 .0)
-    (c .before .read .given .0 .1 .1 .0)
-read-list-one t c = list-is _ _ _ _ _ _ _ (c .before .before .before .before .before .loop .inv .1) _ (subtree-sized _ _) (sym (c .before .read .given .1) ∙ c .before .before .before .read-subtree .ensures)
+read-list-one t c = list-is _ _ _ _ (c .before .before .before .before .before .loop .inv .1) _ (subtree-sized _ _) (sym (c .before .read .given .1) ∙ c .before .before .before .read-subtree .ensures)
 
 read-list-loop-holds : (t : ℕ) → read-list-lts.Need-loop-holds (
   read-subtree-below t,
   read-subtree.Post,
-  less-reads.Asked,
-  less-reads.Learnt,
-  first-reads.Asked,
-  first-reads.Learnt,
 ) (read-list-at t) read-list.Post read-list-Inv-loop read-list-μ-loop
 read-list-loop-holds t c = (omega arith, omega arith, plus-none _)
 
 read-list-read-subtree-requires : (t : ℕ) → read-list-lts.Need-read-subtree-requires (
   read-subtree-below t,
   read-subtree.Post,
-  less-reads.Asked,
-  less-reads.Learnt,
-  first-reads.Asked,
-  first-reads.Learnt,
 ) (read-list-at t) read-list.Post read-list-Inv-loop read-list-μ-loop
 read-list-read-subtree-requires t c κs = search needs
 
 read-list-enum-told : (t : ℕ) → read-list-lts.Need-enum-told (
   read-subtree-below t,
   read-subtree.Post,
-  less-reads.Asked,
-  less-reads.Learnt,
-  first-reads.Asked,
-  first-reads.Learnt,
 ) (read-list-at t) read-list.Post read-list-Inv-loop read-list-μ-loop
 read-list-enum-told t c = search needs
 
 read-list-returns : (t : ℕ) → read-list-lts.Need-returns (
   read-subtree-below t,
   read-subtree.Post,
-  less-reads.Asked,
-  less-reads.Learnt,
-  first-reads.Asked,
-  first-reads.Learnt,
 ) (read-list-at t) read-list.Post read-list-Inv-loop read-list-μ-loop
 read-list-returns t c =
     let l = c .before .before .before .before in
-    loop-bad _ _ _ _ _ _ _ _ _ (l .loop .inv .2) (c .before .before .before .loop-test .taken) (sym (c .enum-told .given .1) ∙ c .before .before .read-subtree .ensures)
+    loop-bad _ _ _ _ _ _ (l .loop .inv .2) (c .before .before .before .loop-test .taken) (sym (c .enum-told .given .1) ∙ c .before .before .read-subtree .ensures)
 
 read-list-enum-known-read : (t : ℕ) → read-list-lts.Need-enum-known-read (
   read-subtree-below t,
   read-subtree.Post,
-  less-reads.Asked,
-  less-reads.Learnt,
-  first-reads.Asked,
-  first-reads.Learnt,
 ) (read-list-at t) read-list.Post read-list-Inv-loop read-list-μ-loop
 read-list-enum-known-read t c = search needs
 
 read-list-sub-left : (t : ℕ) → read-list-lts.Need-sub-left (
   read-subtree-below t,
   read-subtree.Post,
-  less-reads.Asked,
-  less-reads.Learnt,
-  first-reads.Asked,
-  first-reads.Learnt,
 ) (read-list-at t) read-list.Post read-list-Inv-loop read-list-μ-loop
 read-list-sub-left t c = search needs
-
-read-list-less-requires : (t : ℕ) → read-list-lts.Need-less-requires (
-  read-subtree-below t,
-  read-subtree.Post,
-  less-reads.Asked,
-  less-reads.Learnt,
-  first-reads.Asked,
-  first-reads.Learnt,
-) (read-list-at t) read-list.Post read-list-Inv-loop read-list-μ-loop
-read-list-less-requires t c κs = search needs
 
 read-list-add-nodes : (t : ℕ) → read-list-lts.Need-add-nodes (
   read-subtree-below t,
   read-subtree.Post,
-  less-reads.Asked,
-  less-reads.Learnt,
-  first-reads.Asked,
-  first-reads.Learnt,
 ) (read-list-at t) read-list.Post read-list-Inv-loop read-list-μ-loop
 read-list-add-nodes t c =
-    let one = read-list-one t (c .before) in
+    let one = read-list-one t c in
     let few = one .few in
     let within = one .within in
     omega arith
 
-read-list-first-requires : (t : ℕ) → read-list-lts.Need-first-requires (
-  read-subtree-below t,
-  read-subtree.Post,
-  less-reads.Asked,
-  less-reads.Learnt,
-  first-reads.Asked,
-  first-reads.Learnt,
-) (read-list-at t) read-list.Post read-list-Inv-loop read-list-μ-loop
-read-list-first-requires t c κs = search needs
-
 read-list-loop-less : (t : ℕ) → read-list-lts.Need-loop-less (
   read-subtree-below t,
   read-subtree.Post,
-  less-reads.Asked,
-  less-reads.Learnt,
-  first-reads.Asked,
-  first-reads.Learnt,
 ) (read-list-at t) read-list.Post read-list-Inv-loop read-list-μ-loop
 read-list-loop-less t c = search needs
 
 read-list-loop-again : (t : ℕ) → read-list-lts.Need-loop-again (
   read-subtree-below t,
   read-subtree.Post,
-  less-reads.Asked,
-  less-reads.Learnt,
-  first-reads.Asked,
-  first-reads.Learnt,
 ) (read-list-at t) read-list.Post read-list-Inv-loop read-list-μ-loop
 read-list-loop-again t c =
-    let l = c .before .before .before .before .before .before .before in
-    let one = read-list-one t (c .before .before) in
+    let l = c .before .before .before .before .before in
+    let one = read-list-one t c in
     let few = one .few in
-    (omega arith, one .within, loop-more _ _ _ _ _ _ _ _ _ (l .loop .inv .2) _ _ _ _ _ (c .before .before .before .before .before .before .loop-test .taken) one (c .first .ensures) (c .before .less .ensures))
+    (omega arith, one .within, loop-more _ _ _ _ _ _ (l .loop .inv .2) _ _ (c .before .before .before .before .loop-test .taken) one)
 
 read-list-returns-2 : (t : ℕ) → read-list-lts.Need-returns-2 (
   read-subtree-below t,
   read-subtree.Post,
-  less-reads.Asked,
-  less-reads.Learnt,
-  first-reads.Asked,
-  first-reads.Learnt,
 ) (read-list-at t) read-list.Post read-list-Inv-loop read-list-μ-loop
-read-list-returns-2 t c = loop-end _ _ _ _ _ _ _ _ _ (c .before .loop .inv .2) (c .loop-test .left)
+read-list-returns-2 t c = loop-end _ _ _ _ _ _ (c .before .loop .inv .2) (c .loop-test .left)
 
 -- the node that was read
 read-subtree-node : (t : ℕ) (c : read-subtree-lts.After-known-told (
@@ -214,8 +145,6 @@ read-subtree-node : (t : ℕ) (c : read-subtree-lts.After-known-told (
   read-node-reads.Learnt,
   name-ok-reads.Asked,
   name-ok-reads.Learnt,
-  less-reads.Asked,
-  less-reads.Learnt,
   read-list-below t,
   read-list.Post,
   with-root-reads.Asked,
@@ -228,22 +157,18 @@ read-subtree-returns : (t : ℕ) → read-subtree-lts.Need-returns (
   read-node-reads.Learnt,
   name-ok-reads.Asked,
   name-ok-reads.Learnt,
-  less-reads.Asked,
-  less-reads.Learnt,
   read-list-below t,
   read-list.Post,
   with-root-reads.Asked,
   with-root-reads.Learnt,
 ) (read-subtree-at t) read-subtree.Post
-read-subtree-returns t c = sym (one-none _ _ _ _ _ (c .if1 .taken))
+read-subtree-returns t c = sym (one-none _ _ _ (c .if1 .taken))
 
 read-subtree-read-node-requires : (t : ℕ) → read-subtree-lts.Need-read-node-requires (
   read-node-reads.Asked,
   read-node-reads.Learnt,
   name-ok-reads.Asked,
   name-ok-reads.Learnt,
-  less-reads.Asked,
-  less-reads.Learnt,
   read-list-below t,
   read-list.Post,
   with-root-reads.Asked,
@@ -256,8 +181,6 @@ read-subtree-enum-told : (t : ℕ) → read-subtree-lts.Need-enum-told (
   read-node-reads.Learnt,
   name-ok-reads.Asked,
   name-ok-reads.Learnt,
-  less-reads.Asked,
-  less-reads.Learnt,
   read-list-below t,
   read-list.Post,
   with-root-reads.Asked,
@@ -270,8 +193,6 @@ read-subtree-enum-known-read : (t : ℕ) → read-subtree-lts.Need-enum-known-re
   read-node-reads.Learnt,
   name-ok-reads.Asked,
   name-ok-reads.Learnt,
-  less-reads.Asked,
-  less-reads.Learnt,
   read-list-below t,
   read-list.Post,
   with-root-reads.Asked,
@@ -284,8 +205,6 @@ read-subtree-sub-name-ok : (t : ℕ) → read-subtree-lts.Need-sub-name-ok (
   read-node-reads.Learnt,
   name-ok-reads.Asked,
   name-ok-reads.Learnt,
-  less-reads.Asked,
-  less-reads.Learnt,
   read-list-below t,
   read-list.Post,
   with-root-reads.Asked,
@@ -298,8 +217,6 @@ read-subtree-part-name-ok-start : (t : ℕ) → read-subtree-lts.Need-part-name-
   read-node-reads.Learnt,
   name-ok-reads.Asked,
   name-ok-reads.Learnt,
-  less-reads.Asked,
-  less-reads.Learnt,
   read-list-below t,
   read-list.Post,
   with-root-reads.Asked,
@@ -312,8 +229,6 @@ read-subtree-part-name-ok-end : (t : ℕ) → read-subtree-lts.Need-part-name-ok
   read-node-reads.Learnt,
   name-ok-reads.Asked,
   name-ok-reads.Learnt,
-  less-reads.Asked,
-  less-reads.Learnt,
   read-list-below t,
   read-list.Post,
   with-root-reads.Asked,
@@ -326,8 +241,6 @@ read-subtree-name-ok-requires : (t : ℕ) → read-subtree-lts.Need-name-ok-requ
   read-node-reads.Learnt,
   name-ok-reads.Asked,
   name-ok-reads.Learnt,
-  less-reads.Asked,
-  less-reads.Learnt,
   read-list-below t,
   read-list.Post,
   with-root-reads.Asked,
@@ -335,27 +248,11 @@ read-subtree-name-ok-requires : (t : ℕ) → read-subtree-lts.Need-name-ok-requ
 ) (read-subtree-at t) read-subtree.Post
 read-subtree-name-ok-requires t c κs = search needs
 
-read-subtree-less-requires : (t : ℕ) → read-subtree-lts.Need-less-requires (
-  read-node-reads.Asked,
-  read-node-reads.Learnt,
-  name-ok-reads.Asked,
-  name-ok-reads.Learnt,
-  less-reads.Asked,
-  less-reads.Learnt,
-  read-list-below t,
-  read-list.Post,
-  with-root-reads.Asked,
-  with-root-reads.Learnt,
-) (read-subtree-at t) read-subtree.Post
-read-subtree-less-requires t c κs = search needs
-
 read-subtree-sub-read-list : (t : ℕ) → read-subtree-lts.Need-sub-read-list (
   read-node-reads.Asked,
   read-node-reads.Learnt,
   name-ok-reads.Asked,
   name-ok-reads.Learnt,
-  less-reads.Asked,
-  less-reads.Learnt,
   read-list-below t,
   read-list.Post,
   with-root-reads.Asked,
@@ -368,50 +265,32 @@ read-subtree-read-list-requires : (t : ℕ) → read-subtree-lts.Need-read-list-
   read-node-reads.Learnt,
   name-ok-reads.Asked,
   name-ok-reads.Learnt,
-  less-reads.Asked,
-  less-reads.Learnt,
   read-list-below t,
   read-list.Post,
   with-root-reads.Asked,
   with-root-reads.Learnt,
 ) (read-subtree-at t) read-subtree.Post
 read-subtree-read-list-requires t c κs =
-    let n = read-subtree-node t (c .before .before .before .before) in
+    let n = read-subtree-node t (c .before .before .before) in
     let named = n .named in
     let ended = n .ended in
     let within = n .within in
     (omega arith, (within, omega arith, omega arith))
-
-read-subtree-sub-with-root : (t : ℕ) → read-subtree-lts.Need-sub-with-root (
-  read-node-reads.Asked,
-  read-node-reads.Learnt,
-  name-ok-reads.Asked,
-  name-ok-reads.Learnt,
-  less-reads.Asked,
-  less-reads.Learnt,
-  read-list-below t,
-  read-list.Post,
-  with-root-reads.Asked,
-  with-root-reads.Learnt,
-) (read-subtree-at t) read-subtree.Post
-read-subtree-sub-with-root t c = search needs
 
 read-subtree-with-root-requires : (t : ℕ) → read-subtree-lts.Need-with-root-requires (
   read-node-reads.Asked,
   read-node-reads.Learnt,
   name-ok-reads.Asked,
   name-ok-reads.Learnt,
-  less-reads.Asked,
-  less-reads.Learnt,
   read-list-below t,
   read-list.Post,
   with-root-reads.Asked,
   with-root-reads.Learnt,
 ) (read-subtree-at t) read-subtree.Post
 read-subtree-with-root-requires t c κs =
-    let a = c .before .before .before .before .before .before .before .before .before .before .before .args in
-    let p = c .before .before .before .before .before .before .before .before .before .before .before .pre in
-    let few = list-few (a .d .now) (c .before .before .before .before .before .before .read .given .0 .0 .next) _ _ _ _ (forest-sized _ _ _) (c .read-list .ensures) in
+    let s = c .before .before .before .before .before .before .before .before .before .before in
+    let p = s .pre in
+    let few = list-few (s .args .d .now) (c .before .before .before .before .before .read .given .0 .0 .next) _ _ (forest-sized _ _ _) (c .read-list .ensures) in
     omega arith
 
 read-subtree-returns-2 : (t : ℕ) → read-subtree-lts.Need-returns-2 (
@@ -419,40 +298,33 @@ read-subtree-returns-2 : (t : ℕ) → read-subtree-lts.Need-returns-2 (
   read-node-reads.Learnt,
   name-ok-reads.Asked,
   name-ok-reads.Learnt,
-  less-reads.Asked,
-  less-reads.Learnt,
   read-list-below t,
   read-list.Post,
   with-root-reads.Asked,
   with-root-reads.Learnt,
 ) (read-subtree-at t) read-subtree.Post
 read-subtree-returns-2 t c =
-    let n = read-subtree-node t (c .before .before .before .before .before .before) in
-    let e = rw (c .before .before .less .ensures) at (c .before .read-list .ensures) in
-    c .with-root .ensures ∙ ap (rooted _ _) e ∙ sym (one-rooted _ _ _ _ _ (c .before .before .before .before .before .before .before .before .before .before .if1 .left) _ n (sym (c .before .before .before .if2 .taken) ∙ c .before .before .before .before .name-ok .ensures) _ (omega arith))
+    let n = read-subtree-node t (c .before .before .before .before .before) in
+    c .with-root .ensures ∙ ap rooted (c .before .read-list .ensures) ∙ sym (one-rooted _ _ _ (c .before .before .before .before .before .before .before .before .before .if1 .left) _ n (sym (c .before .before .if2 .taken) ∙ c .before .before .before .name-ok .ensures))
 
 read-subtree-returns-3 : (t : ℕ) → read-subtree-lts.Need-returns-3 (
   read-node-reads.Asked,
   read-node-reads.Learnt,
   name-ok-reads.Asked,
   name-ok-reads.Learnt,
-  less-reads.Asked,
-  less-reads.Learnt,
   read-list-below t,
   read-list.Post,
   with-root-reads.Asked,
   with-root-reads.Learnt,
 ) (read-subtree-at t) read-subtree.Post
 read-subtree-returns-3 t c =
-    sym (one-no-node _ _ _ _ _ (c .before .before .before .if1 .left) (sym (c .enum-told .given .1) ∙ c .before .before .read-node .ensures))
+    sym (one-no-node _ _ _ (c .before .before .before .if1 .left) (sym (c .enum-told .given .1) ∙ c .before .before .read-node .ensures))
 
 read-subtree-returns-4 : (t : ℕ) → read-subtree-lts.Need-returns-4 (
   read-node-reads.Asked,
   read-node-reads.Learnt,
   name-ok-reads.Asked,
   name-ok-reads.Learnt,
-  less-reads.Asked,
-  less-reads.Learnt,
   read-list-below t,
   read-list.Post,
   with-root-reads.Asked,
@@ -460,16 +332,12 @@ read-subtree-returns-4 : (t : ℕ) → read-subtree-lts.Need-returns-4 (
 ) (read-subtree-at t) read-subtree.Post
 read-subtree-returns-4 t c =
     let n = read-subtree-node t (c .before .before .before) in
-    sym (one-no-name _ _ _ _ _ (c .before .before .before .before .before .before .before .if1 .left) _ n (sym (c .if2 .left) ∙ c .before .name-ok .ensures))
+    sym (one-no-name _ _ _ (c .before .before .before .before .before .before .before .if1 .left) _ n (sym (c .if2 .left) ∙ c .before .name-ok .ensures))
 
 pub +read-list+read-subtree-spec : {M : Type 1} → statement M
 +read-list+read-subtree-spec = close μ-read-list μ-read-subtree (λ t. read-list-lts.spec (
   read-subtree-below t,
   read-subtree.Post,
-  less-reads.Asked,
-  less-reads.Learnt,
-  first-reads.Asked,
-  first-reads.Learnt,
 )
     (read-list-at t)
     read-list.Post
@@ -481,9 +349,7 @@ pub +read-list+read-subtree-spec : {M : Type 1} → statement M
     (read-list-returns t)
     (read-list-enum-known-read t)
     (read-list-sub-left t)
-    (read-list-less-requires t)
     (read-list-add-nodes t)
-    (read-list-first-requires t)
     (read-list-loop-less t)
     (read-list-loop-again t)
     (read-list-returns-2 t))
@@ -492,8 +358,6 @@ pub +read-list+read-subtree-spec : {M : Type 1} → statement M
       read-node-reads.Learnt,
       name-ok-reads.Asked,
       name-ok-reads.Learnt,
-      less-reads.Asked,
-      less-reads.Learnt,
       read-list-below t,
       read-list.Post,
       with-root-reads.Asked,
@@ -509,10 +373,8 @@ pub +read-list+read-subtree-spec : {M : Type 1} → statement M
     (read-subtree-part-name-ok-start t)
     (read-subtree-part-name-ok-end t)
     (read-subtree-name-ok-requires t)
-    (read-subtree-less-requires t)
     (read-subtree-sub-read-list t)
     (read-subtree-read-list-requires t)
-    (read-subtree-sub-with-root t)
     (read-subtree-with-root-requires t)
     (read-subtree-returns-2 t)
     (read-subtree-returns-3 t)
