@@ -12,7 +12,7 @@ import re
 from typing import NamedTuple
 
 ROOT = os.path.join(os.path.dirname(os.path.abspath(__file__)), "..")
-RATTLE = ("crates/nerupazhil/src/*.rt", "crates/file/src/*.rt")
+RATTLE = ("crates/nerupazhil/src/*.rt", "crates/answers/src/*.rt", "crates/entries/src/record.rt")
 RUST = "rust/src/raw.rs"
 HEADER = "c/include/nerupazhil.h"
 

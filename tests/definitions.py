@@ -115,7 +115,7 @@ def place_of(module: str) -> tuple:
         return None, None
     crate, folder, rest = match.groups()
     if rest.startswith("declared."):
-        name = rest.split(".")[1]
+        name = next(part for part in rest.split(".")[1:] if part[0].isupper())
         return item_file(crate, name), name
     return f"crates/{crate}/{folder}/{rest.replace('.', '/')}.antt", None
 

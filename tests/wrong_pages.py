@@ -60,7 +60,7 @@ WRONG_PAGES = (
     ("a command of another kind", r"`rt check nerupazhil`", "`rt chek nerupazhil`"),
     ("a missing program", r"(?m)^bash \.ci/run$", "bash .ci/runs"),
     ("a public call that is not named", r"\[index::undo_record\]\([^)]+\)", "undo_record"),
-    ("a function that asks something", r"\[index::check\]\([^)]+\)", "[file::object_at](../crates/file/src/lib.rt)"),
+    ("a function that asks something", r"\[index::check\]\([^)]+\)", "[entries::object_at](../crates/entries/src/record.rt)"),
     ("a refusal that is missing", r"(?m)^\| 14 \|.*\n", ""),
     ("a refusal twice", r"(?m)^\| 14 \|", "| 13 |"),
     ("a refusal with another's definition", r"(?m)^(\| 14 \|.*)\[readData\]\([^)]+\)",
@@ -179,7 +179,7 @@ def citing(report: Report) -> None:
     layout, reader = assurance.RULE_OF_FILES[0], "crates/format/specs/Reader.antt"
     statements = "crates/demands/proofs/Statements.antt"
     behind = definitions.closure([(statements, "Demand3")])
-    for one in ((layout, "Spells"), (reader, "readFile"), (layout, "IsEntry"), ("crates/file/src/lib.rt", "Summary")):
+    for one in ((layout, "Spells"), (reader, "readFile"), (layout, "IsEntry"), ("crates/answers/src/lib.rt", "Summary")):
         report.test(f"Demand3 rests on {one[1]}", one in behind)
     spelling = definitions.closure([(layout, "Spells")])
     report.test("Spells does not rest on readFile", (reader, "readFile") not in spelling)

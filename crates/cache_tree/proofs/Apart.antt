@@ -9,7 +9,7 @@ use lib.ListN.{length, drop, replicate}
 use Rattle.format.specs.Bytes.{eqList}
 use Rattle.format_laws.proofs.Tests.{then-inv, else-inv}
 use Rattle.format_laws.proofs.Lists.{eqList-true, eqList-swap, past-zeros}
-use Rattle.cache_tree.specs.Flat.{treesLength, nameOf, restOf, namesOf, hasName, namesDiffer}
+use Rattle.tree_nodes.specs.Flat.{treesLength, nameOf, restOf, namesOf, hasName, namesDiffer}
 use Rattle.cache_tree.specs.Filter.{hashOf, marked, markIn, allMarked, apart, restAfter}
 use Rattle.cache_tree.proofs.Differ.{names-none, names-more, rest-at}
 use Rattle.cache_tree.proofs.Bits.{marked-in, marked-stays, length-mark, rest-mark}

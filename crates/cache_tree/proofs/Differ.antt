@@ -13,10 +13,10 @@ use Rattle.format_laws.proofs.Numbers.{suc-pred}
 use Rattle.tree_nodes.specs.declared.node.Node as Code
 use Rattle.tree_nodes.specs.declared.node.NodeRead.the-variants as R
 use Rattle.tree_nodes.specs.Answers.{nodeAt}
-use Rattle.cache_tree.specs.Flat.{treesLength, nameOf, restOf, namesOf, hasName, namesDiffer, allDiffer}
+use Rattle.tree_nodes.specs.Flat.{treesLength, nameOf, restOf, namesOf, hasName, namesDiffer, allDiffer}
 use Rattle.cache_tree.specs.Orders.{nameBelow, risesFrom}
 use Rattle.tree_nodes.proofs.Nodes.{NodeIs, no-node}
-use Rattle.cache_tree.proofs.Flat.{differ-step}
+use Rattle.tree_nodes.proofs.Flat.{differ-step}
 use Rattle.cache_tree.proofs.Orders.{rises-differ}
 
 -- ---- a name and what follows its tree

@@ -1,11 +1,9 @@
 -- Laws that the functions' proofs cite.
-pub mod Names
-pub mod Lists
-pub mod Flat
-pub mod Orders
-pub mod Differ
-pub mod Bits
 pub mod Apart
-pub mod Shape
-pub mod Levels
+pub mod Bits
+pub mod Differ
 pub mod Faults
+pub mod Lists
+pub mod Names
+pub mod Orders
+pub mod Shape

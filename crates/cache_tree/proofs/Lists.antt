@@ -1,12 +1,12 @@
 -- Laws of lists of siblings: the first node and the others, the number of nodes.
-use mathlib.Core.Path.{_≡_, refl, sym, ap, ap₂, _∙_}
+use mathlib.Core.Path.{_≡_, refl, sym, ap, _∙_}
 use mathlib.Core.List.{List}
 use mathlib.Core.Bool.{Bool, true, false}
 use Prim.Native.Nat.{ℕ, zero, suc, _+_, _-_, _≤_, _<_}
 use native.Mathlib.Nat.{add-zero, zero-add, add-assoc, suc-add}
 use native.Mathlib.Omega.{arith}
-use lib.ListN.{length, take, drop, length-append, length-drop}
-use Rattle.format.specs.Records.{Node, Forest, nil, tree, items}
+use lib.ListN.{length, take, drop, length-drop}
+use Rattle.format.specs.Records.{Node, Forest, nil, tree}
 use Rattle.format.specs.Layout.{okNodeName}
 use Rattle.format.specs.Reading.{Read, bad, good, need, shift, bind}
 use Rattle.format.specs.Reader.{Head, readNode, readSiblings, readForest}
@@ -17,7 +17,8 @@ use Rattle.cache_tree.specs.declared.list.ListRead.the-variants as L
 use Rattle.tree_nodes.specs.declared.node.Node as Code
 use Rattle.tree_nodes.specs.declared.node.NodeRead.the-variants as R
 use Rattle.tree_nodes.specs.Answers.{nodeAt}
-use Rattle.cache_tree.specs.Answers.{readOne, size, listAt, rooted, nodesIn}
+use Rattle.cache_tree.specs.Answers.{readOne, listAt, rooted, nodesIn}
+use Rattle.tree_nodes.specs.Flat.{size}
 use Rattle.tree_nodes.proofs.Readings.{node-took}
 use Rattle.tree_nodes.proofs.Nodes.{NodeIs}
 
@@ -31,11 +32,6 @@ pub graft-size : (f g : Forest) → size (graft f g) ≡ size f + size g
 unfolding graft size
 graft-size nil g = sym (zero-add (size g))
 graft-size (tree n kids more) g = let e : size (graft more g) ≡ size more + size g = graft-size more g in omega (arith, suc-add (size kids + size more) (size g))
-
-pub items-size : (l : ℕ) (f : Forest) → length (items l f) ≡ size f
-unfolding items size
-items-size l nil = refl
-items-size l (tree n kids more) = ap suc (length-append (items (suc l) kids) (items l more) ∙ ap₂ _+_ (items-size (suc l) kids) (items-size l more))
 
 -- the answer for nodes before others
 abbrev pub plus : ℕ → ListRead → ListRead

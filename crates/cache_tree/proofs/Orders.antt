@@ -17,7 +17,7 @@ use Rattle.format_laws.proofs.Tests.{then-inv}
 use Rattle.format_laws.proofs.Lists.{eqList-true}
 use Rattle.format_laws.proofs.Names.{compare-append, common-take, common-ends}
 use Rattle.format_laws.proofs.Orders.{through, names-through, compare-self}
-use Rattle.cache_tree.specs.Flat.{hasName, namesDiffer}
+use Rattle.tree_nodes.specs.Flat.{hasName, namesDiffer}
 use Rattle.cache_tree.specs.Orders.{firstBelow, slashBelow, lengthBelow, nameBelow, risesFrom}
 
 -- ---- by number, then by what follows

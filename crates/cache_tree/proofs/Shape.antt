@@ -1,6 +1,6 @@
 -- Laws of the whole data of TREE: the root and its list, the tests after it, node number k.
 use mathlib.Core.Path.{_≡_, refl, sym, ap, _∙_}
-use mathlib.Core.List.{List, append-nil}
+use mathlib.Core.List.{List}
 use mathlib.Core.Bool.{Bool, true, false, cond, _&&_}
 use Prim.Native.Nat.{ℕ, _+_, _-_, _≤_, _<_}
 use native.Mathlib.Nat.{add-zero}
@@ -19,13 +19,15 @@ use Rattle.tree_nodes.specs.declared.node.NodeRead.the-variants as R
 use Rattle.cache_tree.specs.declared.list.ListRead.the-variants as L
 use Rattle.cache_tree.specs.declared.TreeRead.the-variants as T
 use Rattle.tree_nodes.specs.Answers.{nodeAt}
-use Rattle.cache_tree.specs.Answers.{size, listAt, rooted}
+use Rattle.tree_nodes.specs.Flat.{size}
+use Rattle.cache_tree.specs.Answers.{listAt, rooted}
 use Rattle.format.specs.Places.{nodeStart}
-use Rattle.cache_tree.specs.Flat.{namesDiffer, allDiffer, Reads, reads-none, reads-more}
+use Rattle.tree_nodes.specs.Flat.{namesDiffer, allDiffer}
 use Rattle.cache_tree.specs.Shape.{readShape, nodesAt, treeOf}
 use Rattle.tree_nodes.proofs.Nodes.{NodeIs}
-use Rattle.cache_tree.proofs.Lists.{items-size}
-use Rattle.cache_tree.proofs.Flat.{Levels, levels-none, levels-more, forest-shape, forest-reads, reads-names, reads-item, reads-differ, distinct-is, differ-step, Shown, siblingNames, kidsDiffer}
+use Rattle.tree_nodes.proofs.Flat.{items-size}
+use Rattle.tree_nodes.proofs.Flat.{forest-reads, reads-names, reads-item, reads-differ, distinct-is, differ-step, Shown, siblingNames, kidsDiffer}
+use Rattle.tree_nodes.proofs.Trees.{tree-items, tree-reads}
 
 -- ---- the format's reading of TREE is this one, and then the test of the counts
 
@@ -158,28 +160,6 @@ module _ (d : List ℕ) where
           rw (are .reads, eq-eqb _ _ whole, f, ← (are .nodes))
 
 -- ---- node number k
-
--- a tree is a list of one node
-pub tree-items : (t : Tree) → treeItems t ≡ items 1 (tree (t .root) (t .subtrees) nil)
-unfolding treeItems items
-tree-items t = rw (append-nil (items 2 (t .subtrees)))
-
-pub record TreeReads (d : List ℕ) (t : Tree) : Type 0 where
-  pub taken : ℕ
-  pub reads : Reads d (tree (t .root) (t .subtrees) nil) 1 taken
-  pub levels : Levels 128 (tree (t .root) (t .subtrees) nil)
-
-pub tree-reads : (d : List ℕ) (t : Tree) (m : ℕ) → readNodes 20 0 d ≡ good t m → TreeReads d t
-unfolding readNodes
-tree-reads d t m e =
-    bind-inv (readNode 20 0 d) _ t m e λ h a i q r is.
-    need-inv (eqb (length (h .node .name)) 0) 15 0 _ t i r λ ok r₁.
-    bind-inv (readForest 20 0 127 (h .subtrees) (drop a d)) _ t i r₁ λ kids b j q₁ r₂ is₁.
-    let u : Tree = record { root = h .node; subtrees = kids } in
-    let same : u ≡ t = cc in
-    let below = forest-shape 127 (h .subtrees) (drop a d) kids b q₁ in
-    let found : TreeReads d u = record { taken = _; reads = reads-more q (below .0) reads-none; levels = levels-more (below .1) levels-none } in
-    rw (← same) found
 
 -- it stands where k nodes have passed
 pub tree-item : (d : List ℕ) (t : Tree) (m : ℕ) → readNodes 20 0 d ≡ good t m → (k : ℕ) (z : Item) → k < length (treeItems t) → Shown (drop (nodeStart 20 k d) d) (getD (treeItems t) k z)

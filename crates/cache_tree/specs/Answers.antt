@@ -8,6 +8,7 @@ use Rattle.format.specs.Reading.{Read, bad, good, need, bind}
 use Rattle.format.specs.Reader.{readNode, readForest}
 use Rattle.cache_tree.specs.declared.list.ListRead.{ListRead}
 use Rattle.cache_tree.specs.declared.list.ListRead.the-variants as L
+use Rattle.tree_nodes.specs.Flat.{size}
 
 -- one node and all below it, with at most so many levels
 unfoldable pub readOne : ℕ → List ℕ → Read Forest
@@ -15,11 +16,6 @@ readOne zero s = bad 15 0
 readOne (suc levels) s =
     bind (readNode 20 0 s) λ h m.
     need (okNodeName (h .node .name)) 15 0 (bind (readForest 20 0 levels (h .subtrees) (drop m s)) λ kids n. good (tree (h .node) kids nil) 0)
-
--- how many nodes there are
-unfoldable pub size : Forest → ℕ
-size nil = 0
-size (tree n kids more) = suc (size kids + size more)
 
 -- siblings that begin at a place
 unfoldable pub listAt : ℕ → Read Forest → ListRead

@@ -5,7 +5,7 @@ use Prim.Native.Nat.{ℕ, zero, suc, _+_, _*_, _/_, _%_, _^_}
 use lib.ListN.{getD, set}
 use lib.Bits.{bitOr}
 use lib.Dec.{eqb}
-use Rattle.cache_tree.specs.Flat.{restOf, hasName}
+use Rattle.tree_nodes.specs.Flat.{restOf, hasName}
 
 -- one step of the hash of a name
 unfoldable pub stir : ℕ → ℕ

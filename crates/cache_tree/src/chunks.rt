@@ -2,16 +2,16 @@
 use crate::filter::hash;
 use crate::filter::mark;
 use crate::filter::seen;
-use crate::walk::after_tree;
 use fields::clear;
 use fields::find;
 use fields::same;
+use tree_nodes::passes::after_tree;
 ghost use mathlib.Core.Path.{_≡_};
 ghost use mathlib.Core.Bool.{true, false};
 ghost use Prim.Native.Nat.{_-_, _≤_, _<_};
 ghost use lib.ListN.{length, drop};
 ghost use Rattle.format.specs.Bytes.{eqList};
-ghost use Rattle.cache_tree.specs.Flat.{nameOf, namesOf, hasName, namesDiffer};
+ghost use Rattle.tree_nodes.specs.Flat.{nameOf, namesOf, hasName, namesDiffer};
 ghost use Rattle.cache_tree.specs.Filter.{hashOf, markIn, allMarked, apart, restAfter};
 
 // Whether the names at a and at b are equal.

@@ -3,7 +3,6 @@ pub mod chunks;
 pub mod filter;
 pub mod list;
 pub mod siblings;
-pub mod walk;
 
 use crate::list::ListRead;
 use crate::list::read_list;

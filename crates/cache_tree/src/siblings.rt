@@ -1,16 +1,16 @@
 // Whether siblings differ in name. Those that rise in one of two orders do; others are looked at chunk by chunk.
 use crate::chunks::by_chunks;
-use crate::walk::after_tree;
 use fields::common;
 use fields::compare;
 use fields::find;
 use format::Order;
 use tree_nodes::node::NodeRead;
 use tree_nodes::node::read_node;
+use tree_nodes::passes::after_tree;
 ghost use mathlib.Core.Path.{_≡_};
 ghost use Prim.Native.Nat.{_-_, _≤_, _<_};
 ghost use lib.ListN.{length, drop};
-ghost use Rattle.cache_tree.specs.Flat.{nameOf, namesOf, namesDiffer, allDiffer};
+ghost use Rattle.tree_nodes.specs.Flat.{nameOf, namesOf, namesDiffer, allDiffer};
 ghost use Rattle.cache_tree.specs.Orders.{slashBelow, lengthBelow, nameBelow, risesFrom};
 
 // Whether s is below t, each followed by "/".

@@ -16,14 +16,14 @@ use Rattle.format.specs.Records.{Key, Records, Entry}
 use Rattle.format.specs.Layout.{Entries, entries-end, entries-more, Spells}
 use Rattle.format.specs.Reading.{Read, bad, good}
 use Rattle.format.specs.Reader.{Contents, readFile}
-use Rattle.file.specs.declared.Summary.{Summary}
-use Rattle.file.specs.declared.Checked.{Checked}
-use Rattle.file.specs.declared.Checked.the-variants.{Refused, Accepted}
-use Rattle.file.specs.Answers.{tooSmall, cleared, holding, workAfter, refused, inWorkspace, summaryOf, checkedOf, checkAnswer, given, entryAnswer, nodeAnswer, undoAnswer, View, pick, listed, itemsOf, entryOf, nodeOf, undoOf}
+use Rattle.answers.specs.declared.Summary.{Summary}
+use Rattle.answers.specs.declared.Checked.{Checked}
+use Rattle.answers.specs.declared.Checked.the-variants.{Refused, Accepted}
+use Rattle.answers.specs.Answers.{tooSmall, cleared, holding, workAfter, refused, inWorkspace, summaryOf, checkedOf, checkAnswer, given, entryAnswer, nodeAnswer, undoAnswer, View, pick, listed, itemsOf, entryOf, nodeOf, undoOf}
 use Rattle.format_laws.proofs.Tests.{and-inv}
 use Rattle.format_laws.proofs.Numbers.{bytes-take}
 use Rattle.spelling.proofs.File.{contentsOf, spelled-read, read-spelled, cut}
-use Rattle.file.specs.Writing.{answered, rewriteAnswer, putAnswer, removeAnswer}
+use Rattle.answers.specs.Writing.{answered, rewriteAnswer, putAnswer, removeAnswer}
 use Rattle.demands.proofs.Statements.{check, entry, node, undo, rewrite, put, remove}
 
 module _ (work : List ℕ) (room : tooSmall work ≡ false) where

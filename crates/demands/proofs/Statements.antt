@@ -17,11 +17,11 @@ use Rattle.format.specs.Reading.{Read, bad, good}
 use Rattle.format.specs.Reader.{Contents, readFile}
 use Rattle.format.specs.Requests.{putRecord, removeRecord}
 use Rattle.writing.specs.OneFile.{WritesBack}
-use Rattle.file.specs.declared.Summary.{Summary}
-use Rattle.file.specs.declared.Checked.{Checked}
-use Rattle.file.specs.declared.Checked.the-variants.{Refused, Accepted}
-use Rattle.file.specs.Answers.{tooSmall, cleared, workAfter, treeCount, undoCount, summaryOf, checkAnswer, entryAnswer, nodeAnswer, undoAnswer, View, refused, inWorkspace, pick, listed, itemsOf}
-use Rattle.file.specs.Writing.{rewriteAnswer, putAnswer, removeAnswer, outputAfter}
+use Rattle.answers.specs.declared.Summary.{Summary}
+use Rattle.answers.specs.declared.Checked.{Checked}
+use Rattle.answers.specs.declared.Checked.the-variants.{Refused, Accepted}
+use Rattle.answers.specs.Answers.{tooSmall, cleared, workAfter, treeCount, undoCount, summaryOf, checkAnswer, entryAnswer, nodeAnswer, undoAnswer, View, refused, inWorkspace, pick, listed, itemsOf}
+use Rattle.answers.specs.Writing.{rewriteAnswer, putAnswer, removeAnswer, outputAfter}
 
 module _ (w : ℕ) (hash : List ℕ → List ℕ) (work : List ℕ) where
   abbrev pub check : List ℕ → Checked

@@ -25,11 +25,11 @@ use Rattle.format.specs.Records.{Records, Entry, modeOf, Key, valid, Node, nil,
 use Rattle.format.specs.Writer.{needsWord, writePlain, writePacked, writeName, writeRest, writeEntry, writeEntries, digitsOf, decimalOf, writeCount, writeObject, writeNode, writeForest, writeTree, writeStage, writeUndo, writeUndos, writeExtension, writeCacheTree, writeResolveUndo, writeExtensions, writeHeader, writeBody, writeFile}
 use Rattle.format.specs.Requests.{goesBefore, sameKey, putEntry, removeEntry, holds, invalidNode, invalidWay, invalidTree, invalidCacheTree, putRecord, removeRecord, anyWord, okAsked, versionFor, fitting, writing, rewriteRequest, putRequest, removeRequest}
 use Rattle.format_laws.proofs.Tests.{and-inv}
-use Rattle.file.specs.declared.Summary.{Summary}
-use Rattle.file.specs.declared.Count.the-variants.{Absent, Present}
-use Rattle.file.specs.declared.Checked.the-variants.{Refused, Accepted}
-use Rattle.file.specs.Answers.{tooSmall, checkAnswer, given, entryAnswer, nodeAnswer, undoAnswer, inFile, inWorkspace}
-use Rattle.file.specs.Writing.{answered, rewriteAnswer, putAnswer, removeAnswer}
+use Rattle.answers.specs.declared.Summary.{Summary}
+use Rattle.answers.specs.declared.Count.the-variants.{Absent, Present}
+use Rattle.answers.specs.declared.Checked.the-variants.{Refused, Accepted}
+use Rattle.answers.specs.Answers.{tooSmall, checkAnswer, given, entryAnswer, nodeAnswer, undoAnswer, inFile, inWorkspace}
+use Rattle.answers.specs.Writing.{answered, rewriteAnswer, putAnswer, removeAnswer}
 use Rattle.demands.proofs.Statements.{check, entry, node, undo, rewrite, put, remove}
 use Rattle.demands.proofs.Demands.{sha1-demand2, sha1-demand3}
 

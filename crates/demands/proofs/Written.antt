@@ -10,8 +10,8 @@ use Rattle.format.specs.Records.{Records, Entry, Key}
 use Rattle.format.specs.Reading.{Read, bad, good}
 use Rattle.format.specs.Reader.{Contents, readFile}
 use Rattle.format.specs.Requests.{putRecord, removeRecord, versionFor, rewriteRequest, putRequest, removeRequest}
-use Rattle.file.specs.Answers.{tooSmall}
-use Rattle.file.specs.Writing.{requested, answered, rewriteAnswer, putAnswer, removeAnswer, outputAfter}
+use Rattle.answers.specs.Answers.{tooSmall}
+use Rattle.answers.specs.Writing.{requested, answered, rewriteAnswer, putAnswer, removeAnswer, outputAfter}
 use Rattle.format_laws.proofs.Readings.{bad-good}
 use Rattle.writing.specs.Sound.{Sound}
 use Rattle.writing.specs.OneFile.{OneFile, WritesBack}

@@ -1,4 +1,5 @@
 -- What the functions of this crate lean on.
-pub mod Reading
 pub mod Before
+pub mod Fields
 pub mod Names
+pub mod Reading

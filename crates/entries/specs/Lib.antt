@@ -1,2 +1,3 @@
 -- What the functions of this crate answer.
 pub mod Answers
+pub mod Record

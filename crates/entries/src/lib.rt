@@ -1,4 +1,6 @@
 // The entries of a body, read.
+pub mod record;
+
 ghost use mathlib.Core.Path.{_≡_};
 ghost use Prim.Native.Nat.{ℕ, _+_, _-_, _<_, _≤_};
 ghost use lib.ListN.{length, take, drop, getD};

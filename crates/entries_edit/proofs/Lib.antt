@@ -1,2 +1,4 @@
 -- Laws of entries that are edited.
-pub mod Ways
+pub mod Edits
+pub mod Records
+pub mod Rests

@@ -11,8 +11,8 @@ use Rattle.format.specs.Reader.{readEntries}
 use Rattle.format.specs.Writer.{writeEntries}
 use Rattle.format.specs.Requests.{anyWord}
 use Rattle.output.specs.Output.{Wrote}
-use Rattle.entries_rest.specs.declared.Laid.{Laid}
-use Rattle.entries_rest.specs.Rests.{NamedAt}
+use Rattle.entries_edit.specs.declared.rest.Laid.{Laid}
+use Rattle.entries_edit.specs.Rests.{NamedAt}
 use Rattle.entries_edit.specs.declared.Edit.{Edit}
 use Rattle.entries_edit.specs.declared.Edit.the-variants as E
 

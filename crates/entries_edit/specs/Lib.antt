@@ -1,2 +1,3 @@
 -- What is changed among entries, and what their writing leaves behind.
 pub mod Edits
+pub mod Rests

@@ -1,4 +1,7 @@
 // The entries of a body, written with one of them put or removed, or as they are.
+pub mod record;
+pub mod rest;
+
 ghost use mathlib.Core.Path.{_≡_};
 ghost use mathlib.Core.Bool.{true, _||_};
 ghost use Prim.Native.Nat.{_+_, _≤_};
@@ -6,11 +9,11 @@ ghost use lib.ListN.{length};
 ghost use Rattle.format.specs.Records.{Entry};
 ghost use Rattle.format.specs.Layout.{bit};
 ghost use Rattle.entries_run.specs.Steps.{Room};
-ghost use Rattle.file.specs.Answers.{entryWith};
+ghost use Rattle.entries.specs.Record.{entryWith};
 ghost use Rattle.entries_edit.specs.declared.Edit.the-variants as E;
 ghost use Rattle.entries_edit.specs.Edits.{passes, EntriesEdited};
-use entries_rest::Laid;
-use file::Fields;
+use crate::rest::Laid;
+use entries::record::Fields;
 
 // What changes: nothing; an entry is put after so many, in place of the next one or not; the entry after so many is removed.
 pub enum Edit {
@@ -70,28 +73,9 @@ fn put_with(
     let start = entries_run::first();
     let front = entries_write::put_entries(b, v, &mut *work, start, k, version, &mut *out, at);
     let c = front.cursor;
-    let kept = entries_rest::common_at(b, v, &*work, c, name);
-    let middle = entries_record::put_record(
-        &mut *out,
-        front.at,
-        version,
-        fields,
-        name,
-        c.len,
-        kept,
-    );
-    let rest = entries_rest::put_others(
-        b,
-        v,
-        work,
-        c,
-        count - k,
-        there,
-        name,
-        version,
-        out,
-        middle,
-    );
+    let kept = crate::rest::common_at(b, v, &*work, c, name);
+    let middle = crate::record::put_record(&mut *out, front.at, version, fields, name, c.len, kept);
+    let rest = crate::rest::put_others(b, v, work, c, count - k, there, name, version, out, middle);
     let word = or(fields.skip_worktree, fields.intent_to_add);
     Laid {
         at: rest.at,
@@ -115,7 +99,7 @@ fn put_without(
 {
     let start = entries_run::first();
     let front = entries_write::put_entries(b, v, &mut *work, start, k, version, &mut *out, at);
-    let rest = entries_rest::put_removed(
+    let rest = crate::rest::put_removed(
         b,
         v,
         work,

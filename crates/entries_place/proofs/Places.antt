@@ -13,7 +13,7 @@ use Rattle.format.specs.Reader.{readEntries}
 use Rattle.format.specs.Requests.{goesBefore, sameKey, putEntry, removeEntry, holds}
 use Rattle.format_laws.proofs.Tests.{false-true, by-test, and-inv}
 use Rattle.format_laws.proofs.Readings.{good-inv, bind-inv}
-use Rattle.spelling_entries.proofs.Entries.{entry-rises}
+use Rattle.spelling.proofs.Entries.{entry-rises}
 use Rattle.entries_place.specs.declared.Place.{Place}
 use Rattle.entries_place.specs.Places.{rank, startsWith, isThere, rising, Ranked}
 use Rattle.format_laws.proofs.Keys.{before-trans, same-key, before-other}

@@ -13,7 +13,7 @@ use Rattle.format.specs.Reading.{good}
 use Rattle.format.specs.Reader.{readPlain, readName}
 use Rattle.format_laws.proofs.Names.{okName-length, common-le}
 use Rattle.format_laws.proofs.Readings.{good-inv}
-use Rattle.spelling_entries.proofs.Names.{name-read}
+use Rattle.spelling.proofs.Names.{name-read}
 use Rattle.fields.specs.Begun.{Begun}
 use Rattle.fields.proofs.Beginnings.{begun-common, begun-kept}
 use Rattle.entries.specs.declared.Head.{Head}

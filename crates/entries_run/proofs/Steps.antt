@@ -14,7 +14,7 @@ use Rattle.format.specs.Reading.{Read, bad, good, bind}
 use Rattle.format.specs.Reader.{entryOf, readEntry, readEntries}
 use Rattle.format.specs.Places.{entryPlace, namePlace}
 use Rattle.format_laws.proofs.Readings.{bad-good, bind-inv, inFront, front-none, front-one, front-front, front-inv}
-use Rattle.spelling_entries.proofs.Entries.{entry-named}
+use Rattle.spelling.proofs.Entries.{entry-named}
 use Rattle.fields.specs.Begun.{Begun}
 use Rattle.fields.proofs.Beginnings.{begun-none, begun-name}
 use Rattle.entries_run.specs.declared.Cursor.{Cursor}

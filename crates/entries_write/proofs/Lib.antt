@@ -1,6 +1,6 @@
 -- Laws of entries that are written.
-pub mod Names
-pub mod Words
 pub mod Lists
-pub mod Stepping
+pub mod Names
 pub mod Runs
+pub mod Stepping
+pub mod Words

@@ -9,7 +9,7 @@ use borrow.Author.Tests.{eq-eqb, ne-eqb}
 use Rattle.format.specs.Bytes.{putN}
 use Rattle.format.specs.Layout.{entryLength}
 use Rattle.format.specs.Writer.{writePlain, writePacked, writeName}
-use Rattle.spelling_entries.proofs.Bytes.{putN-one, putN-two}
+use Rattle.spelling.proofs.Bytes.{putN-one, putN-two}
 use Rattle.output.specs.Output.{Wrote}
 use Rattle.output.proofs.Laws.{wrote-then}
 use Rattle.entries_write.specs.Parts.{Kept, NameWritten}

@@ -14,8 +14,8 @@ use Rattle.format.specs.Layout.{bit, fixedLength, flagsOf, wordOf}
 use Rattle.format.specs.Reader.{entryOf}
 use Rattle.format.specs.Writer.{needsWord, writeName, writeRest, writeEntry}
 use Rattle.format_laws.proofs.Numbers.{length-put16, bytes-drop}
-use Rattle.spelling_entries.proofs.Bytes.{put32s-be32s}
-use Rattle.spelling_entries.proofs.Flags.{bit-isSet}
+use Rattle.spelling.proofs.Bytes.{put32s-be32s}
+use Rattle.spelling.proofs.Flags.{bit-isSet}
 use Rattle.output.specs.Output.{Wrote}
 use Rattle.output.proofs.Laws.{wrote-then}
 use Rattle.entries_run.specs.declared.Step.{Step}

@@ -11,7 +11,7 @@ use Rattle.format.specs.Layout.{Extension, resolveUndo}
 use Rattle.format.specs.Reading.{Read, bad, good, need, shift, bind}
 use Rattle.format_laws.proofs.Lists.{part-length}
 use Rattle.format_laws.proofs.Readings.{same-size}
-use Rattle.spelling_extensions.proofs.Undo.{read-undos, undos-read}
+use Rattle.spelling.proofs.Undo.{read-undos, undos-read}
 use Rattle.resolve_undo.specs.declared.RecordsRead.the-variants as S
 use Rattle.format.specs.Places.{dataIn}
 use Rattle.resolve_undo.specs.Answers.{recordsRead}

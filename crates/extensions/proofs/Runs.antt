@@ -14,7 +14,7 @@ use Rattle.format.specs.Reading.{bad, good, bind}
 use Rattle.format.specs.Reader.{Seen, noneSeen, alsoSeen, readExtension, first}
 use Rattle.format_laws.proofs.Tests.{false-true}
 use Rattle.format_laws.proofs.Readings.{none-some, inFront, front-none, front-one, front-front}
-use Rattle.spelling_extensions.proofs.Extensions.{extension-data, extensionsOf, extensionsOf-end, extensionsOf-step}
+use Rattle.spelling.proofs.Extensions.{extension-data, extensionsOf, extensionsOf-end, extensionsOf-step}
 use Rattle.extensions.specs.declared.Found.{Found}
 use Rattle.extensions.specs.Heads.{Inside}
 use Rattle.extensions.specs.Found.{TreeFound, UndoFound, nothing, seenOf}

@@ -10,7 +10,7 @@ ghost use Rattle.extensions.specs.Found.{nothing, seenOf};
 ghost use Rattle.extensions.specs.Steps.{Answered, OneInside, Passed, Ran};
 use cache_tree::TreeRead;
 use resolve_undo::RecordsRead;
-use tree_walk::counts::counts_ok;
+use tree_check::counts::counts_ok;
 
 // The place after an extension's data, by its kind, or a refusal's number.
 pub enum Head {

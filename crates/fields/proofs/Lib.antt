@@ -1,3 +1,3 @@
 -- What the functions of this crate lean on.
-pub mod Laws
 pub mod Beginnings
+pub mod Laws

@@ -17,13 +17,13 @@ use Rattle.hash.specs.Sha1.{sha1}
 use Rattle.hash.proofs.Bytes.{length-sha1}
 use Rattle.output.specs.Output.{withAt, Wrote}
 use Rattle.output.proofs.Laws.{wrote-then}
-use Rattle.file.specs.declared.Written.the-variants as W
-use Rattle.file_contents.specs.declared.Parts.{Parts}
+use Rattle.answers.specs.declared.Written.the-variants as W
+use Rattle.file_read.specs.declared.Parts.{Parts}
 use Rattle.entries_edit.specs.declared.Edit.{Edit}
-use Rattle.entries_rest.specs.declared.Laid.{Laid}
+use Rattle.entries_edit.specs.declared.rest.Laid.{Laid}
 use Rattle.entries_edit.specs.Edits.{Replaces}
-use Rattle.file_body.specs.Bodies.{changed, Has, BodyWritten}
-use Rattle.file_body.proofs.Bodies.{body-like}
+use Rattle.file_write.specs.Bodies.{changed, Has, BodyWritten}
+use Rattle.file_write.proofs.Bodies.{body-like}
 use Rattle.file_write.specs.Results.{Measured, versionOf, likeOf, Answers, FileWritten}
 
 -- ---- the version

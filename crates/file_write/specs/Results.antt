@@ -10,13 +10,13 @@ use Rattle.format.specs.Reading.{Read}
 use Rattle.format.specs.Writer.{writeBody}
 use Rattle.format.specs.Requests.{anyWord, writing}
 use Rattle.hash.specs.Sha1.{sha1}
-use Rattle.file.specs.declared.Written.{Written}
-use Rattle.file.specs.Writing.{writtenOf, outputAfter}
-use Rattle.file_contents.specs.declared.Parts.{Parts}
+use Rattle.answers.specs.declared.Written.{Written}
+use Rattle.answers.specs.Writing.{writtenOf, outputAfter}
+use Rattle.file_read.specs.declared.Parts.{Parts}
 use Rattle.entries_edit.specs.declared.Edit.{Edit}
-use Rattle.entries_rest.specs.declared.Laid.{Laid}
+use Rattle.entries_edit.specs.declared.rest.Laid.{Laid}
 use Rattle.entries_edit.specs.Edits.{Replaces}
-use Rattle.file_body.specs.Bodies.{changed, Has}
+use Rattle.file_write.specs.Bodies.{changed, Has}
 
 -- how long the body of a version is with an edit, and whether an entry needs the extended word; e is what is put
 pub record Measured (b : List ℕ) (parts : Parts) (work : List ℕ) (edit : Edit) (e : Entry) (version : ℕ) (work′ : List ℕ) (r : Laid) : Type 0 where

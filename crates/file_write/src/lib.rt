@@ -1,20 +1,22 @@
 // The file that is written: its body is measured, then written and sealed with its checksum.
+pub mod body;
+
 ghost use mathlib.Core.Path.{_≡_};
 ghost use mathlib.Core.Bool.{_&&_};
 ghost use Prim.Native.Nat.{_+_, _≤_, _<_};
 ghost use lib.ListN.{length, take};
 ghost use lib.Dec.{eqb};
-ghost use Rattle.file.specs.Answers.{entryWith};
+ghost use Rattle.entries.specs.Record.{entryWith};
 ghost use Rattle.output.specs.Output.{Wrote};
 ghost use Rattle.hash.specs.Sha1.{sha1};
-ghost use Rattle.file_body.specs.Bodies.{Ready};
+ghost use Rattle.file_write.specs.Bodies.{Ready};
 ghost use Rattle.file_write.specs.Results.{versionOf, likeOf, Measured, FileWritten};
+use crate::body::put_body;
+use answers::Written;
+use entries::record::Fields;
 use entries_edit::Edit;
-use entries_rest::Laid;
-use file::Fields;
-use file::Written;
-use file_body::put_body;
-use file_contents::Parts;
+use entries_edit::rest::Laid;
+use file_read::Parts;
 use output::put_bytes;
 
 // How long the body is in a version, and whether one of its entries needs the extended word. No part of it fits one byte, so nothing is written.

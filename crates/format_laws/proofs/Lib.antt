@@ -1,9 +1,9 @@
 -- Laws of the format's definitions that several crates cite. Read in this order.
-pub mod Tests
-pub mod Lists
-pub mod Numbers
-pub mod Names
-pub mod Readings
-pub mod Texts
-pub mod Orders
 pub mod Keys
+pub mod Lists
+pub mod Names
+pub mod Numbers
+pub mod Orders
+pub mod Readings
+pub mod Tests
+pub mod Texts

@@ -1,4 +1,4 @@
 -- Laws that several proofs cite.
 pub mod Copying
-pub mod Words
 pub mod Padding
+pub mod Words

@@ -1,3 +1,3 @@
 -- What the hash functions of FIPS 180-4 on 32-bit words share.
-pub mod Words
 pub mod Padding
+pub mod Words

@@ -12,12 +12,14 @@ use Rattle.format.specs.Records as F
 use Rattle.format.specs.Reader as R
 use Rattle.entries_run.specs.declared.Step.{Step}
 use Rattle.entries_run.specs.Steps.{nameAt, entryAt}
-use Rattle.file.specs.declared.EntryAnswer.{EntryAnswer}
-use Rattle.file.specs.declared.Fields.{Fields}
-use Rattle.file.specs.declared.Shown.the-variants as S
-use Rattle.file.specs.Answers.{View, refused, inFile, inWorkspace, pick, cleared, holding, workAfter, nameIn, entryWith, entrySaid, fieldsOf}
-use Rattle.file.proofs.Laws.{cleared-large, cleared-past, holding-after, holding-name, part-in, part-within, fields-are}
-use Rattle.file_contents.specs.Contents.{bodyOf}
+use Rattle.answers.specs.declared.EntryAnswer.{EntryAnswer}
+use Rattle.entries.specs.declared.record.Fields.{Fields}
+use Rattle.answers.specs.declared.Shown.the-variants as S
+use Rattle.answers.specs.Answers.{View, refused, inFile, inWorkspace, pick, cleared, holding, workAfter, nameIn, entrySaid}
+use Rattle.entries.specs.Record.{entryWith, fieldsOf}
+use Rattle.answers.proofs.Laws.{cleared-large, cleared-past, holding-after, holding-name, part-in, part-within}
+use Rattle.entries.proofs.Fields.{fields-are}
+use Rattle.file_read.specs.Contents.{bodyOf}
 use Rattle.index.specs.Calls.{EntryShows}
 use Rattle.index.proofs.Views.{pick-file, pick-work}
 

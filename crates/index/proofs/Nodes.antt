@@ -20,17 +20,17 @@ use Rattle.tree_nodes.specs.Answers.{counted, objectLength, nodeOf, nodeAt}
 use Rattle.format.specs.Places.{dataIn, nodeStart}
 use Rattle.tree_nodes.proofs.Readings.{node-took}
 use Rattle.tree_nodes.proofs.Nodes.{node-named, object-valid, node-object}
-use Rattle.cache_tree.specs.declared.walk.NodePlace.{NodePlace}
-use Rattle.cache_tree.specs.Levels.{NodeFound}
-use Rattle.cache_tree.proofs.Flat.{Shown}
+use Rattle.tree_nodes.specs.declared.passes.NodePlace.{NodePlace}
+use Rattle.tree_nodes.specs.Levels.{NodeFound}
+use Rattle.tree_nodes.proofs.Flat.{Shown}
 use Rattle.cache_tree.proofs.Shape.{tree-item}
-use Rattle.file.specs.declared.Shown.the-variants as S
-use Rattle.file.specs.Answers.{View, refused, inFile, listed, itemsOf, partIn, nameIn, countWith, nodeSaid, countNumber}
-use Rattle.file.proofs.Laws.{part-in, part-within, item-none}
+use Rattle.answers.specs.declared.Shown.the-variants as S
+use Rattle.answers.specs.Answers.{View, refused, inFile, listed, itemsOf, partIn, nameIn, countWith, nodeSaid, countNumber}
+use Rattle.answers.proofs.Laws.{part-in, part-within, item-none}
 use Rattle.extensions.specs.declared.TreePlace.{TreePlace}
 use Rattle.extensions.specs.Heads.{part}
 use Rattle.extensions.specs.Found.{TreeIs, TreeFound}
-use Rattle.file_contents.specs.Contents.{bodyOf}
+use Rattle.file_read.specs.Contents.{bodyOf}
 use Rattle.index.specs.Calls.{NodeShows}
 use Rattle.index.proofs.Views.{part-of-body, item-some, pick-none, pick-file}
 

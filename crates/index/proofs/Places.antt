@@ -14,10 +14,10 @@ use Rattle.format.specs.Reader.{Contents, readFile}
 use Rattle.format.specs.Places.{bodyIn, taken, entryPlace, namePlace, entryNamePlace, dataPlace, dataIn, dataOf, nodeStart, nodePlace, undoStart, undoPlace}
 use Rattle.format_laws.proofs.Numbers.{be32-take}
 use Rattle.hash.specs.Sha1.{sha1}
-use Rattle.file_contents.specs.declared.Parts.{Parts}
-use Rattle.file_contents.specs.Contents.{bodyOf, inRoom, Contains}
-use Rattle.file_contents.proofs.Room.{in-room, room-of}
-use Rattle.file_contents.proofs.Files.{file-says}
+use Rattle.file_read.specs.declared.Parts.{Parts}
+use Rattle.file_read.specs.Contents.{bodyOf, inRoom, Contains}
+use Rattle.file_read.proofs.Room.{in-room, room-of}
+use Rattle.file_read.proofs.Files.{file-says}
 
 -- the version and the byte where entries end, of a file that was read
 module _ (w : ℕ) (hash : List ℕ → List ℕ) (f : List ℕ) (c : Contents) (m : ℕ) where

@@ -13,13 +13,13 @@ use Rattle.format.specs.Places.{dataIn, undoStart}
 use Rattle.resolve_undo.specs.declared.Shown as Code
 use Rattle.resolve_undo.specs.Answers.{undoAt, item, shown}
 use Rattle.resolve_undo.proofs.Showing.{shown-item, shown-path, missing-zeros}
-use Rattle.file.specs.declared.Shown.the-variants as S
-use Rattle.file.specs.Answers.{View, refused, inFile, listed, partIn, nameIn, undoSaid}
-use Rattle.file.proofs.Laws.{part-in, part-within, item-none}
+use Rattle.answers.specs.declared.Shown.the-variants as S
+use Rattle.answers.specs.Answers.{View, refused, inFile, listed, partIn, nameIn, undoSaid}
+use Rattle.answers.proofs.Laws.{part-in, part-within, item-none}
 use Rattle.extensions.specs.declared.UndoPlace.{UndoPlace}
 use Rattle.extensions.specs.Heads.{part}
 use Rattle.extensions.specs.Found.{UndoIs, UndoFound}
-use Rattle.file_contents.specs.Contents.{bodyOf}
+use Rattle.file_read.specs.Contents.{bodyOf}
 use Rattle.index.specs.Calls.{UndoShows}
 use Rattle.index.proofs.Views.{part-of-body, item-some, pick-none, pick-file}
 

@@ -9,11 +9,11 @@ use Rattle.format.specs.Reading.{Read, good}
 use Rattle.format.specs.Reader.{Contents}
 use Rattle.extensions.specs.declared.Found.{Found}
 use Rattle.extensions.specs.Found.{TreeFound, UndoFound}
-use Rattle.file.specs.declared.Count.the-variants.{Absent, Present}
-use Rattle.file.specs.declared.Checked.the-variants as K
-use Rattle.file.specs.Answers.{treeCount, undoCount, checkedOf}
-use Rattle.file_contents.specs.declared.Parts.{Parts}
-use Rattle.file_contents.specs.Contents.{Contains}
+use Rattle.answers.specs.declared.Count.the-variants.{Absent, Present}
+use Rattle.answers.specs.declared.Checked.the-variants as K
+use Rattle.answers.specs.Answers.{treeCount, undoCount, checkedOf}
+use Rattle.file_read.specs.declared.Parts.{Parts}
+use Rattle.file_read.specs.Contents.{Contains}
 
 module _ (b : List ℕ) (found : Found) where
   tree-count : (o : Option F.Tree) → TreeFound b o (found .tree) → cond (found .tree .there) (Present (found .tree .nodes)) Absent ≡ treeCount o

@@ -9,14 +9,14 @@ use lib.ListN.{length, getD, getElem?, length-take}
 use Rattle.format.specs.Records as F
 use Rattle.format.specs.Reading.{Read, bad}
 use Rattle.format.specs.Reader.{Contents}
-use Rattle.file.specs.declared.Checked.the-variants as K
-use Rattle.file.specs.declared.EntryAnswer.{EntryAnswer}
-use Rattle.file.specs.declared.NodeAnswer.{NodeAnswer}
-use Rattle.file.specs.declared.UndoAnswer.{UndoAnswer}
-use Rattle.file.specs.Answers.{tooSmall, View, refused, inFile, inWorkspace, pick, given, cleared, checkedOf, checkAnswer, entryOf, entryAnswer, nodeOf, nodeAnswer, undoOf, undoAnswer, entrySaid, nodeSaid, undoSaid, refusedEntry, refusedNode, refusedUndo}
-use Rattle.file.proofs.Laws.{part-within}
+use Rattle.answers.specs.declared.Checked.the-variants as K
+use Rattle.answers.specs.declared.EntryAnswer.{EntryAnswer}
+use Rattle.answers.specs.declared.NodeAnswer.{NodeAnswer}
+use Rattle.answers.specs.declared.UndoAnswer.{UndoAnswer}
+use Rattle.answers.specs.Answers.{tooSmall, View, refused, inFile, inWorkspace, pick, given, cleared, checkedOf, checkAnswer, entryOf, entryAnswer, nodeOf, nodeAnswer, undoOf, undoAnswer, entrySaid, nodeSaid, undoSaid, refusedEntry, refusedNode, refusedUndo}
+use Rattle.answers.proofs.Laws.{part-within}
 use Rattle.extensions.specs.Heads.{part}
-use Rattle.file_contents.specs.Contents.{bodyOf, inRoom}
+use Rattle.file_read.specs.Contents.{bodyOf, inRoom}
 use Rattle.index.specs.Calls.{EntryShows, NodeShows, UndoShows}
 
 -- ---- lists

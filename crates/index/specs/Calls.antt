@@ -5,10 +5,10 @@ use mathlib.Core.Bool.{false}
 use Prim.Native.Nat.{ℕ}
 use lib.ListN.{replicate}
 use Rattle.format.specs.Records as F
-use Rattle.file.specs.declared.EntryAnswer.{EntryAnswer}
-use Rattle.file.specs.declared.NodeAnswer.{NodeAnswer}
-use Rattle.file.specs.declared.UndoAnswer.{UndoAnswer}
-use Rattle.file.specs.Answers.{View, workAfter, entrySaid, nodeSaid, undoSaid, entryShown, nodeShown, undoShown, Inside}
+use Rattle.answers.specs.declared.EntryAnswer.{EntryAnswer}
+use Rattle.answers.specs.declared.NodeAnswer.{NodeAnswer}
+use Rattle.answers.specs.declared.UndoAnswer.{UndoAnswer}
+use Rattle.answers.specs.Answers.{View, workAfter, entrySaid, nodeSaid, undoSaid, entryShown, nodeShown, undoShown, Inside}
 
 -- the answer r shows v: it is the one that does, the bytes that it points at are the name, and they lie in their buffer. work′ is the workspace
 -- after it, work the one before

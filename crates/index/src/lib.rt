@@ -13,29 +13,29 @@ ghost use Rattle.format.specs.Places.{entryPlace, namePlace, entryNamePlace, da
 ghost use Rattle.hash.specs.Sha1.{sha1};
 ghost use Rattle.entries_run.specs.Steps.{Room};
 ghost use Rattle.extensions.specs.Found.{TreeFound, UndoFound};
-ghost use Rattle.file.specs.declared.Count.the-variants.{Absent, Present};
-ghost use Rattle.file.specs.Answers.{cleared, pick, listed, itemsOf, checkAnswer, entryAnswer, nodeAnswer, undoAnswer};
-ghost use Rattle.file_contents.specs.Contents.{bodyOf};
+ghost use Rattle.answers.specs.declared.Count.the-variants.{Absent, Present};
+ghost use Rattle.answers.specs.Answers.{cleared, pick, listed, itemsOf, checkAnswer, entryAnswer, nodeAnswer, undoAnswer};
+ghost use Rattle.file_read.specs.Contents.{bodyOf};
 ghost use Rattle.index.specs.Calls.{EntryShows, NodeShows, UndoShows};
-use cache_tree::walk::find_node;
+use answers::Checked;
+use answers::Count;
+use answers::EntryAnswer;
+use answers::NodeAnswer;
+use answers::Shown;
+use answers::Summary;
+use answers::UndoAnswer;
+use answers::refused_entry;
+use answers::refused_node;
+use answers::refused_undo;
 use entries_run::Sought;
 use extensions::TreePlace;
 use extensions::UndoPlace;
-use file::Checked;
-use file::Count;
-use file::EntryAnswer;
-use file::NodeAnswer;
-use file::Shown;
-use file::Summary;
-use file::UndoAnswer;
-use file::refused_entry;
-use file::refused_node;
-use file::refused_undo;
-use file_contents::Whole;
-use file_contents::read_cleared;
+use file_read::Whole;
+use file_read::read_cleared;
 use tree_nodes::node::Node;
 use tree_nodes::node::NodeRead;
 use tree_nodes::node::read_node;
+use tree_nodes::passes::find_node;
 
 // ---- the parts of an accepted file, shown
 
@@ -52,7 +52,7 @@ fn show_entry(file: &[u8], v: u32, work: &mut [u8], k: u32) -> EntryAnswer
             refused_entry(18, 0)
         }
         Sought::Good(at, step) => {
-            let fields = file::fields_at(&file[..n], at, step.flags, step.word);
+            let fields = entries::record::fields_at(&file[..n], at, step.flags, step.word);
             let len = step.next.len;
             if v == 4 {
                 fields::clear_from(work, len);
@@ -76,7 +76,7 @@ fn node_object(d: &[u8], node: Node) -> [u8; 20]
     ensures { λ r. ⌜ r ≡ cond (node .valid) (take 20 (drop (node .object) (now (d .entry)))) (replicate 20 0) ⌝ }
 {
     if node.valid {
-        return file::object_at(d, node.object);
+        return entries::record::object_at(d, node.object);
     }
     [0u8; 20]
 }

@@ -17,17 +17,18 @@ use Rattle.format.specs.Requests.{okAsked, putRecord, removeRecord, holds, writ
 use Rattle.format_laws.proofs.Tests.{and-inv, by-test}
 use Rattle.format_laws.proofs.Readings.{bad-good, good-inv}
 use Rattle.hash.specs.Sha1.{sha1}
-use Rattle.file.specs.declared.Fields.{Fields}
-use Rattle.file.specs.declared.Written.{Written}
-use Rattle.file.specs.declared.Written.the-variants as W
-use Rattle.file.specs.Answers.{tooSmall, cleared, entryWith}
-use Rattle.file.specs.Writing.{requested, answered}
-use Rattle.file.proofs.Laws.{cleared-past, cleared-long, cleared-same}
-use Rattle.file_contents.specs.declared.Parts.{Parts}
-use Rattle.file_contents.specs.Contents.{bodyOf, inRoom, Contains}
-use Rattle.file_contents.proofs.Room.{room-of, in-room, cleared-by}
+use Rattle.entries.specs.declared.record.Fields.{Fields}
+use Rattle.answers.specs.declared.Written.{Written}
+use Rattle.answers.specs.declared.Written.the-variants as W
+use Rattle.answers.specs.Answers.{tooSmall, cleared}
+use Rattle.entries.specs.Record.{entryWith}
+use Rattle.answers.specs.Writing.{requested, answered}
+use Rattle.answers.proofs.Laws.{cleared-past, cleared-long, cleared-same}
+use Rattle.file_read.specs.declared.Parts.{Parts}
+use Rattle.file_read.specs.Contents.{bodyOf, inRoom, Contains}
+use Rattle.file_read.proofs.Room.{room-of, in-room, cleared-by}
 use Rattle.entries_edit.specs.declared.Edit.{Edit}
-use Rattle.file_body.specs.Bodies.{changed, Ready}
+use Rattle.file_write.specs.Bodies.{changed, Ready}
 use Rattle.file_write.specs.Results.{FileWritten}
 use Rattle.index_write.specs.Calls.{Writes, Opened, Planned, recordNumber}
 use Rattle.index_write.proofs.Files.{has-of, count-few}

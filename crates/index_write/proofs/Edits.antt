@@ -14,7 +14,7 @@ use Rattle.entries_place.specs.Places.{Ranked}
 use Rattle.entries_place.proofs.Places.{there-inv, there-name, put-at, remove-at, holds-at}
 use Rattle.entries_edit.specs.declared.Edit.the-variants as E
 use Rattle.entries_edit.specs.Edits.{Replaces}
-use Rattle.file_body.specs.Bodies.{treeAfter, changed}
+use Rattle.file_write.specs.Bodies.{treeAfter, changed}
 
 -- nothing is changed
 pub keep-changed : (e : Entry) (r : Records) → changed E.Keep e r ≡ r

@@ -21,9 +21,9 @@ use Rattle.spelling.proofs.File.{read-spelled}
 use Rattle.writing.specs.Sound.{SoundEntry, SoundEntries, entries-none, entries-next}
 use Rattle.writing.proofs.Entries.{entries-long}
 use Rattle.writing.proofs.File.{spelled-sound}
-use Rattle.file_contents.specs.declared.Parts.{Parts}
-use Rattle.file_contents.specs.Contents.{bodyOf, Contains}
-use Rattle.file_body.specs.Bodies.{Has}
+use Rattle.file_read.specs.declared.Parts.{Parts}
+use Rattle.file_read.specs.Contents.{bodyOf, Contains}
+use Rattle.file_write.specs.Bodies.{Has}
 
 -- ---- records that spell a file
 

@@ -1,4 +1,4 @@
 -- Laws that the proofs of this crate cite.
-pub mod Files
-pub mod Edits
 pub mod Answers
+pub mod Edits
+pub mod Files

@@ -13,12 +13,13 @@ use Rattle.format.specs.Reading.{Read}
 use Rattle.format.specs.Reader.{readFile}
 use Rattle.hash.specs.Sha1.{sha1}
 use Rattle.writing.specs.OneFile.{WritesBack}
-use Rattle.file.specs.declared.Fields.{Fields}
-use Rattle.file.specs.declared.Written.{Written}
-use Rattle.file.specs.Answers.{cleared, entryWith}
-use Rattle.file.specs.Writing.{writtenOf, outputAfter}
-use Rattle.file_contents.specs.declared.Parts.{Parts}
-use Rattle.file_contents.specs.Contents.{bodyOf, Contains}
+use Rattle.entries.specs.declared.record.Fields.{Fields}
+use Rattle.answers.specs.declared.Written.{Written}
+use Rattle.answers.specs.Answers.{cleared}
+use Rattle.entries.specs.Record.{entryWith}
+use Rattle.answers.specs.Writing.{writtenOf, outputAfter}
+use Rattle.file_read.specs.declared.Parts.{Parts}
+use Rattle.file_read.specs.Contents.{bodyOf, Contains}
 use Rattle.entries_edit.specs.declared.Edit.{Edit}
 use Rattle.entries_edit.specs.Edits.{passes, Replaces}
 

@@ -9,17 +9,18 @@ ghost use Rattle.format.specs.Reading.{good};
 ghost use Rattle.format.specs.Reader.{Contents, readFile};
 ghost use Rattle.format.specs.Requests.{putRecord, removeRecord, okAsked, writing, rewriteRequest, putRequest, removeRequest};
 ghost use Rattle.hash.specs.Sha1.{sha1};
-ghost use Rattle.file.specs.Answers.{cleared, entryWith};
-ghost use Rattle.file.specs.Writing.{requested, rewriteAnswer, putAnswer, removeAnswer};
-ghost use Rattle.file_body.specs.Bodies.{changed};
+ghost use Rattle.answers.specs.Answers.{cleared};
+ghost use Rattle.entries.specs.Record.{entryWith};
+ghost use Rattle.answers.specs.Writing.{requested, rewriteAnswer, putAnswer, removeAnswer};
+ghost use Rattle.file_write.specs.Bodies.{changed};
 ghost use Rattle.index_write.specs.Calls.{Writes, Saves, Typed, Opened, Planned, recordNumber};
+use answers::Written;
+use entries::record::Fields;
 use entries_edit::Edit;
 use entries_place::find_place;
-use file::Fields;
-use file::Written;
-use file_contents::Parts;
-use file_contents::Whole;
-use file_contents::read_cleared;
+use file_read::Parts;
+use file_read::Whole;
+use file_read::read_cleared;
 
 // ---- the tests of a request
 
@@ -122,7 +123,7 @@ fn rewrite_read(file: &[u8], parts: Parts, work: &mut [u8], out: &mut [u8], aske
             out,
             asked,
             Edit::Keep,
-            file::no_fields(),
+            entries::record::no_fields(),
             b"",
         );
     }
@@ -185,7 +186,16 @@ fn remove_read(
         );
         if place.there {
             let edit = Edit::Remove(place.before);
-            return write_edited(file, parts, work, out, asked, edit, file::no_fields(), name);
+            return write_edited(
+                file,
+                parts,
+                work,
+                out,
+                asked,
+                edit,
+                entries::record::no_fields(),
+                name,
+            );
         }
         fields::clear(work);
         return Written::Refused(18, 0);

@@ -1,7 +1,7 @@
 // Lists the index that stands on standard input: a line with its version and its number of entries, a line for each entry, then what it has
 // of a cache tree and of resolve-undo records. A refusal prints only its number and its place.
-use file::Checked;
-use file::Count;
+use answers::Checked;
+use answers::Count;
 
 // At most 65,536 bytes are taken.
 fn main() {
@@ -56,7 +56,7 @@ fn list_entry(bytes: &[u8], work: &mut [u8; 8192], k: u32) {
     print_number(answer.fields.stage);
     print(b"\t");
     let shown = answer.shown;
-    print_name(file::name_of(bytes, work, shown));
+    print_name(answers::name_of(bytes, work, shown));
     print(b"\n");
 }
 

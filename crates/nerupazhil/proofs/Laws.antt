@@ -5,15 +5,15 @@ use Prim.Native.Nat.{ℕ}
 use native.Mathlib.Omega.{arith}
 use Rattle.format.specs.Records as F
 use Rattle.format.specs.Reading.{Read}
-use Rattle.file.specs.declared.Written.{Written}
+use Rattle.answers.specs.declared.Written.{Written}
 use Rattle.index_write.specs.Calls.{Saves}
 use Rattle.nerupazhil.specs.declared.WriteReply.{WriteReply}
-use Rattle.file.specs.declared.Shown.{Shown}
-use Rattle.file.specs.declared.Shown.the-variants as S
-use Rattle.file.specs.declared.EntryAnswer.{EntryAnswer}
-use Rattle.file.specs.declared.NodeAnswer.{NodeAnswer}
-use Rattle.file.specs.declared.UndoAnswer.{UndoAnswer}
-use Rattle.file.specs.Answers.{View, Inside}
+use Rattle.answers.specs.declared.Shown.{Shown}
+use Rattle.answers.specs.declared.Shown.the-variants as S
+use Rattle.answers.specs.declared.EntryAnswer.{EntryAnswer}
+use Rattle.answers.specs.declared.NodeAnswer.{NodeAnswer}
+use Rattle.answers.specs.declared.UndoAnswer.{UndoAnswer}
+use Rattle.answers.specs.Answers.{View, Inside}
 use Rattle.index.specs.Calls.{EntryShows, NodeShows, UndoShows}
 use Rattle.walk.specs.declared.Place.{Place}
 use Rattle.walk.specs.Walks.{StepShows}

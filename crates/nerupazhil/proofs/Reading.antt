@@ -4,10 +4,11 @@ use mathlib.Core.List.{List}
 use Prim.Native.Nat.{ℕ}
 use native.Mathlib.Omega.{arith}
 use Rattle.format.specs.Records as F
-use Rattle.file.specs.declared.Fields.{Fields}
-use Rattle.file.specs.declared.Shown.{Shown}
-use Rattle.file.specs.declared.Shown.the-variants as S
-use Rattle.file.specs.Answers.{View, refused, inFile, inWorkspace, nameIn, viewOf, entryWith, entrySaid, countWith, nodeSaid, stageWith, undoSaid, entryShown, nodeShown, undoShown}
+use Rattle.entries.specs.declared.record.Fields.{Fields}
+use Rattle.answers.specs.declared.Shown.{Shown}
+use Rattle.answers.specs.declared.Shown.the-variants as S
+use Rattle.answers.specs.Answers.{View, refused, inFile, inWorkspace, nameIn, viewOf, entrySaid, countWith, nodeSaid, stageWith, undoSaid, entryShown, nodeShown, undoShown}
+use Rattle.entries.specs.Record.{entryWith}
 use Rattle.walk.specs.declared.Place.{Place}
 use Rattle.nerupazhil.specs.declared.EntryReply.{EntryReply}
 use Rattle.nerupazhil.specs.declared.NodeReply.{NodeReply}

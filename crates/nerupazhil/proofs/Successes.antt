@@ -13,11 +13,11 @@ use Rattle.format.specs.Records.{Entry, Key, Records, start}
 use Rattle.format.specs.Reading.{Read, bad, good}
 use Rattle.format.specs.Reader.{Contents, readEntry, readFile}
 use Rattle.hash.specs.Sha1.{sha1}
-use Rattle.file.specs.declared.Summary.{Summary}
-use Rattle.file.specs.declared.Checked.{Checked}
-use Rattle.file.specs.declared.Checked.the-variants as K
-use Rattle.file.specs.Answers.{View, refused, inFile, inWorkspace, tooSmall, given, pick, listed, itemsOf, entryOf, nodeOf, undoOf, checkedOf, checkAnswer, entryAnswer, nodeAnswer, undoAnswer}
-use Rattle.file.specs.Writing.{requested, answered, rewriteAnswer, putAnswer, removeAnswer}
+use Rattle.answers.specs.declared.Summary.{Summary}
+use Rattle.answers.specs.declared.Checked.{Checked}
+use Rattle.answers.specs.declared.Checked.the-variants as K
+use Rattle.answers.specs.Answers.{View, refused, inFile, inWorkspace, tooSmall, given, pick, listed, itemsOf, entryOf, nodeOf, undoOf, checkedOf, checkAnswer, entryAnswer, nodeAnswer, undoAnswer}
+use Rattle.answers.specs.Writing.{requested, answered, rewriteAnswer, putAnswer, removeAnswer}
 use Rattle.walk.specs.declared.Started.{Started}
 use Rattle.walk.specs.declared.Started.the-variants as T
 use Rattle.format.specs.Places.{bodyIn}

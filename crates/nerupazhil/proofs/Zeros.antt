@@ -10,15 +10,15 @@ use Rattle.format.specs.Layout.{isValid}
 use Rattle.format.specs.Reading.{Read, bad, good}
 use Rattle.format.specs.Reader.{readFile}
 use Rattle.hash.specs.Sha1.{sha1}
-use Rattle.file.specs.declared.Count.{Count}
-use Rattle.file.specs.declared.Count.the-variants.{Absent, Present}
-use Rattle.file.specs.declared.Checked.{Checked}
-use Rattle.file.specs.declared.Checked.the-variants as K
-use Rattle.file.specs.declared.Shown.{Shown}
-use Rattle.file.specs.declared.Shown.the-variants as S
-use Rattle.file.specs.declared.Written.the-variants as W
-use Rattle.file.specs.Answers.{View, refused, inFile, inWorkspace, checkAnswer, refusedEntry, refusedNode, refusedUndo, entryAs, nodeAs, undoAs, shownAs, entryShown, nodeShown, undoShown, countNumber}
-use Rattle.file.specs.Writing.{writtenOf}
+use Rattle.answers.specs.declared.Count.{Count}
+use Rattle.answers.specs.declared.Count.the-variants.{Absent, Present}
+use Rattle.answers.specs.declared.Checked.{Checked}
+use Rattle.answers.specs.declared.Checked.the-variants as K
+use Rattle.answers.specs.declared.Shown.{Shown}
+use Rattle.answers.specs.declared.Shown.the-variants as S
+use Rattle.answers.specs.declared.Written.the-variants as W
+use Rattle.answers.specs.Answers.{View, refused, inFile, inWorkspace, checkAnswer, refusedEntry, refusedNode, refusedUndo, entryAs, nodeAs, undoAs, shownAs, entryShown, nodeShown, undoShown, countNumber}
+use Rattle.answers.specs.Writing.{writtenOf}
 use Rattle.walk.specs.declared.Place.{Place}
 use Rattle.walk.specs.declared.Started.{Started}
 use Rattle.walk.specs.declared.Started.the-variants as T

@@ -7,19 +7,19 @@ use lib.ListN.{length, replicate}
 use lib.Dec.{eqb}
 use Rattle.format.specs.Records as F
 use Rattle.format.specs.Reading.{Read}
-use Rattle.file.specs.declared.Count.{Count}
-use Rattle.file.specs.declared.Count.the-variants.{Absent, Present}
-use Rattle.file.specs.declared.Checked.{Checked}
-use Rattle.file.specs.declared.Checked.the-variants as K
-use Rattle.file.specs.declared.Shown.{Shown}
-use Rattle.file.specs.declared.Shown.the-variants as S
-use Rattle.file.specs.declared.EntryAnswer.{EntryAnswer}
-use Rattle.file.specs.declared.NodeAnswer.{NodeAnswer}
-use Rattle.file.specs.declared.UndoAnswer.{UndoAnswer}
-use Rattle.file.specs.declared.Written.{Written}
-use Rattle.file.specs.declared.Written.the-variants as W
-use Rattle.file.specs.Answers.{View, cleared, workAfter, partIn, entrySaid, nodeSaid, undoSaid, entryShown, nodeShown, undoShown}
-use Rattle.file.specs.Writing.{writtenOf, outputAfter}
+use Rattle.answers.specs.declared.Count.{Count}
+use Rattle.answers.specs.declared.Count.the-variants.{Absent, Present}
+use Rattle.answers.specs.declared.Checked.{Checked}
+use Rattle.answers.specs.declared.Checked.the-variants as K
+use Rattle.answers.specs.declared.Shown.{Shown}
+use Rattle.answers.specs.declared.Shown.the-variants as S
+use Rattle.answers.specs.declared.EntryAnswer.{EntryAnswer}
+use Rattle.answers.specs.declared.NodeAnswer.{NodeAnswer}
+use Rattle.answers.specs.declared.UndoAnswer.{UndoAnswer}
+use Rattle.answers.specs.declared.Written.{Written}
+use Rattle.answers.specs.declared.Written.the-variants as W
+use Rattle.answers.specs.Answers.{View, cleared, workAfter, partIn, entrySaid, nodeSaid, undoSaid, entryShown, nodeShown, undoShown}
+use Rattle.answers.specs.Writing.{writtenOf, outputAfter}
 use Rattle.hash.specs.Sha1.{sha1}
 use Rattle.writing.specs.OneFile.{WritesBack}
 use Rattle.walk.specs.declared.Started.{Started}

@@ -5,15 +5,16 @@ ghost use Rattle.format.specs.Reader.{readFile};
 ghost use Rattle.format.specs.Places.{bodyIn, namePlace, entryNamePlace, nodePlace, undoPlace};
 ghost use Rattle.format.specs.Requests.{putRecord, removeRecord};
 ghost use Rattle.hash.specs.Sha1.{sha1};
-ghost use Rattle.file.specs.Answers.{cleared, checkAnswer, entryAnswer, nodeAnswer, undoAnswer, entryWith};
-ghost use Rattle.file.specs.Writing.{rewriteAnswer, putAnswer, removeAnswer};
+ghost use Rattle.answers.specs.Answers.{cleared, checkAnswer, entryAnswer, nodeAnswer, undoAnswer};
+ghost use Rattle.entries.specs.Record.{entryWith};
+ghost use Rattle.answers.specs.Writing.{rewriteAnswer, putAnswer, removeAnswer};
 ghost use Rattle.walk.specs.Walks.{startAnswer, walkAnswer, placeAfter};
 ghost use Rattle.nerupazhil.specs.Replies.{isPresent, numberOf, refusalOf, placeOf, nameOf, checkReply, startReply, writeReply, EntryReplies, NodeReplies, UndoReplies, StepReplies, WriteReplies};
-use file::Checked;
-use file::Count;
-use file::Fields;
-use file::Shown;
-use file::Written;
+use answers::Checked;
+use answers::Count;
+use answers::Shown;
+use answers::Written;
+use entries::record::Fields;
 use walk::Started;
 
 // The reply of check.

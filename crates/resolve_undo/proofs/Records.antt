@@ -12,7 +12,7 @@ use Rattle.format.specs.Reading.{Read, bad, good, shift, bind}
 use Rattle.format.specs.Reader.{readUndo, readUndos}
 use Rattle.format_laws.proofs.Texts.{before-le, text-inv}
 use Rattle.format_laws.proofs.Readings.{need-inv, bind-inv}
-use Rattle.spelling_extensions.proofs.Undo.{undosOf, undosOf-end, undosOf-step}
+use Rattle.spelling.proofs.Undo.{undosOf, undosOf-end, undosOf-step}
 use Rattle.resolve_undo.specs.declared.Record.{Record}
 use Rattle.resolve_undo.specs.declared.RecordRead.the-variants as R
 use Rattle.resolve_undo.specs.declared.RecordsRead.{RecordsRead}

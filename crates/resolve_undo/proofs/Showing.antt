@@ -15,7 +15,7 @@ use Rattle.format.specs.Reading.{Read, bad, good, need, bind}
 use Rattle.format.specs.Reader.{readText, readUndo, readUndos}
 use Rattle.format_laws.proofs.Tests.{false-true, and-inv, and-both}
 use Rattle.format_laws.proofs.Readings.{good-inv, need-inv, bind-inv, need-good, bind-good, none-some}
-use Rattle.spelling_extensions.proofs.Undo.{undosOf, undosOf-end, undosOf-step}
+use Rattle.spelling.proofs.Undo.{undosOf, undosOf-end, undosOf-step}
 use Rattle.resolve_undo.specs.declared.Record.{Record}
 use Rattle.resolve_undo.specs.declared.RecordRead.the-variants as R
 use Rattle.format.specs.Places.{undoStart}

@@ -18,8 +18,8 @@ use Rattle.format_laws.proofs.Tests.{and-inv, and-both}
 use Rattle.format_laws.proofs.Lists.{eqList-true, eq-eqList}
 use Rattle.format_laws.proofs.Numbers.{bytes-take, bytes-drop, length-put32, be32-take, be32-at, be32-below, put32-be32}
 use Rattle.format_laws.proofs.Readings.{good-inv, need-inv, shift-inv, bind-inv}
-use Rattle.spelling_entries.proofs.Entries.{read-entries, entries-read}
-use Rattle.spelling_extensions.proofs.Extensions.{only-once, once-only, read-extensions, extensions-read}
+use Rattle.spelling.proofs.Entries.{read-entries, entries-read}
+use Rattle.spelling.proofs.Extensions.{only-once, once-only, read-extensions, extensions-read}
 
 -- ---- the header
 

@@ -1,2 +1,11 @@
 -- The whole file, as it is spelled and as it is read.
+pub mod Bytes
+pub mod Entries
+pub mod Extensions
 pub mod File
+pub mod Flags
+pub mod Fuel
+pub mod Names
+pub mod Texts
+pub mod Tree
+pub mod Undo

@@ -1,32 +1,25 @@
 -- Runs of names under one component, in a directory whose names rise, and a walk from one to the next.
-use mathlib.Core.Path.{_≡_, refl, sym, ap, ap₂, subst, _∙_}
+use mathlib.Core.Path.{_≡_, refl, sym, ap, subst, _∙_}
 use mathlib.Core.List.{List, [], _∷_, _++_, append-nil, append-assoc}
 use mathlib.Core.Bool.{Bool, true, false, _&&_}
 use mathlib.Core.Option.{some}
 use Prim.Native.Nat.{ℕ, _+_, _≤_}
 use native.Mathlib.Omega.{arith}
-use lib.ListN.{length, drop, length-append}
-use lib.Seq.{drop-drop}
+use lib.ListN.{length, drop}
 use Rattle.format.specs.Bytes.{eqList, lacks}
-use Rattle.format.specs.Names.{compare}
 use Rattle.format.specs.Records.{Forest, Tree}
-use Rattle.format.specs.Layout.{has, under, inside, isValid}
+use Rattle.format.specs.Layout.{has, under, isValid}
 use Rattle.format_laws.proofs.Tests.{clash, by-test, and-inv}
 use Rattle.format_laws.proofs.Lists.{eqList-true}
 use Rattle.tree_counts.specs.Judge.{says, weight, child, reached, judge, matched, Sound}
-use Rattle.tree_counts.specs.Runs.{notAbove, sortedFrom, begins, leads, trails, every, span, beyond, Run, Boundary, within, enter, runIn, Passed}
-use Rattle.tree_counts.proofs.Names.{under-one}
+use Rattle.entries_directory.specs.Names.{sortedFrom, begins, leads, trails, every, beyond, within, enter, runIn}
+use Rattle.tree_counts.specs.Runs.{Run, Boundary, Passed}
+use Rattle.entries_directory.proofs.Names.{under-one}
 use Rattle.tree_counts.proofs.Walk.{inside-length, has-reached, child-some, judge-found, matched-found}
-use Rattle.tree_counts.proofs.Order.{under-begins, under-convex, done-clear}
-use Rattle.tree_counts.proofs.Directory.{begins-append, compare-cut, first-least}
+use Rattle.entries_directory.proofs.Order.{under-convex, done-clear}
+use Rattle.entries_directory.proofs.Runs.{beyond-leads, within-end, within-step, beyond-step, within-sorted, runIn-every, runIn-inside, within-run, beyond-run, within-leads, beyond-end, runIn-some}
 
 -- ---- a run
-
-module _ (p : List ℕ → Bool) where
-  pub beyond-leads : (ss : List (List ℕ)) → leads p (beyond p ss) ≡ false
-  unfolding beyond leads
-  beyond-leads [] = refl
-  beyond-leads (s ∷ ss) = by-test (p s) (λ e. rw e (beyond-leads ss)) (λ e. rw e e)
 
 -- ---- from one run to the next
 
@@ -81,92 +74,6 @@ run-at f c a done (t ∷ run) rest lc k sorted l all h = record {
 
 -- ---- whole names
 
-pub within-top : (ss : List (List ℕ)) → within [] ss ≡ ss
-unfolding within span begins
-within-top [] = refl
-within-top (s ∷ ss) = ap (λ (l : List (List ℕ)). s ∷ l) (within-top ss)
-
-pub within-end : (q : List ℕ) (ss : List (List ℕ)) → leads (begins q) ss ≡ false → within q ss ≡ []
-unfolding within span leads
-within-end q [] e = refl
-within-end q (s ∷ ss) e = rw e
-
-module _ (q s : List ℕ) (ss : List (List ℕ)) (b : begins q s ≡ true) where
-  pub within-step : within q (s ∷ ss) ≡ drop (length q) s ∷ within q ss
-  unfolding within span
-  within-step = rw b
-
-  pub beyond-step : beyond (begins q) (s ∷ ss) ≡ beyond (begins q) ss
-  unfolding beyond
-  beyond-step = rw b
-
-within-after : (q s : List ℕ) (ss : List (List ℕ)) → begins q s ≡ true → sortedFrom s ss ≡ true → sortedFrom (drop (length q) s) (within q ss) ≡ true
-unfolding sortedFrom within span
-within-after q s [] b h = refl
-within-after q s (t ∷ ss) b h =
-    let i = and-inv (notAbove (compare s t)) (sortedFrom t ss) h in
-    by-test (begins q t)
-    (λ e. rw (e, compare-cut q s t b e, i .0) (within-after q t ss e (i .1)))
-    (λ e. rw e)
-
-pub within-sorted : (q a : List ℕ) (ss : List (List ℕ)) → sortedFrom a ss ≡ true → sortedFrom [] (within q ss) ≡ true
-unfolding sortedFrom within span
-within-sorted q a [] h = refl
-within-sorted q a (s ∷ ss) h =
-    let i = and-inv (notAbove (compare a s)) (sortedFrom s ss) h in
-    by-test (begins q s)
-    (λ e. rw (e, first-least (drop (length q) s)) (within-after q s ss e (i .1)))
-    (λ e. rw e)
-
--- a run is of the names of the directory one further down
-pub enter-begins : (q c s : List ℕ) → begins (enter q c) s ≡ (begins q s && under c (drop (length q) s))
-enter-begins q c s = begins-append q (c ++ (47 ∷ [])) s ∙ rw (under-begins c (drop (length q) s))
-
-module _ (q c : List ℕ) where
-  pub runIn-every : (ss : List (List ℕ)) → every (under c) (runIn q c ss) ≡ true
-  unfolding runIn span every
-  runIn-every [] = refl
-  runIn-every (s ∷ ss) =
-      by-test (begins (enter q c) s)
-      (λ e. rw (e, and-inv (begins q s) (under c (drop (length q) s)) (sym (enter-begins q c s) ∙ e) .1) (runIn-every ss))
-      (λ e. rw e)
-
-  pub runIn-inside : (ss : List (List ℕ)) → inside c (runIn q c ss) ≡ within (enter q c) ss
-  unfolding runIn within span inside
-  runIn-inside [] = refl
-  runIn-inside (s ∷ ss) =
-      by-test (begins (enter q c) s)
-      (λ e.
-      rw (e, and-inv (begins q s) (under c (drop (length q) s)) (sym (enter-begins q c s) ∙ e) .1)
-      (ap₂ _∷_ (drop-drop (length c + 1) (length q) s ∙ ap (λ (n : ℕ). drop n s) further) (runIn-inside ss)))
-      (λ e. rw e)
-    where
-      further : length q + (length c + 1) ≡ length (enter q c)
-      further = omega (arith, length-append q (c ++ (47 ∷ [])), length-append c (47 ∷ []))
-
-  pub within-run : (ss : List (List ℕ)) → within q ss ≡ runIn q c ss ++ within q (beyond (begins (enter q c)) ss)
-  unfolding runIn within span beyond
-  within-run [] = refl
-  within-run (s ∷ ss) =
-      by-test (begins (enter q c) s)
-      (λ e.
-      rw (e, and-inv (begins q s) (under c (drop (length q) s)) (sym (enter-begins q c s) ∙ e) .0)
-      (ap (λ (l : List (List ℕ)). drop (length q) s ∷ l) (within-run ss)))
-      (λ e. rw e)
-
-  pub beyond-run : (ss : List (List ℕ)) → beyond (begins q) (beyond (begins (enter q c)) ss) ≡ beyond (begins q) ss
-  unfolding beyond
-  beyond-run [] = refl
-  beyond-run (s ∷ ss) =
-      by-test (begins (enter q c) s)
-      (λ e. rw (e, and-inv (begins q s) (under c (drop (length q) s)) (sym (enter-begins q c s) ∙ e) .0) (beyond-run ss))
-      (λ e. rw e)
-
-  pub within-leads : (ss : List (List ℕ)) → leads (under c) (within q ss) ≡ leads (begins (enter q c)) ss
-  unfolding within span leads
-  within-leads [] = refl
-  within-leads (s ∷ ss) = rw (enter-begins q c s) (by-test (begins q s) (λ e. rw e) (λ e. rw e))
-
 -- ---- a walk over the names in a directory
 
 pub passed-start : (f : Forest) (q : List ℕ) (ss : List (List ℕ)) → Passed f q ss [] ss
@@ -183,11 +90,6 @@ passed-name f q whole done s ss b free h = record {
   left = sym (beyond-step q s ss b) ∙ h .left;
   edge = boundary-pass f done (drop (length q) s) (within q ss) free;
 }
-
--- past the run of a sibling's names, which is what is left of the names in its directory
-runIn-some : (q c s : List ℕ) (ss : List (List ℕ)) → begins (enter q c) s ≡ true → 1 ≤ length (runIn q c (s ∷ ss))
-unfolding runIn span
-runIn-some q c s ss b = rw b (omega arith)
 
 module _ (f : Forest) (q c a : List ℕ) (whole done : List (List ℕ)) (s : List ℕ) (ss : List (List ℕ)) (t : Tree) (lc : lacks 47 c ≡ true)
     (found : child c f ≡ some t) (sorted : sortedFrom a whole ≡ true) (b : begins (enter q c) s ≡ true) (h : Passed f q whole done (s ∷ ss)) where
@@ -226,12 +128,6 @@ module _ (f : Forest) (q c a : List ℕ) (whole done : List (List ℕ)) (s : Lis
   pub matched-run : Sound f
       → matched (done ++ runIn q c (s ∷ ss)) f ≡ matched done f + (weight (t .root .count) + matched (within (enter q c) (s ∷ ss)) (t .subtrees))
   matched-run d = matched-found c done (runIn q c (s ∷ ss)) f run-here d t found ∙ rw (runIn-inside q c (s ∷ ss))
-
--- where the next name is outside the directory, or there is none, all of its names have been passed
-pub beyond-end : (p : List ℕ → Bool) (ss : List (List ℕ)) → leads p ss ≡ false → beyond p ss ≡ ss
-unfolding leads beyond
-beyond-end p [] e = refl
-beyond-end p (s ∷ ss) e = rw e
 
 pub passed-end : (f : Forest) (q : List ℕ) (whole done ss : List (List ℕ)) → leads (begins q) ss ≡ false → Passed f q whole done ss
     → (done ≡ within q whole) × (ss ≡ beyond (begins q) whole)

@@ -5,7 +5,7 @@ use Prim.Native.Nat.{ℕ, _+_, _≤_}
 use native.Mathlib.Omega.{arith}
 use lib.Dec.{eqb}
 use borrow.Author.Tests.{eqb-true, eqb-false, eq-eqb, ne-eqb}
-use Rattle.format_laws.proofs.Tests.{by-test, then-inv}
+use Rattle.format_laws.proofs.Tests.{by-test}
 
 pub or-false-inv : (a b : Bool) → cond a true b ≡ false → (a ≡ false) × (b ≡ false)
 or-false-inv true b e = absurd (true≢false e)
@@ -15,10 +15,6 @@ or-false-inv false b e = (refl, e)
 pub and-when : (a a′ b : Bool) → (b ≡ true → a ≡ a′) → (a && b) ≡ (a′ && b)
 and-when a a′ true h = rw (h refl)
 and-when a a′ false h = and-false a ∙ sym (and-false a′)
-
--- equal heads
-pub head-inv : (x y : ℕ) (b : Bool) → cond (eqb x y) b false ≡ true → (x ≡ y) × (b ≡ true)
-head-inv x y b e = let i = then-inv (eqb x y) b e in (eqb-true x y (i .0), i .1)
 
 -- two sums, part by part at most: equal where their parts are
 pub sums-equal : (a b c d : ℕ) → a ≤ c → b ≤ d → eqb (a + b) (c + d) ≡ (eqb a c && eqb b d)

@@ -15,9 +15,10 @@ use Rattle.format_laws.proofs.Tests.{false-true, clash, by-test, and-inv}
 use Rattle.format_laws.proofs.Lists.{eqList-true}
 use Rattle.format_laws.proofs.Readings.{none-some}
 use Rattle.tree_counts.specs.Judge.{says, weight, child, reached, covered, counted, hit, judgeEach, judge, matched, Sound}
-use Rattle.tree_counts.specs.Runs.{every, never, Run}
+use Rattle.entries_directory.specs.Names.{every, never}
+use Rattle.tree_counts.specs.Runs.{Run}
 use Rattle.tree_counts.proofs.Tests.{or-false-inv}
-use Rattle.tree_counts.proofs.Names.{under-slash, under-one}
+use Rattle.entries_directory.proofs.Names.{under-slash, under-one}
 use Rattle.tree_counts.proofs.Siblings.{sound-name, sound-new, sound-kids, sound-after, unreached, file-unreached}
 
 -- ---- the names in a directory

@@ -15,11 +15,12 @@ use Rattle.format.specs.Layout.{distinct}
 use Rattle.tree_counts.specs.Judge.{child}
 use Rattle.format_laws.proofs.Tests.{by-test}
 use Rattle.format_laws.proofs.Lists.{eqList-true}
-use Rattle.cache_tree.specs.Flat.{treesLength, nameOf, Reads}
+use Rattle.tree_nodes.specs.Flat.{treesLength, nameOf, Reads}
 use Rattle.tree_search.specs.Siblings.{Last, FoundAt}
 use Rattle.tree_search.specs.Keys.{probe, slotOf, keyOf}
 use Rattle.tree_search.specs.Table.{keyIn, slotFor, Wanted, noteAt, noted, Inside, Noted, Known}
-use Rattle.tree_search.proofs.Siblings.{reads-empty, child-none, last-one, last-next, last-here, last-on}
+use Rattle.tree_nodes.proofs.Trees.{reads-empty}
+use Rattle.tree_search.proofs.Siblings.{child-none, last-one, last-next, last-here, last-on}
 use Rattle.tree_search.proofs.Slots.{probe-same, probe-most, three-length, three-other, three-first, three-second, three-third}
 
 pub slot-most : (t y : List ℕ) → slotFor t y < 1024

@@ -3,7 +3,7 @@ use mathlib.Core.Path.{_≡_, refl, sym, ap, subst, _∙_}
 use mathlib.Core.List.{List, []}
 use mathlib.Core.Bool.{true, false, not}
 use mathlib.Core.Option.{none, some}
-use Prim.Native.Nat.{ℕ, suc, _+_, _-_, _≤_, _<_}
+use Prim.Native.Nat.{ℕ, _+_, _-_, _≤_, _<_}
 use native.Mathlib.Omega.{arith}
 use lib.ListN.{take, drop}
 use lib.Seq.{drop-drop}
@@ -11,65 +11,16 @@ use borrow.Author.Tests.{not-true}
 use Rattle.format.specs.Bytes.{eqList, before}
 use Rattle.format.specs.Records.{Node, Forest, nil, tree, Tree}
 use Rattle.format.specs.Layout.{has, distinct}
-use Rattle.format.specs.Reading.{good}
-use Rattle.format.specs.Reader.{Head, readNode}
 use Rattle.tree_counts.specs.Judge.{child}
 use Rattle.format_laws.proofs.Tests.{clash, by-test, and-inv₃}
 use Rattle.format_laws.proofs.Lists.{eqList-true}
 use Rattle.format_laws.proofs.Readings.{none-some}
 use Rattle.tree_counts.proofs.Walk.{child-some}
-use Rattle.cache_tree.specs.Flat.{treesLength, nameOf, Reads, reads-none, reads-more}
-use Rattle.tree_nodes.proofs.Nodes.{node-named}
-use Rattle.cache_tree.proofs.Flat.{trees-none, trees-step, reads-length}
+use Rattle.tree_nodes.specs.Flat.{treesLength, nameOf, Reads, reads-none, reads-more}
 use Rattle.tree_search.specs.Siblings.{Last, FoundAt}
+use Rattle.tree_nodes.proofs.Trees.{First, reads-first, reads-empty, first-length, first-named}
 
 -- ---- the first of some siblings
-
-pub record First (s : List ℕ) (f : Forest) (k : ℕ) : Type 0 where
-  pub head : Head
-  pub kids : Forest
-  pub after : Forest
-  pub own : ℕ
-  pub below : ℕ
-  pub rest : ℕ
-  pub is : f ≡ tree (head .node) kids after
-  pub node : readNode 20 0 s ≡ good head own
-  pub reads-kids : Reads (drop own s) kids (head .subtrees) below
-  pub reads-after : Reads (drop below (drop own s)) after (k - 1) rest
-
-pub reads-first : (s : List ℕ) (f : Forest) (k m : ℕ) → Reads s f k m → 0 < k → First s f k
-reads-first s _ _ _ reads-none l = absurd (omega arith)
-reads-first s _ _ _ (reads-more {h = h} {kids = kids} {after = after} {a = a} {b = b} {c = c} {k = k} q r t) l =
-    let e : k ≡ suc k - 1 = omega arith in
-    record {
-      head = h;
-      kids = kids;
-      after = after;
-      own = a;
-      below = b;
-      rest = c;
-      is = refl;
-      node = q;
-      reads-kids = r;
-      reads-after = subst (λ (n : ℕ). Reads (drop b (drop a s)) after n c) e t;
-    }
-
-pub reads-empty : (s : List ℕ) (f : Forest) (k m : ℕ) → Reads s f k m → k ≤ 0 → f ≡ nil
-reads-empty s _ _ _ reads-none l = refl
-reads-empty s _ _ _ (reads-more q r t) l = absurd (omega arith)
-
--- a node and its subtrees reach up to the sibling after it
-pub first-length : (s : List ℕ) (f : Forest) (k : ℕ) (x : First s f k) → treesLength 1 s ≡ x .own + x .below
-first-length s f k x =
-    let e : treesLength 1 s ≡ x .own + treesLength (0 + x .head .subtrees) (drop (x .own) s) = trees-step 0 s (x .head) (x .own) (x .node) in
-    let i : treesLength (x .head .subtrees + 0) (drop (x .own) s) ≡ x .below + treesLength 0 (drop (x .below) (drop (x .own) s)) = reads-length _ _ _ _ (x .reads-kids) 0 in
-    let z : treesLength 0 (drop (x .below) (drop (x .own) s)) ≡ 0 = trees-none (drop (x .below) (drop (x .own) s)) in
-    let same : treesLength (0 + x .head .subtrees) (drop (x .own) s) ≡ treesLength (x .head .subtrees + 0) (drop (x .own) s) = ap (λ (n : ℕ). treesLength n (drop (x .own) s)) (omega arith) in
-    omega arith
-
-first-named : (s : List ℕ) (f : Forest) (k : ℕ) (x : First s f k) → nameOf s ≡ x .head .node .name
-unfolding nameOf
-first-named s f k x = sym (node-named 20 0 s (x .head) (x .own) (x .node) .0)
 
 -- ---- a search by name
 

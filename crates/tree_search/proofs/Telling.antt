@@ -11,7 +11,7 @@ use Rattle.format.specs.Bytes.{eqList}
 use Rattle.format.specs.Records.{Forest}
 use Rattle.format.specs.Layout.{distinct}
 use Rattle.format_laws.proofs.Tests.{and-inv₃}
-use Rattle.cache_tree.specs.Flat.{treesLength, nameOf, Reads}
+use Rattle.tree_nodes.specs.Flat.{treesLength, nameOf, Reads}
 use Rattle.tree_search.specs.declared.child.Child.the-variants as C
 use Rattle.tree_search.specs.declared.child.Answer.{Answer}
 use Rattle.tree_search.specs.declared.child.Answer.the-variants as A

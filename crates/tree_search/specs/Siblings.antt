@@ -7,22 +7,13 @@ use Prim.Native.Nat.{ℕ, _≤_}
 use lib.ListN.{length, drop}
 use Rattle.format.specs.Records.{Forest, Tree}
 use Rattle.format.specs.Layout.{distinct}
-use Rattle.format.specs.Reading.{good}
-use Rattle.format.specs.Reader.{readNode}
 use Rattle.tree_counts.specs.Judge.{child}
-use Rattle.cache_tree.specs.Flat.{Reads}
+use Rattle.tree_nodes.specs.Flat.{Reads}
 use Rattle.tree_search.specs.declared.child.Child.{Child}
 use Rattle.tree_search.specs.declared.child.Child.the-variants as C
 use Rattle.tree_search.specs.declared.child.Answer.{Answer}
 use Rattle.tree_search.specs.declared.child.Answer.the-variants as A
-
--- a tree that stands at a place: its root, and its subtrees after it
-pub record TreeAt (d : List ℕ) (place : ℕ) (t : Tree) : Type 0 where
-  pub subtrees : ℕ
-  pub own : ℕ
-  pub below : ℕ
-  pub node : readNode 20 0 (drop place d) ≡ good (record { node = t .root; subtrees = subtrees }) own
-  pub kids : Reads (drop own (drop place d)) (t .subtrees) subtrees below
+use Rattle.tree_nodes.specs.Flat.{TreeAt}
 
 -- the last of the siblings f stand from a place on, so many
 pub record Last (d : List ℕ) (f : Forest) (place left : ℕ) : Type 0 where

@@ -12,7 +12,7 @@ use Rattle.format.specs.Bytes.{eqList}
 use Rattle.format.specs.Records.{Forest, nil}
 use Rattle.format.specs.Layout.{distinct}
 use Rattle.tree_counts.specs.Judge.{child}
-use Rattle.cache_tree.specs.Flat.{nameOf, Reads}
+use Rattle.tree_nodes.specs.Flat.{nameOf, Reads}
 use Rattle.tree_search.specs.Siblings.{Last, Lane}
 use Rattle.tree_search.specs.Keys.{keyOf, slotOf}
 

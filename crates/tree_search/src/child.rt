@@ -1,18 +1,18 @@
 // The sibling of a name, found without a table.
-use cache_tree::walk::after_tree;
 use fields::compare;
 use fields::find;
 use fields::same;
 use format::Order;
 use tree_nodes::node::NodeRead;
 use tree_nodes::node::read_node;
+use tree_nodes::passes::after_tree;
 ghost use mathlib.Core.Path.{_≡_};
 ghost use mathlib.Core.Bool.{true};
 ghost use Prim.Native.Nat.{ℕ, _≤_};
 ghost use lib.ListN.{length, drop};
 ghost use Rattle.format.specs.Bytes.{eqList};
 ghost use Rattle.format.specs.Records.{Forest};
-ghost use Rattle.cache_tree.specs.Flat.{nameOf};
+ghost use Rattle.tree_nodes.specs.Flat.{nameOf};
 ghost use Rattle.tree_search.specs.Siblings.{Last, Answered, placeOfAnswer, Lane, Told, Finds};
 
 // Where the sibling is, and how many there are from it on.

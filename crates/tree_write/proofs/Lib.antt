@@ -1,7 +1,7 @@
 -- Laws of what is written of a cache tree.
-pub mod Nodes
-pub mod Trees
 pub mod Names
-pub mod Ways
+pub mod Nodes
 pub mod Steps
+pub mod Trees
+pub mod Ways
 pub mod Wholes

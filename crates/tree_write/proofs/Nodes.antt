@@ -15,8 +15,8 @@ use Rattle.format.specs.Writer.{decimalOf, writeCount, writeObject, writeNode}
 use Rattle.format.specs.Requests.{invalidNode}
 use Rattle.format_laws.proofs.Tests.{false-true}
 use Rattle.format_laws.proofs.Texts.{before-at, after-text}
-use Rattle.spelling_extensions.proofs.Texts.{count-lacks}
-use Rattle.spelling_extensions.proofs.Tree.{node-read}
+use Rattle.spelling.proofs.Texts.{count-lacks}
+use Rattle.spelling.proofs.Tree.{node-read}
 use Rattle.writing.proofs.Decimals.{decimalOf-value}
 use Rattle.writing.proofs.Copies.{valid-copied}
 use Rattle.tree_nodes.specs.declared.node.Node as Code

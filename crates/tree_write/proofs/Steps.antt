@@ -16,12 +16,12 @@ use Rattle.tree_counts.proofs.Siblings.{sound-kids, sound-after}
 use Rattle.tree_nodes.specs.declared.node.Node as Code
 use Rattle.tree_nodes.specs.declared.node.NodeRead.the-variants as R
 use Rattle.tree_nodes.specs.Answers.{nodeAt}
-use Rattle.cache_tree.specs.Flat.{treesLength, Reads, reads-none, reads-more}
+use Rattle.tree_nodes.specs.Flat.{treesLength, Reads, reads-none, reads-more}
 use Rattle.format_laws.proofs.Lists.{drop-to}
 use Rattle.tree_nodes.proofs.Nodes.{NodeIs, node-is}
-use Rattle.cache_tree.proofs.Flat.{reads-width, reads-length, trees-none}
-use Rattle.tree_search.proofs.Siblings.{First, reads-first, reads-empty, first-length}
-use Rattle.tree_search.proofs.Trees.{chain, reads-chain, reads-at, NodeAt, node-at, no-bad}
+use Rattle.tree_nodes.proofs.Flat.{reads-width, reads-length, trees-none}
+use Rattle.tree_nodes.proofs.Trees.{First, reads-first, reads-empty, first-length}
+use Rattle.tree_nodes.proofs.Trees.{chain, reads-chain, reads-at, NodeAt, node-at, no-bad}
 use Rattle.output.specs.Output.{Wrote}
 use Rattle.output.proofs.Laws.{wrote-then}
 use Rattle.tree_write.specs.declared.Way.{Way}

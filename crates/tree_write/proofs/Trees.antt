@@ -11,10 +11,10 @@ use Rattle.tree_nodes.specs.declared.node.Node as Code
 use Rattle.tree_nodes.specs.declared.node.NodeRead.the-variants as R
 use Rattle.tree_nodes.specs.Answers.{nodeAt}
 use Rattle.format_laws.proofs.Lists.{drop-to}
-use Rattle.cache_tree.specs.Flat.{Reads}
-use Rattle.cache_tree.proofs.Flat.{reads-width}
-use Rattle.tree_search.proofs.Siblings.{First, reads-first, reads-empty}
-use Rattle.tree_search.proofs.Trees.{chain, reads-chain, reads-at, NodeAt, node-at, no-bad}
+use Rattle.tree_nodes.specs.Flat.{Reads}
+use Rattle.tree_nodes.proofs.Flat.{reads-width}
+use Rattle.tree_nodes.proofs.Trees.{First, reads-first, reads-empty}
+use Rattle.tree_nodes.proofs.Trees.{chain, reads-chain, reads-at, NodeAt, node-at, no-bad}
 use Rattle.output.specs.Output.{Wrote}
 use Rattle.output.proofs.Laws.{wrote-nothing, wrote-then}
 use Rattle.tree_write.specs.Written.{NodeHere, asIs, NodeWritten}

@@ -12,7 +12,7 @@ use Rattle.tree_counts.specs.Judge.{reached, Sound}
 use Rattle.format_laws.proofs.Tests.{by-test}
 use Rattle.tree_counts.proofs.Tests.{or-false-inv}
 use Rattle.tree_counts.proofs.Siblings.{sound-name, sound-new, sound-after, unreached}
-use Rattle.tree_search.proofs.Trees.{chain}
+use Rattle.tree_nodes.proofs.Trees.{chain}
 use Rattle.tree_write.proofs.Trees.{write-nil, write-tree, write-chain}
 
 module _ (w : ℕ) (name : List ℕ) where

@@ -16,10 +16,10 @@ use Rattle.tree_nodes.specs.declared.node.Node as Code
 use Rattle.tree_nodes.specs.declared.node.NodeRead.the-variants as R
 use Rattle.tree_nodes.specs.Answers.{nodeAt}
 use Rattle.format_laws.proofs.Lists.{drop-to}
-use Rattle.cache_tree.specs.Flat.{reads-none, reads-more}
-use Rattle.cache_tree.proofs.Flat.{reads-width}
-use Rattle.tree_search.specs.Siblings.{TreeAt}
-use Rattle.tree_search.proofs.Trees.{reads-at, NodeAt, node-at, no-bad, tree-at}
+use Rattle.tree_nodes.specs.Flat.{reads-none, reads-more}
+use Rattle.tree_nodes.proofs.Flat.{reads-width}
+use Rattle.tree_nodes.specs.Flat.{TreeAt}
+use Rattle.tree_nodes.proofs.Trees.{reads-at, NodeAt, node-at, no-bad, tree-at}
 use Rattle.output.specs.Output.{Wrote}
 use Rattle.output.proofs.Laws.{wrote-then}
 use Rattle.tree_write.specs.declared.Passed.{Passed}

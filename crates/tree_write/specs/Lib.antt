@@ -1,3 +1,3 @@
 -- What the crate's contracts cite.
-pub mod Written
 pub mod Steps
+pub mod Written

@@ -7,7 +7,7 @@ use Rattle.format.specs.Records.{Forest}
 use Rattle.format.specs.Writer.{writeForest}
 use Rattle.format.specs.Requests.{invalidWay}
 use Rattle.tree_counts.specs.Judge.{Sound}
-use Rattle.cache_tree.specs.Flat.{Reads}
+use Rattle.tree_nodes.specs.Flat.{Reads}
 use Rattle.output.specs.Output.{Wrote}
 use Rattle.tree_write.specs.declared.Way.{Way}
 use Rattle.tree_write.specs.Written.{Room}

@@ -14,7 +14,7 @@ use Rattle.tree_counts.specs.Judge.{Sound}
 use Rattle.tree_nodes.specs.declared.node.Node.{Node}
 use Rattle.tree_nodes.specs.declared.node.NodeRead.the-variants as R
 use Rattle.tree_nodes.specs.Answers.{nodeAt}
-use Rattle.cache_tree.specs.Flat.{treesLength, Reads}
+use Rattle.tree_nodes.specs.Flat.{treesLength, Reads}
 use Rattle.output.specs.Output.{Wrote}
 use Rattle.tree_write.specs.declared.Passed.{Passed}
 

@@ -9,8 +9,8 @@ use Rattle.format.specs.Reading.{need, shift, bind}
 use Rattle.format.specs.Reader.{isSet, okWord, plainLength, readPlain, readName, entryOf, readTail, readFixed, readEntry}
 use Rattle.format.specs.Places.{bodyIn, namePlace}
 use Rattle.format.proofs.Examples.{fileEntry, listing}
-use Rattle.file.specs.declared.Shown.the-variants.{InFile}
-use Rattle.file.specs.Answers.{refused, inFile, entryShown}
+use Rattle.answers.specs.declared.Shown.the-variants.{InFile}
+use Rattle.answers.specs.Answers.{refused, inFile, entryShown}
 use Rattle.walk.specs.Walks.{placeAt, firstPlace, walkable, walkRead, walkAnswer, placeAfter, placeAfterAll, walkOver}
 
 -- both entries, then 18

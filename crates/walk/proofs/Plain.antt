@@ -12,7 +12,7 @@ use Rattle.format.specs.Reader.{readPlain, readName, entryOf, readTail, readEnt
 use Rattle.format.specs.Requests.{goesBefore}
 use Rattle.format_laws.proofs.Keys.{start-before}
 use Rattle.format_laws.proofs.Readings.{good-inv, need-inv, bind-inv, bind-good}
-use Rattle.spelling_entries.proofs.Names.{name-read}
+use Rattle.spelling.proofs.Names.{name-read}
 use Rattle.entries.proofs.Before.{readEntry-head}
 
 module _ (w v p : ℕ) (old : eqb v 4 ≡ false) where

@@ -14,10 +14,10 @@ use Rattle.format.specs.Reader.{Contents, readEntries, readFile}
 use Rattle.format.specs.Places.{bodyIn}
 use Rattle.format_laws.proofs.Tests.{by-test, and-inv, and-both, cond-inv}
 use Rattle.hash.specs.Sha1.{sha1}
-use Rattle.file.specs.Answers.{tooSmall, pick, given, entryAnswer}
-use Rattle.file.proofs.Laws.{item-none}
-use Rattle.file_contents.proofs.Files.{file-says}
-use Rattle.file_contents.proofs.Bodies.{entries-length}
+use Rattle.answers.specs.Answers.{tooSmall, pick, given, entryAnswer}
+use Rattle.answers.proofs.Laws.{item-none}
+use Rattle.file_read.proofs.Files.{file-says}
+use Rattle.file_read.proofs.Bodies.{entries-length}
 use Rattle.walk.specs.declared.Started.the-variants.{Refused, Ready}
 use Rattle.walk.specs.Walks.{startedOf, startAnswer, walkable}
 use Rattle.walk.proofs.Steps.{steps-show, steps-named, steps-show-all}

@@ -15,19 +15,21 @@ use Rattle.format.specs.Layout.{fixedLength, DIRC}
 use Rattle.format.specs.Reading.{Read, bad, need, shift}
 use Rattle.format.specs.Reader.{readPlain, entryOf, readEntry}
 use Rattle.format.specs.Places.{bodyIn, namePlace}
-use Rattle.spelling_entries.proofs.Entries.{entry-takes}
+use Rattle.spelling.proofs.Entries.{entry-takes}
 use Rattle.entries.specs.declared.Head.{Head}
 use Rattle.entries.specs.declared.Fixed.the-variants as F
 use Rattle.entries.specs.declared.Text.the-variants as T
 use Rattle.entries.specs.Answers.{readHead, fixedOf, textOf}
 use Rattle.entries.proofs.Before.{readEntry-bad, readEntry-good, head-size}
 use Rattle.entries.proofs.Names.{readPlain-bad, readPlain-good}
-use Rattle.file.specs.declared.EntryAnswer.{EntryAnswer}
-use Rattle.file.specs.declared.Fields.{Fields}
-use Rattle.file.specs.declared.Shown.{Shown}
-use Rattle.file.specs.declared.Shown.the-variants as S
-use Rattle.file.specs.Answers.{View, refused, inFile, partIn, nameIn, entryWith, entrySaid, refusedEntry, entryShown}
-use Rattle.file.proofs.Laws.{part-in, part-within, fields-are}
+use Rattle.answers.specs.declared.EntryAnswer.{EntryAnswer}
+use Rattle.entries.specs.declared.record.Fields.{Fields}
+use Rattle.answers.specs.declared.Shown.{Shown}
+use Rattle.answers.specs.declared.Shown.the-variants as S
+use Rattle.answers.specs.Answers.{View, refused, inFile, partIn, nameIn, entrySaid, refusedEntry, entryShown}
+use Rattle.entries.specs.Record.{entryWith}
+use Rattle.answers.proofs.Laws.{part-in, part-within}
+use Rattle.entries.proofs.Fields.{fields-are}
 use Rattle.walk.specs.declared.Sight.{Sight}
 use Rattle.walk.specs.declared.Sight.the-variants.{Nothing, Found}
 use Rattle.walk.specs.Walks.{placeAt, walkable, or18, walkRead, walkAnswer, nameShown, placeAfter, StepShows}

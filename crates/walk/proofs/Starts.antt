@@ -6,9 +6,9 @@ use Prim.Native.Nat.{ℕ}
 use borrow.Author.Tests.{ne-eqb}
 use Rattle.format.specs.Reading.{Read, bad}
 use Rattle.format.specs.Reader.{Contents}
-use Rattle.file.specs.Answers.{tooSmall}
-use Rattle.file_contents.specs.declared.Parts.{Parts}
-use Rattle.file_contents.specs.Contents.{inRoom, Contains}
+use Rattle.answers.specs.Answers.{tooSmall}
+use Rattle.file_read.specs.declared.Parts.{Parts}
+use Rattle.file_read.specs.Contents.{inRoom, Contains}
 use Rattle.walk.specs.declared.Started.the-variants.{Refused, Ready}
 use Rattle.walk.specs.Walks.{startedOf, startAnswer}
 

@@ -10,7 +10,7 @@ use Rattle.format.specs.Records.{Entry}
 use Rattle.format.specs.Reading.{good}
 use Rattle.format.specs.Reader.{Contents, readFile}
 use Rattle.format.specs.Places.{bodyIn, namePlace, entryNamePlace}
-use Rattle.file.specs.Answers.{View, refused, inFile, pick, entryAnswer}
+use Rattle.answers.specs.Answers.{View, refused, inFile, pick, entryAnswer}
 use Rattle.walk.specs.declared.Place.{Place}
 use Rattle.walk.specs.declared.Started.the-variants.{Ready}
 use Rattle.walk.specs.Walks.{startAnswer, firstPlace, walkAnswer, placeAfterAll, walkOver}

@@ -17,7 +17,7 @@ use Rattle.format.specs.Reader.{readEntry, readEntries}
 use Rattle.format.specs.Places.{bodyIn, taken, entryPlace, namePlace, entryNamePlace}
 use Rattle.format_laws.proofs.Tests.{and-inv₃, or-inv}
 use Rattle.format_laws.proofs.Readings.{good-inv, bind-inv, same-size}
-use Rattle.file.specs.Answers.{View, inFile, pick}
+use Rattle.answers.specs.Answers.{View, inFile, pick}
 use Rattle.walk.specs.declared.Place.{Place}
 use Rattle.walk.specs.Walks.{placeAt, walkable, or18, walkRead, viewIn, walkAnswer, placeAfter, placeAfterAll, walkOver}
 use Rattle.walk.proofs.Plain.{any-key}

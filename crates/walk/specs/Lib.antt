@@ -1,3 +1,3 @@
 -- What a walk over the entries of a file answers.
-pub mod Walks
 pub mod Sights
+pub mod Walks

@@ -11,8 +11,8 @@ use Rattle.format.specs.Layout.{DIRC}
 use Rattle.format.specs.Reading.{Read, bad, good, need}
 use Rattle.format.specs.Reader.{Contents, readEntry}
 use Rattle.format.specs.Places.{bodyIn, taken}
-use Rattle.file.specs.declared.EntryAnswer.{EntryAnswer}
-use Rattle.file.specs.Answers.{View, refused, inFile, inWorkspace, tooSmall, entrySaid, entryShown, Inside}
+use Rattle.answers.specs.declared.EntryAnswer.{EntryAnswer}
+use Rattle.answers.specs.Answers.{View, refused, inFile, inWorkspace, tooSmall, entrySaid, entryShown, Inside}
 use Rattle.walk.specs.declared.Started.{Started}
 use Rattle.walk.specs.declared.Started.the-variants.{Refused, Ready}
 use Rattle.walk.specs.declared.Place.{Place}

@@ -8,16 +8,16 @@ ghost use Rattle.format.specs.Records as F;
 ghost use Rattle.format.specs.Reader.{readEntry, readFile};
 ghost use Rattle.format.specs.Places.{bodyIn, namePlace};
 ghost use Rattle.hash.specs.Sha1.{sha1};
-ghost use Rattle.file.specs.Answers.{cleared};
+ghost use Rattle.answers.specs.Answers.{cleared};
 ghost use Rattle.walk.specs.Walks.{startAnswer, placeAt, firstPlace, or18, walkRead, walkAnswer, nameShown, placeAfter, StepShows};
 ghost use Rattle.walk.specs.Walks as W;
 ghost use Rattle.walk.specs.Sights.{Sees};
+use answers::EntryAnswer;
+use answers::Shown;
 use entries::Fixed;
 use entries::Head;
 use entries::Text;
-use file::EntryAnswer;
-use file::Shown;
-use file_contents::Whole;
+use file_read::Whole;
 
 // The answer of start: a refusal's number and place, or how many entries a walk has before it.
 pub enum Started {
@@ -122,7 +122,7 @@ pub fn step_at(file: &[u8], at: usize, left: u32) -> Step
     let less = fewer(left);
     match sight {
         Sight::Nothing => Step {
-            answer: file::refused_entry(18, 0),
+            answer: answers::refused_entry(18, 0),
             next: Place { at: at, left: less },
         },
         Sight::Found(h, length, m) => {
@@ -132,7 +132,7 @@ pub fn step_at(file: &[u8], at: usize, left: u32) -> Step
             Step {
                 answer: EntryAnswer {
                     shown: Shown::InFile(name, length),
-                    fields: file::fields_at(&file[..n], at, h.flags, h.word),
+                    fields: entries::record::fields_at(&file[..n], at, h.flags, h.word),
                 },
                 next: Place {
                     at: end,
@@ -158,7 +158,7 @@ pub fn name_at<'a>(file: &'a [u8], at: usize, left: u32) -> &'a [u8]
 {
     let answer = entry_at(file, at, left);
     let shown = answer.shown;
-    file::part_of(file, shown)
+    answers::part_of(file, shown)
 }
 
 // The place alone.
@@ -176,7 +176,7 @@ pub fn place_after(file: &[u8], at: usize, left: u32) -> Place
 pub fn start(file: &[u8], work: &mut [u8]) -> Started
     ensures { λ r. ⌜ (r ≡ startAnswer (now (work .entry)) (readFile 20 sha1 (now (file .entry)))) × (now (work .exit) ≡ cleared (now (work .entry))) ⌝ }
 {
-    let whole = file_contents::read_cleared(file, work);
+    let whole = file_read::read_cleared(file, work);
     match whole {
         Whole::Bad(n, p) => Started::Refused(n, p),
         Whole::Good(parts) => {

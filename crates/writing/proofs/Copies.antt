@@ -12,8 +12,8 @@ use Rattle.format.specs.Reading.{good}
 use Rattle.format.specs.Reader.{Head, readNode, readUndos}
 use Rattle.format.specs.Writer.{decimalOf, writeCount, writeObject, writeNode, writeStage, writeUndo, writeUndos}
 use Rattle.format_laws.proofs.Tests.{by-test}
-use Rattle.spelling_extensions.proofs.Tree.{node-read}
-use Rattle.spelling_extensions.proofs.Undo.{undos-read}
+use Rattle.spelling.proofs.Tree.{node-read}
+use Rattle.spelling.proofs.Undo.{undos-read}
 use Rattle.writing.proofs.Decimals.{decimalOf-value}
 
 -- ---- resolve undo: the whole data

@@ -13,7 +13,7 @@ use Rattle.format.specs.Layout.{fixedLength, okExtended, IsEntry, Entries, entr
 use Rattle.format.specs.Writer.{needsWord, writeName, writeRest, writeEntry, writeEntries}
 use Rattle.format.specs.Requests.{anyWord}
 use Rattle.format_laws.proofs.Tests.{false-true, by-test}
-use Rattle.spelling_entries.proofs.Entries.{entry-long}
+use Rattle.spelling.proofs.Entries.{entry-long}
 use Rattle.writing.specs.Sound.{SoundEntry, SoundEntries, entries-none, entries-next}
 use Rattle.writing.proofs.Names.{name-written}
 

@@ -1,3 +1,3 @@
 -- Records that a file can have, and the file that is written of them.
-pub mod Sound
 pub mod OneFile
+pub mod Sound

@@ -2,7 +2,7 @@
 use native.Mathlib.Omega.{arith}
 use borrow.Author.Needs.{needs}
 use Rattle.entries_run.proofs.Steps.{inside-first}
-use Rattle.entries_edit.proofs.Ways.{kept-laid}
+use Rattle.entries_edit.proofs.Edits.{kept-laid}
 use Rattle.entries_edit.proofs.put_kept.Statement.{statement}
 use Rattle.entries_edit.proofs.put_kept.Tie as tie
 

@@ -2,9 +2,9 @@
 use native.Mathlib.Omega.{arith}
 use borrow.Author.Needs.{needs}
 use Rattle.entries_run.proofs.Steps.{inside-first}
-use Rattle.file.specs.Answers.{entryWith}
-use Rattle.entries_rest.proofs.Ways.{cursor-kept}
-use Rattle.entries_edit.proofs.Ways.{put-word, with-laid}
+use Rattle.entries.specs.Record.{entryWith}
+use Rattle.entries_edit.proofs.Rests.{cursor-kept}
+use Rattle.entries_edit.proofs.Edits.{put-word, with-laid}
 use Rattle.entries_edit.proofs.put_with.Statement.{statement}
 use Rattle.entries_edit.proofs.put_with.Tie as tie
 

@@ -9,7 +9,7 @@ use Rattle.format.specs.Records.{Entry, start}
 use Rattle.format.specs.Layout.{TREE, REUC, names}
 use Rattle.format.specs.Reading.{good}
 use Rattle.format.specs.Reader.{readEntries}
-use Rattle.spelling_extensions.proofs.Extensions.{extensionsOf}
+use Rattle.spelling.proofs.Extensions.{extensionsOf}
 use Rattle.extensions.proofs.Places.{seeks-end}
 use Rattle.extensions.proofs.Runs.{Behind, behind-none, behind-end, behind-bad, behind-more}
 use Rattle.extensions.proofs.read_extensions.Statement.{statement}

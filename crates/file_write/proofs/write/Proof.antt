@@ -3,7 +3,7 @@ use mathlib.Core.Path.{_≡_, sym, _∙_}
 use mathlib.Core.Bool.{false, _&&_}
 use native.Mathlib.Omega.{arith}
 use lib.Dec.{eqb}
-use Rattle.file.specs.Answers.{entryWith}
+use Rattle.entries.specs.Record.{entryWith}
 use Rattle.file_write.specs.Results.{Measured, likeOf}
 use Rattle.file_write.proofs.Files.{file-worded, file-long-refused, file-small-refused, same-size, file-done}
 use borrow.Author.Needs.{needs}

@@ -7,8 +7,8 @@ use lib.Dec.{eqb}
 use borrow.Author.Tests.{eq-eqb, ne-eqb}
 use Rattle.format.specs.Places.{namePlace}
 use Rattle.entries_run.specs.Steps.{Placed}
-use Rattle.file_contents.specs.Contents.{bodyOf}
-use Rattle.file_contents.proofs.Room.{cleared-by, file-long}
+use Rattle.file_read.specs.Contents.{bodyOf}
+use Rattle.file_read.proofs.Room.{cleared-by, file-long}
 use Rattle.index.proofs.Views.{pick-none, entry-refused}
 use Rattle.index.proofs.Entries.{shown-file, shown-work}
 use borrow.Author.Needs.{needs}

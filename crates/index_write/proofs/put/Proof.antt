@@ -8,9 +8,9 @@ use Rattle.format.specs.Requests.{putRecord}
 use Rattle.hash.specs.Sha1.{sha1}
 use Rattle.hash.proofs.Bytes.{length-sha1}
 use Rattle.writing.specs.OneFile.{WritesBack}
-use Rattle.file.specs.Answers.{entryWith}
-use Rattle.file.specs.Writing.{putAnswer}
-use Rattle.file_contents.specs.Contents.{bodyOf, inRoom, Contains}
+use Rattle.entries.specs.Record.{entryWith}
+use Rattle.answers.specs.Writing.{putAnswer}
+use Rattle.file_read.specs.Contents.{bodyOf, inRoom, Contains}
 use Rattle.index_write.proofs.Answers.{call-refused, call-opened, call-answered}
 use Rattle.demands.proofs.Written.{put-in}
 use borrow.Author.Needs.{needs}

@@ -7,9 +7,9 @@ use lib.Seq.{length-take-le}
 use Rattle.format.specs.Reader.{readFile}
 use Rattle.format.specs.Requests.{writing}
 use Rattle.hash.specs.Sha1.{sha1}
-use Rattle.file.specs.Answers.{entryWith}
-use Rattle.file.proofs.Laws.{cleared-same}
-use Rattle.file_contents.proofs.Room.{file-long}
+use Rattle.entries.specs.Record.{entryWith}
+use Rattle.answers.proofs.Laws.{cleared-same}
+use Rattle.file_read.proofs.Room.{file-long}
 use Rattle.index_write.specs.Calls.{recordNumber}
 use Rattle.index_write.proofs.Files.{name-short}
 use Rattle.index_write.proofs.Edits.{put-changed, put-replaces}

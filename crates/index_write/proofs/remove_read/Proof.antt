@@ -8,9 +8,9 @@ use Rattle.format.specs.Bytes.{Bytes}
 use Rattle.format.specs.Reader.{readFile}
 use Rattle.format.specs.Requests.{writing}
 use Rattle.hash.specs.Sha1.{sha1}
-use Rattle.file.specs.Answers.{entryWith}
-use Rattle.file.proofs.Laws.{cleared-same}
-use Rattle.file_contents.proofs.Room.{file-long, cleared-by}
+use Rattle.entries.specs.Record.{entryWith}
+use Rattle.answers.proofs.Laws.{cleared-same}
+use Rattle.file_read.proofs.Room.{file-long, cleared-by}
 use Rattle.index_write.proofs.Files.{item-short}
 use Rattle.index_write.proofs.Edits.{remove-changed, holds-there, entry-there}
 use Rattle.index_write.proofs.Answers.{writes-bad, writes-as, remove-refused, remove-absent, remove-is}

@@ -5,7 +5,7 @@ use native.Mathlib.Omega.{arith}
 use lib.ListN.{length}
 use lib.Seq.{length-take-le}
 use Rattle.format.specs.Bytes.{Bytes}
-use Rattle.file_contents.proofs.Room.{file-long}
+use Rattle.file_read.proofs.Room.{file-long}
 use Rattle.index_write.proofs.Answers.{edit-ready, edit-writes}
 use borrow.Author.Needs.{needs}
 use Rattle.index_write.proofs.write_edited.Statement.{statement}

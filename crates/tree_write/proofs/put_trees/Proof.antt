@@ -7,9 +7,9 @@ use borrow.Author.Needs.{needs}
 use lib.ListN.{length, drop}
 use Rattle.format.specs.Records.{Forest}
 use Rattle.format.specs.Writer.{writeForest}
-use Rattle.cache_tree.specs.Flat.{treesLength, Reads}
+use Rattle.tree_nodes.specs.Flat.{treesLength, Reads}
 use Rattle.tree_nodes.proofs.Nodes.{node-is}
-use Rattle.cache_tree.proofs.Flat.{trees-end, trees-more, trees-stop}
+use Rattle.tree_nodes.proofs.Flat.{trees-end, trees-more, trees-stop}
 use Rattle.tree_write.specs.Written.{NodeHere}
 use Rattle.tree_write.proofs.Trees.{Left, left-start, left-end, left-stop, left-on}
 use Rattle.tree_write.proofs.put_trees.Statement.{statement}

@@ -7,7 +7,7 @@ use Rattle.format.specs.Records.{Forest}
 use Rattle.format.specs.Writer.{writeForest}
 use Rattle.format.specs.Requests.{invalidWay}
 use Rattle.tree_counts.specs.Judge.{Sound}
-use Rattle.cache_tree.specs.Flat.{Reads}
+use Rattle.tree_nodes.specs.Flat.{Reads}
 use Rattle.tree_write.specs.Steps.{Ready}
 use Rattle.tree_write.proofs.Steps.{way-start, way-end, Going, going-start, going-on}
 use Rattle.tree_write.proofs.put_way.Statement.{statement}

@@ -34,11 +34,11 @@ use denote.Triple.Clauses.{ensured, lasts}
 use Rattle.format.specs.Places.{bodyIn, namePlace}
 use Rattle.walk.specs.Walks.{walkAnswer, StepShows}
 use Rattle.walk.specs.declared.Walk.{Walk}
-use Rattle.file.specs.declared.EntryAnswer.{EntryAnswer}
+use Rattle.answers.specs.declared.EntryAnswer.{EntryAnswer}
 use Rattle.walk.proofs.Apart.{B, parts, D, L, mach, passed, vd, Own, apart}
 use Rattle.walk.proofs.Walk.Laws as T′
-use Rattle.file.proofs.EntryAnswer as S
-use Rattle.file.proofs.EntryAnswer.Laws as S′
+use Rattle.answers.proofs.EntryAnswer as S
+use Rattle.answers.proofs.EntryAnswer.Laws as S′
 use Rattle.walk.proofs.entry_at as called
 use Rattle.walk.proofs.entry_at.Symbol as called-def
 use Rattle.walk.proofs.entry_at.Symbol.{name as #walk·entry-at}

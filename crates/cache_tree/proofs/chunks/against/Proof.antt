@@ -3,7 +3,7 @@ use mathlib.Core.Path.{_≡_, refl, sym, _∙_}
 use Prim.Native.Nat.{_≤_}
 use native.Mathlib.Omega.{arith}
 use lib.ListN.{length, drop}
-use Rattle.cache_tree.specs.Flat.{namesOf}
+use Rattle.tree_nodes.specs.Flat.{namesOf}
 use Rattle.cache_tree.specs.Filter.{apart}
 use Rattle.cache_tree.proofs.Apart.{apart-end, apart-not, apart-next}
 use Rattle.cache_tree.proofs.chunks.against.Statement.{statement}

@@ -4,7 +4,7 @@ use Prim.Native.Nat.{_≤_}
 use native.Mathlib.Omega.{arith}
 use borrow.Author.Needs.{needs}
 use lib.ListN.{length, drop}
-use Rattle.cache_tree.specs.Flat.{namesOf, namesDiffer}
+use Rattle.tree_nodes.specs.Flat.{namesOf, namesDiffer}
 use Rattle.cache_tree.proofs.Differ.{differ-none}
 use Rattle.cache_tree.proofs.Apart.{clear-kept, chunk-whole, chunk-equal, chunk-known, chunk-apart}
 use Rattle.cache_tree.proofs.chunks.by_chunks.Statement.{statement}

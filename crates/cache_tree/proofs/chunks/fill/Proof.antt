@@ -4,7 +4,7 @@ use mathlib.Core.Bool.{true, false≢true}
 use Prim.Native.Nat.{_-_, _≤_}
 use native.Mathlib.Omega.{arith}
 use lib.ListN.{length, drop}
-use Rattle.cache_tree.specs.Flat.{namesOf, namesDiffer}
+use Rattle.tree_nodes.specs.Flat.{namesOf, namesDiffer}
 use Rattle.cache_tree.specs.Filter.{allMarked, restAfter}
 use Rattle.cache_tree.proofs.Apart.{after-start, differ-start, marked-start, fill-equal, fill-differ, fill-rest, fill-marked, fill-length, fill-kept, fill-all}
 use Rattle.cache_tree.proofs.chunks.fill.Statement.{statement}

@@ -3,7 +3,7 @@ use mathlib.Core.Path.{_≡_, refl, sym, _∙_}
 use Prim.Native.Nat.{_≤_}
 use native.Mathlib.Omega.{arith}
 use lib.ListN.{length, drop}
-use Rattle.cache_tree.specs.Flat.{nameOf, namesOf, hasName}
+use Rattle.tree_nodes.specs.Flat.{nameOf, namesOf, hasName}
 use Rattle.cache_tree.proofs.Differ.{has-none, has-first, has-later}
 use Rattle.cache_tree.proofs.chunks.has_name.Statement.{statement}
 use Rattle.cache_tree.proofs.chunks.has_name.Tie as tie

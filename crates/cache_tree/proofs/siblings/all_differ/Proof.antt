@@ -4,7 +4,7 @@ use Prim.Native.Nat.{_≤_}
 use native.Mathlib.Omega.{arith}
 use borrow.Author.Needs.{needs}
 use lib.ListN.{length, drop}
-use Rattle.cache_tree.specs.Flat.{allDiffer}
+use Rattle.tree_nodes.specs.Flat.{allDiffer}
 use Rattle.tree_nodes.proofs.Nodes.{NodeIs, node-is}
 use Rattle.cache_tree.proofs.Differ.{all-none, all-stop, all-more, all-not}
 use Rattle.cache_tree.proofs.siblings.all_differ.Statement.{statement}

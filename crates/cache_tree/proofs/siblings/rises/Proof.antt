@@ -3,7 +3,7 @@ use mathlib.Core.Path.{_≡_, refl, sym, _∙_}
 use Prim.Native.Nat.{_≤_}
 use native.Mathlib.Omega.{arith}
 use lib.ListN.{length, drop}
-use Rattle.cache_tree.specs.Flat.{nameOf, namesOf}
+use Rattle.tree_nodes.specs.Flat.{nameOf, namesOf}
 use Rattle.cache_tree.specs.Orders.{risesFrom}
 use Rattle.cache_tree.proofs.Differ.{rises-none, rises-not, rises-more, rises-last}
 use Rattle.cache_tree.proofs.siblings.rises.Statement.{statement}

@@ -6,7 +6,7 @@ use native.Mathlib.Omega.{arith}
 use lib.ListN.{length, drop}
 use Rattle.format.specs.Records.{Forest}
 use Rattle.format.specs.Layout.{distinct}
-use Rattle.cache_tree.specs.Flat.{Reads}
+use Rattle.tree_nodes.specs.Flat.{Reads}
 use Rattle.tree_search.specs.Table.{Inside}
 use Rattle.tree_search.proofs.Notes.{Noting, noting-start, noting-on, noting-end, noted-length, noted-inside, clear-inside, known-settled}
 use borrow.Author.Needs.{needs}

@@ -1,0 +1,197 @@
+-- Laws of the names that are ahead of a walk over the entries.
+use mathlib.Core.Path.{_≡_, refl, sym, ap, ap₂, subst, _∙_}
+use mathlib.Core.List.{List, [], _∷_}
+use mathlib.Core.Bool.{true, false, _&&_}
+use Prim.Native.Nat.{ℕ, _+_, _-_, _≤_, _<_}
+use native.Mathlib.Omega.{arith}
+use lib.ListN.{length, drop}
+use lib.Dec.{eqb, leb, ltb}
+use borrow.Author.Tests.{eqb-true, lt-ltb, ltb-true, leb-true}
+use Rattle.format.specs.Bytes.{lacks}
+use Rattle.format.specs.Names.{common, compare}
+use Rattle.format.specs.Layout.{names}
+use Rattle.format.specs.Reader.{entryOf}
+use Rattle.format_laws.proofs.Tests.{false-true, by-test, and-inv, cond-inv}
+use Rattle.format_laws.proofs.Lists.{drop-to}
+use Rattle.format_laws.proofs.Names.{common-append}
+use Rattle.format_laws.proofs.Readings.{bad-good, good-inv, front-inv}
+use Rattle.entries_run.specs.declared.Step.{Step}
+use Rattle.entries_run.specs.declared.Next.the-variants as N
+use Rattle.entries_run.specs.Steps.{nameAt, Passed, runFrom}
+use Rattle.entries_run.proofs.Steps.{entries-bad, entries-good, entries-again, run-none}
+use Rattle.entries_directory.specs.Names.{notAbove, sortedFrom, begins, leads, beyond, within}
+use Rattle.entries_directory.proofs.Order.{begins-common}
+use Rattle.entries_directory.proofs.Directory.{begins-split}
+use Rattle.entries_directory.proofs.Runs.{within-end, within-step, beyond-step, beyond-end}
+use Rattle.entries_directory.specs.declared.Front.{Front}
+use Rattle.entries_directory.specs.Ahead.{Fits, Ahead, After, after-none, after-some, Advanced, Left, Gone, File, MoreFiles, Files, files-none, files-more, FilesLeft}
+
+-- ---- a step
+
+next-sorted : (x y : List ℕ) (ys : List (List ℕ)) → sortedFrom x (y ∷ ys) ≡ true → sortedFrom y ys ≡ true
+unfolding sortedFrom
+next-sorted x y ys e = and-inv (notAbove (compare x y)) (sortedFrom y ys) e .1
+
+pub fits-end : (b : List ℕ) (s : Front) → Fits b s → Fits b (record { cursor = s .cursor; ahead = 0; common = 0 })
+fits-end b s h = record { inside = h .inside; short = omega arith; few = omega arith }
+
+module _ (v : ℕ) (b work : List ℕ) (s : Front) (work′ : List ℕ) where
+  -- over the last name
+  pub step-end : (r : Front) → r .ahead ≡ 0 → s .ahead ≤ 1 → (x : List ℕ) (xs : List (List ℕ)) → Ahead v b work s x xs → After v b work′ r x xs
+  unfolding names
+  step-end r z few x xs h =
+      let e : s .ahead - 1 ≡ 0 = omega arith in
+      good-inv _ _ _ _ (sym (run-none v b work (s .cursor)) ∙ ap (λ (n : ℕ). runFrom v n b work (s .cursor)) (sym e) ∙ h .reads) λ q m.
+      subst (After v b work′ r x) (ap names q ∙ h .rest) (after-none z)
+
+  module _ (more : 1 < s .ahead) where
+    left-some : 0 < s .ahead - 1
+    left-some = omega arith
+
+    -- over a name that an entry follows which is refused
+    pub step-bad {ℓ} : {X : Type ℓ} (m : ℕ) → Passed v b work (s .cursor) work′ (N.Bad m) → (x : List ℕ) (xs : List (List ℕ)) → Ahead v b work s x xs → X
+    step-bad m t x xs h =
+        entries-again v b work (s .cursor) work′ (s .ahead - 1) left-some _ _ _ (h .reads) t λ u.
+        bad-good _ _ _ _ (sym (entries-bad v b work (s .cursor) work′ (s .ahead - 1) left-some m u) ∙ h .reads)
+
+    module _ (st : Step) (t : Passed v b work (s .cursor) work′ (N.Good st)) where
+      pub step-fits : Fits b s → Fits b (record { cursor = st .next; ahead = s .ahead - 1; common = st .common })
+      step-fits h = record { inside = t .inside st refl; short = t .common st refl; few = omega (arith, h .few) }
+
+      pub step-on : (x : List ℕ) (xs : List (List ℕ)) → Ahead v b work s x xs → After v b work′ (record { cursor = st .next; ahead = s .ahead - 1; common = st .common }) x xs
+      unfolding names entryOf
+      step-on x xs h =
+          entries-again v b work (s .cursor) work′ (s .ahead - 1) left-some _ _ _ (h .reads) t λ u.
+          front-inv _ _ _ _ _ (sym (entries-good v b work (s .cursor) work′ (s .ahead - 1) left-some st u) ∙ h .reads) λ gs l q parts sum.
+          let y = nameAt v b work′ (st .next .start) (st .next .len) in
+          let is : (y ∷ names gs) ≡ xs = ap names parts ∙ h .rest in
+          subst (After v b work′ _ x) is
+          (after-some (record { some = left-some; name = refl; entries = gs; taken = l; reads = q; rest = refl; sorted = next-sorted x y (names gs) (ap (sortedFrom x) is ∙ h .sorted) }) (u .found st refl .common ∙ ap (λ (z : List ℕ). common z y) (h .name)))
+
+-- ---- the first name ahead
+
+-- whether it is in a directory that the name before it is in
+pub stays-is : (v : ℕ) (b work : List ℕ) (s : Front) (last q : List ℕ) (xs : List (List ℕ)) → After v b work s last xs → begins q last ≡ true
+    → (ltb 0 (s .ahead) && leb (length q) (s .common)) ≡ leads (begins q) xs
+unfolding leads
+stays-is v b work s last q _ (after-none z) i = rw z
+stays-is v b work s last q _ (after-some {x} {xs} h e) i = rw (lt-ltb 0 (s .ahead) (h .some), e) (sym (begins-common q last x i))
+
+pub stays-some : (s : Front) (k : ℕ) → (ltb 0 (s .ahead) && leb k (s .common)) ≡ true → 1 ≤ s .ahead
+stays-some s k e = ltb-true 0 (s .ahead) (and-inv (ltb 0 (s .ahead)) (leb k (s .common)) e .0)
+
+pub stays-long : (b : List ℕ) (s : Front) (k : ℕ) → Fits b s → (ltb 0 (s .ahead) && leb k (s .common)) ≡ true → k ≤ s .cursor .len
+stays-long b s k fits e = omega (arith, fits .short, leb-true k (s .common) (and-inv (ltb 0 (s .ahead)) (leb k (s .common)) e .1))
+
+-- it is there, and in the directory
+pub stays-in {ℓ} : {X : Type ℓ} (v : ℕ) (b work : List ℕ) (s : Front) (last q : List ℕ) (xs : List (List ℕ)) → After v b work s last xs → begins q last ≡ true
+    → (ltb 0 (s .ahead) && leb (length q) (s .common)) ≡ true
+    → ((y : List ℕ) (ys : List (List ℕ)) → xs ≡ y ∷ ys → Ahead v b work s y ys → s .common ≡ common last y → begins q y ≡ true → X) → X
+stays-in v b work s last q _ (after-none z) i e f = false-true (rw z at e)
+stays-in v b work s last q _ (after-some {x} {xs} h c) i e f =
+    f x xs refl h c (begins-common q last x i ∙ ap (leb (length q)) (sym c) ∙ and-inv (ltb 0 (s .ahead)) (leb (length q) (s .common)) e .1)
+
+-- ---- past one name or more
+
+-- the loop of a walk: work₀ and s₀ are what it starts from, past the first name
+pub record Going (b work₀ : List ℕ) (s₀ : Front) (work : List ℕ) (s : Front) (count : ℕ) : Type 0 where
+  pub fits : Fits b s
+  pub fewer : count + s .ahead ≤ 1 + s₀ .ahead
+  pub few : s₀ .ahead ≤ 4294967296
+  pub some : 1 ≤ count
+  pub room : 8192 ≤ length work
+  pub long : length work ≡ length work₀
+  pub past : drop 8192 work ≡ drop 8192 work₀
+
+module _ (v : ℕ) (b work : List ℕ) (s : Front) (work₀ : List ℕ) (s₀ : Front) (t : Advanced v b work s work₀ s₀) where
+  pub going-start : 8192 ≤ length work → Going b work₀ s₀ work₀ s₀ 1
+  going-start room = record { fits = t .fits; fewer = omega arith; few = t .fits .few; some = omega arith; room = omega (arith, t .long); long = refl; past = refl }
+
+  pub going-end : 1 ≤ s .ahead → (work′ : List ℕ) (s′ : Front) (count : ℕ) → Going b work₀ s₀ work′ s′ count → Gone b work s work′ (record { count = count; front = s′ })
+  going-end some work′ s′ count h = record { fits = h .fits; fewer = omega (arith, t .fewer, h .fewer); some = h .some; long = h .long ∙ t .long; past = h .past ∙ t .past }
+
+pub going-on : (v : ℕ) (b work₀ : List ℕ) (s₀ : Front) (work : List ℕ) (s : Front) (count : ℕ) (work′ : List ℕ) (s′ : Front)
+    → Going b work₀ s₀ work s count → 1 ≤ s .ahead → Advanced v b work s work′ s′ → Going b work₀ s₀ work′ s′ (count + 1)
+going-on v b work₀ s₀ work s count work′ s′ h some t = record {
+  fits = t .fits;
+  fewer = omega (arith, t .fewer, h .fewer);
+  few = h .few;
+  some = omega arith;
+  room = omega (arith, t .long, h .room);
+  long = t .long ∙ h .long;
+  past = t .past ∙ h .past;
+}
+
+-- ---- past the names in a directory
+
+-- of the names xs those in the directory q have been passed in part: so many, with one before them
+pub record Passing (v : ℕ) (b work : List ℕ) (s : Front) (q : List ℕ) (xs : List (List ℕ)) (count : ℕ) : Type 0 where
+  pub rest : List (List ℕ)
+  pub last : List ℕ
+  pub in-it : begins q last ≡ true
+  pub after : After v b work s last rest
+  pub counted : count + length (within q rest) ≡ 1 + length (within q xs)
+  pub left : beyond (begins q) rest ≡ beyond (begins q) xs
+
+module _ (v : ℕ) (b : List ℕ) (q : List ℕ) (xs : List (List ℕ)) where
+  pub pass-start : (work : List ℕ) (s : Front) (last : List ℕ) → After v b work s last xs → begins q last ≡ true → Passing v b work s q xs 1
+  pass-start work s last h i = record { rest = xs; last = last; in-it = i; after = h; counted = refl; left = refl }
+
+  module _ (work : List ℕ) (s : Front) (count : ℕ) (h : Passing v b work s q xs count) where
+    pub pass-on : (work′ : List ℕ) (r : Front) → (ltb 0 (s .ahead) && leb (length q) (s .common)) ≡ true → Advanced v b work s work′ r → Passing v b work′ r q xs (count + 1)
+    pass-on work′ r e t =
+        stays-in v b work s (h .last) q (h .rest) (h .after) (h .in-it) e λ y ys is ahead c i.
+        let n : length (within q (h .rest)) ≡ 1 + length (within q ys) = ap (λ (l : List (List ℕ)). length (within q l)) is ∙ ap length (within-step q y ys i) ∙ omega arith in
+        record {
+          rest = ys;
+          last = y;
+          in-it = i;
+          after = t .after y ys ahead;
+          counted = omega (arith, h .counted);
+          left = sym (beyond-step q y ys i) ∙ ap (beyond (begins q)) (sym is) ∙ h .left;
+        }
+
+    pub pass-end : (x : List ℕ) → begins q x ≡ true → (ltb 0 (s .ahead) && leb (length q) (s .common)) ≡ false
+        → (count ≡ length (within q (x ∷ xs))) × Left v b work s q (x ∷ xs)
+    pass-end x i e =
+        let out : leads (begins q) (h .rest) ≡ false = sym (stays-is v b work s (h .last) q (h .rest) (h .after) (h .in-it)) ∙ e in
+        let n : length (within q (h .rest)) ≡ 0 = ap length (within-end q (h .rest) out) in
+        let m : length (within q (x ∷ xs)) ≡ 1 + length (within q xs) = ap length (within-step q x xs i) ∙ omega arith in (
+          omega (arith, h .counted),
+          record {
+            last = h .last;
+            in-it = h .in-it;
+            after = subst (After v b work s (h .last)) (sym (beyond-end (begins q) (h .rest) out) ∙ h .left ∙ sym (beyond-step q x xs i)) (h .after);
+          },
+        )
+
+-- ---- past the files of a directory
+
+-- where neither s nor what follows in t after the bytes that the two have in common has a byte, t has it not
+lacks-common : (b : ℕ) (s t : List ℕ) → lacks b s ≡ true → lacks b (drop (common s t) t) ≡ true → lacks b t ≡ true
+unfolding common lacks
+lacks-common b [] t h l = l
+lacks-common b (x ∷ s) [] h l = refl
+lacks-common b (x ∷ s) (y ∷ t) h l =
+    cond-inv (eqb x b) false (lacks b s) true h (λ p e. false-true e)
+    (λ p e.
+    by-test (eqb x y)
+    (λ i. rw (← (eqb-true x y i), p) (lacks-common b s t e (rw i at l)))
+    (λ i. rw i at l))
+
+-- a name in the directory of a file, by what follows the bytes that the two have in common
+file-after : (q s t : List ℕ) → File q s → begins q t ≡ true → lacks 47 (drop (common s t) t) ≡ true → File q t
+file-after q s t h i l =
+    let sum : common s t ≡ length q + common (drop (length q) s) (drop (length q) t) = ap₂ common (begins-split q s (h .in-it)) (begins-split q t i) ∙ common-append q (drop (length q) s) (drop (length q) t) in
+    record { in-it = i; alone = lacks-common 47 (drop (length q) s) (drop (length q) t) (h .alone) (ap (lacks 47) (drop-to t (length q) _ _ sum) ∙ l) }
+
+module _ (v : ℕ) (b : List ℕ) (q : List ℕ) where
+  pub files-start : (work : List ℕ) (s : Front) (x : List ℕ) (xs : List (List ℕ)) → After v b work s x xs → File q x → FilesLeft v b work s q (x ∷ xs) 1
+  files-start work s x xs h i = record { rest = xs; files = files-more files-none i; last = x; is-file = i; after = h }
+
+  pub files-on : (whole : List (List ℕ)) (work : List ℕ) (s : Front) (count : ℕ) → FilesLeft v b work s q whole count → (work′ : List ℕ) (r : Front) → MoreFiles v b work s (length q)
+      → Advanced v b work s work′ r → FilesLeft v b work′ r q whole (count + 1)
+  files-on whole work s count h work′ r m t =
+      stays-in v b work s (h .last) q (h .rest) (h .after) (h .is-file .in-it) (m .stays) λ y ys is ahead c i.
+      let i′ = file-after q (h .last) y (h .is-file) i (rw (← c, ← (ahead .name)) (m .alone)) in
+      record { rest = ys; files = files-more (subst (Files q whole count) is (h .files)) i′; last = y; is-file = i′; after = t .after y ys ahead }

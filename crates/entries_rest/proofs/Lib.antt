@@ -1,2 +1,0 @@
--- Laws of entries that are edited.
-pub mod Ways

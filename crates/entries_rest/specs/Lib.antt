@@ -1,2 +1,0 @@
--- What is changed among entries, and what their writing leaves behind.
-pub mod Rests

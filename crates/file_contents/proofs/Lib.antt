@@ -1,4 +1,0 @@
--- Laws that the proofs of the functions cite.
-pub mod Room
-pub mod Files
-pub mod Bodies

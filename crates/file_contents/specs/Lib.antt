@@ -1,2 +1,0 @@
--- What an accepted file has.
-pub mod Contents

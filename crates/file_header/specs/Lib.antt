@@ -1,2 +1,0 @@
--- What an answer of read_header says of the file.
-pub mod Header

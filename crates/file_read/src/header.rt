@@ -1,0 +1,69 @@
+// What is tested of a whole file before its entries are read: length, signature, version and checksum.
+ghost use mathlib.Core.Path.{_≡_};
+ghost use Prim.Native.Nat.{_≤_};
+ghost use lib.ListN.{length};
+ghost use Rattle.file_read.specs.Header.{isVersion, HeaderOf};
+
+// The most bytes that a file has.
+pub const LARGEST: usize = 16777216;
+
+// The version and the number of entries, and the first eight bytes of the checksum.
+pub struct Opening {
+    pub version: u32,
+    pub count: u32,
+    pub seed: u64,
+}
+
+// A refusal's number and place, or what an accepted header says.
+pub enum Header {
+    Bad(u32, usize),
+    Good(Opening),
+}
+
+// Whether the format has the version v.
+fn version_ok(v: u32) -> bool
+    ensures { λ r. ⌜ r ≡ isVersion v ⌝ }
+{
+    if v < 2 {
+        return false;
+    }
+    v <= 4
+}
+
+// The first eight bytes of a digest. Nothing is proved of the number.
+fn seed_of(digest: &[u8]) -> u64
+    requires { ⌜ 8 ≤ length (now digest) ⌝ }
+{
+    fields::read32(digest, 0) as u64 * 4294967296 + fields::read32(digest, 4) as u64
+}
+
+// The refusals 1 to 5 in their order, or the version and the number of entries.
+pub fn read_header(file: &[u8]) -> Header
+    ensures { λ r. ⌜ HeaderOf (now (file .entry)) r ⌝ }
+{
+    if file.len() < 32 {
+        return Header::Bad(1, 0);
+    }
+    if LARGEST < file.len() {
+        return Header::Bad(2, 0);
+    }
+    let signed = fields::same(&file[..4], b"DIRC");
+    let version = fields::read32(file, 4);
+    let known = version_ok(version);
+    if !signed {
+        return Header::Bad(3, 0);
+    }
+    if !known {
+        return Header::Bad(4, 0);
+    }
+    let n = file.len() - 20;
+    let digest = hash::sha1(&file[..n]);
+    if !fields::same(&file[n..], &digest) {
+        return Header::Bad(5, n);
+    }
+    Header::Good(Opening {
+        version: version,
+        count: fields::read32(file, 8),
+        seed: seed_of(&digest),
+    })
+}

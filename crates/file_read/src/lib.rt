@@ -1,0 +1,80 @@
+// The whole file: its header, its entries, its extensions; and what an accepted one has.
+pub mod header;
+
+ghost use mathlib.Core.Path.{_≡_};
+ghost use Prim.Native.Nat.{_≤_};
+ghost use lib.ListN.{length, drop};
+ghost use Rattle.format.specs.Bytes.{be32};
+ghost use Rattle.format.specs.Reader.{readBody, readFile};
+ghost use Rattle.hash.specs.Sha1.{sha1};
+ghost use Rattle.entries_run.specs.Steps.{Room};
+ghost use Rattle.answers.specs.Answers.{cleared};
+ghost use Rattle.file_read.specs.Contents.{bodyOf, inRoom, WholeOf};
+use crate::header::Header;
+use entries_run::Run;
+use extensions::Extended;
+use extensions::Found;
+
+// What an accepted file has; end is the byte where entries end.
+pub struct Parts {
+    pub version: u32,
+    pub count: u32,
+    pub end: usize,
+    pub found: Found,
+}
+
+// A refusal's number and place, or what the file has.
+pub enum Whole {
+    Bad(u32, usize),
+    Good(Parts),
+}
+
+// The body b of version v with so many entries.
+fn read_body(b: &[u8], v: u32, count: u32, work: &mut [u8], seed: u64) -> Whole
+    requires { ⌜ Room (now b) (now work) × (count ≡ be32 (now b) 8) ⌝ }
+    ensures { λ r. ⌜ WholeOf (readBody 20 v (now (b .entry))) (now (b .entry)) r × (drop 8192 (now (work .exit)) ≡ drop 8192 (now (work .entry))) ⌝ }
+{
+    let run = entries_run::run_entries(b, v, &mut *work, count);
+    match run {
+        Run::Bad(n, p) => Whole::Bad(n, p),
+        Run::Good(end) => {
+            let read = extensions::read_extensions(b, end, v, count, work, seed);
+            match read {
+                Extended::Bad(n, p) => Whole::Bad(n, p),
+                Extended::Good(found) => Whole::Good(Parts {
+                    version: v,
+                    count: count,
+                    end: end,
+                    found: found,
+                }),
+            }
+        }
+    }
+}
+
+// The whole file.
+pub fn read_whole(file: &[u8], work: &mut [u8]) -> Whole
+    requires { ⌜ 8192 ≤ length (now work) ⌝ }
+    ensures { λ r. ⌜ WholeOf (readFile 20 sha1 (now (file .entry))) (bodyOf (now (file .entry))) r × (drop 8192 (now (work .exit)) ≡ drop 8192 (now (work .entry))) ⌝ }
+{
+    let header = crate::header::read_header(file);
+    match header {
+        Header::Bad(n, p) => Whole::Bad(n, p),
+        Header::Good(h) => {
+            let n = file.len() - 20;
+            read_body(&file[..n], h.version, h.count, work, h.seed)
+        }
+    }
+}
+
+// The same for any workspace, which is cleared afterwards; one below 8,192 bytes is refused with 19 and left as it is.
+pub fn read_cleared(file: &[u8], work: &mut [u8]) -> Whole
+    ensures { λ r. ⌜ WholeOf (inRoom (now (work .entry)) (readFile 20 sha1 (now (file .entry)))) (bodyOf (now (file .entry))) r × (now (work .exit) ≡ cleared (now (work .entry))) ⌝ }
+{
+    if work.len() < fields::LONGEST {
+        return Whole::Bad(19, 0);
+    }
+    let whole = read_whole(file, &mut *work);
+    fields::clear_from(work, 0);
+    whole
+}

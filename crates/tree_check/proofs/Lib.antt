@@ -1,0 +1,8 @@
+-- Laws that the functions' proofs cite.
+pub mod Components
+pub mod Loops
+pub mod Nodes
+pub mod Parts
+pub mod Steps
+pub mod Surveys
+pub mod Wholes

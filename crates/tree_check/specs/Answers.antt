@@ -1,0 +1,29 @@
+-- Whether the counts of a cache tree are right. d is its data, b the body with the entries, v the version, work and work′ the workspace before and after.
+use mathlib.Core.Path.{_≡_}
+use mathlib.Core.List.{List}
+use mathlib.Core.Bool.{Bool, true, cond, _&&_}
+use Prim.Native.Nat.{ℕ}
+use lib.ListN.{length, drop}
+use lib.Dec.{eqb}
+use Rattle.format.specs.Records.{Entry, start, Forest, Tree}
+use Rattle.format.specs.Layout.{distinct, okTreeCounts, names}
+use Rattle.format.specs.Reading.{good}
+use Rattle.format.specs.Reader.{readEntries, readNodes}
+use Rattle.tree_nodes.specs.declared.node.Node.{Node}
+use Rattle.tree_nodes.specs.Flat.{Reads}
+use Rattle.tree_counts.specs.Judge.{judge, matched, Sound}
+
+-- of the walk over all entries, where met of the nodes below the root have a count of at least 1
+pub record RootWalked (d : List ℕ) (root : Node) (met : ℕ) (b : List ℕ) (v count : ℕ) (work work′ : List ℕ) (r : Bool) : Type 0 where
+  pub long : length work′ ≡ length work
+  pub past : drop 8192 work′ ≡ drop 8192 work
+  pub is : (es : List Entry) (m : ℕ) → readEntries 20 v count start 12 (drop 12 b) ≡ good es m
+      → (f : Forest) (n : ℕ) → Sound f → Reads (drop (root .next) d) f (root .subtrees) n
+      → r ≡ (cond (root .valid) (eqb (root .count) (length (names es))) true && (judge (root .valid) (names es) f && eqb (matched (names es) f) met))
+
+-- of the whole
+pub record CountsTold (d b : List ℕ) (v count : ℕ) (work work′ : List ℕ) (r : Bool) : Type 0 where
+  pub long : length work′ ≡ length work
+  pub past : drop 8192 work′ ≡ drop 8192 work
+  pub is : (es : List Entry) (m : ℕ) (t : Tree) (n : ℕ) → readEntries 20 v count start 12 (drop 12 b) ≡ good es m → readNodes 20 0 d ≡ good t n
+      → distinct (t .subtrees) ≡ true → r ≡ okTreeCounts (names es) t

@@ -1,0 +1,5 @@
+-- Definitions that the contracts cite.
+pub mod Answers
+pub mod Components
+pub mod Steps
+pub mod Survey

@@ -1,0 +1,286 @@
+-- Laws of the nodes one after another: how far k of them reach, and how a list of siblings stands among them.
+use mathlib.Core.Path.{_≡_, refl, sym, ap, _∙_, ap₂}
+use mathlib.Core.List.{List, [], _∷_, _++_}
+use mathlib.Core.Bool.{Bool, true, false, cond, not, _&&_}
+use Prim.Native.Nat.{ℕ, zero, suc, _+_, _-_, _≤_, _<_}
+use native.Mathlib.Nat.{add-zero, zero-add, suc-add, add-assoc}
+use native.Mathlib.Omega.{arith}
+use lib.ListN.{length, getD, drop, length-drop, List·getD-append, length-append}
+use lib.Seq.{drop-drop, getD-append-add}
+use lib.Dec.{ltb}
+use borrow.Author.Tests.{ltb-true, ltb-false}
+use Rattle.format.specs.Bytes.{before}
+use Rattle.format.specs.Records.{Node, Forest, nil, tree, width, Item, items}
+use Rattle.format.specs.Layout.{has, distinct, okNodeName}
+use Rattle.format.specs.Reading.{Read, bad, good, need, bind}
+use Rattle.format.specs.Reader.{Head, readText, readNode, readSiblings, readForest}
+use Rattle.format_laws.proofs.Lists.{drop-to}
+use Rattle.format_laws.proofs.Numbers.{suc-pred}
+use Rattle.format_laws.proofs.Readings.{bad-good, good-inv, need-inv, bind-inv}
+use Rattle.tree_nodes.specs.Answers.{nodeAt}
+use Rattle.tree_nodes.specs.Flat.{size, lengthOf, treesLength, nameOf, restOf, namesOf, hasName, namesDiffer, allDiffer, Reads, reads-none, reads-more}
+use Rattle.format.specs.Places.{nodeStart}
+use Rattle.tree_nodes.proofs.Readings.{node-took}
+use Rattle.tree_nodes.proofs.Nodes.{node-named, NodeIs, no-node}
+use Rattle.tree_nodes.specs.declared.node.Node as Code
+use Rattle.tree_nodes.specs.declared.node.NodeRead.the-variants as R
+
+pub items-size : (l : ℕ) (f : Forest) → length (items l f) ≡ size f
+unfolding items size
+items-size l nil = refl
+items-size l (tree n kids more) = ap suc (length-append (items (suc l) kids) (items l more) ∙ ap₂ _+_ (items-size (suc l) kids) (items-size l more))
+
+-- ---- k nodes with all below them, with no fuel
+
+-- by what is read of a node
+node-cases : {P : Type 0} (s : List ℕ) → ((n p : ℕ) → readNode 20 0 s ≡ bad n p → P) → ((h : Head) (m : ℕ) → readNode 20 0 s ≡ good h m → 1 ≤ m → m ≤ length s → P) → P
+node-cases {P} s f g = by (readNode 20 0 s) refl
+  where
+    by : (x : Read Head) → readNode 20 0 s ≡ x → P
+    by (bad n p) e = f n p e
+    by (good h m) e = g h m e (node-took 20 0 s .of h m e .0) (node-took 20 0 s .of h m e .1)
+
+node-nil : readNode 20 0 [] ≡ bad 15 0
+unfolding readNode readText before need bind
+node-nil = refl
+
+same-fuel : (f g k : ℕ) (s : List ℕ) → length s ≤ f → length s ≤ g → lengthOf f k s ≡ lengthOf g k s
+unfolding lengthOf
+same-fuel zero zero k s l u = refl
+same-fuel zero (suc g) zero s l u = refl
+same-fuel zero (suc g) (suc k) [] l u = rw node-nil
+same-fuel zero (suc g) (suc k) (x ∷ s) l u = absurd (omega arith)
+same-fuel (suc f) zero zero s l u = refl
+same-fuel (suc f) zero (suc k) [] l u = rw node-nil
+same-fuel (suc f) zero (suc k) (x ∷ s) l u = absurd (omega arith)
+same-fuel (suc f) (suc g) zero s l u = refl
+same-fuel (suc f) (suc g) (suc k) s l u =
+    node-cases s
+    (λ n p e. rw e)
+    (λ h m e some most.
+    let d : length (drop m s) ≡ length s - m = length-drop m s in
+    rw e (ap (λ (i : ℕ). m + i) (same-fuel f g (k + h .subtrees) (drop m s) (omega arith) (omega arith))))
+
+pub trees-none : (s : List ℕ) → treesLength 0 s ≡ 0
+unfolding treesLength lengthOf
+trees-none [] = refl
+trees-none (x ∷ s) = refl
+
+pub trees-bad : (k n p : ℕ) (s : List ℕ) → readNode 20 0 s ≡ bad n p → treesLength (suc k) s ≡ length s
+unfolding treesLength lengthOf
+trees-bad k n p [] e = refl
+trees-bad k n p (x ∷ s) e = rw e
+
+pub trees-step : (k : ℕ) (s : List ℕ) (h : Head) (m : ℕ) → readNode 20 0 s ≡ good h m → treesLength (suc k) s ≡ m + treesLength (k + h .subtrees) (drop m s)
+unfolding treesLength lengthOf
+trees-step k [] h m e = bad-good 15 0 h m (sym node-nil ∙ e)
+trees-step k (x ∷ s) h m e =
+    let b : (1 ≤ m) × (m ≤ length (x ∷ s)) = node-took 20 0 (x ∷ s) .of h m e in
+    let d : length (drop m (x ∷ s)) ≡ length (x ∷ s) - m = length-drop m (x ∷ s) in
+    rw e (ap (λ (i : ℕ). m + i) (same-fuel (length s) (length (drop m (x ∷ s))) (k + h .subtrees) (drop m (x ∷ s)) (omega arith) (omega arith)))
+
+-- ---- a list of siblings that was read
+
+-- siblings with at most so many levels
+pub data Levels : ℕ → Forest → Type 0 where
+  levels-none : {l : ℕ} → Levels l nil
+  levels-more : {l : ℕ} {n : Node} {kids after : Forest} → Levels l kids → Levels (suc l) after → Levels (suc l) (tree n kids after)
+
+reads-is : (l : ℕ) (s : List ℕ) (f g : Forest) (k m n : ℕ) → Reads s f k m × Levels l f → f ≡ g → m ≡ n → Reads s g k n × Levels l g
+reads-is l s f g k m n r e i = rw (← e, ← i) r
+
+pub forest-shape : (l k : ℕ) (s : List ℕ) (f : Forest) (m : ℕ) → readForest 20 0 l k s ≡ good f m → Reads s f k m × Levels l f
+unfolding readForest readSiblings
+forest-shape zero zero s f m e = good-inv nil f 0 m e (λ same size. reads-is zero s nil f 0 0 m (reads-none, levels-none) same size)
+forest-shape zero (suc k) s f m e = bad-good 15 0 f m e
+forest-shape (suc l) zero s f m e = good-inv nil f 0 m e (λ same size. reads-is (suc l) s nil f 0 0 m (reads-none, levels-none) same size)
+forest-shape (suc l) (suc k) s f m e =
+    bind-inv (readNode 20 0 s) _ f m e λ h a i q r is.
+    need-inv (okNodeName (h .node .name)) 15 0 _ f i r λ ok r₁.
+    bind-inv (readForest 20 0 l (h .subtrees) (drop a s)) _ f i r₁ λ kids b j q₁ r₂ is₁.
+    bind-inv (readForest 20 0 (suc l) k (drop b (drop a s))) _ f j r₂ λ after c o q₂ r₃ is₂.
+    good-inv (tree (h .node) kids after) f 0 o r₃ λ same z.
+    let below = forest-shape l (h .subtrees) (drop a s) kids b q₁ in
+    let rest = forest-shape (suc l) k (drop b (drop a s)) after c q₂ in
+    reads-is (suc l) s _ f (suc k) _ m (reads-more q (below .0) (rest .0), levels-more (below .1) (rest .1)) same (omega arith)
+
+pub forest-reads : (l k : ℕ) (s : List ℕ) (f : Forest) (m : ℕ) → readForest 20 0 l k s ≡ good f m → Reads s f k m
+forest-reads l k s f m e = forest-shape l k s f m e .0
+
+-- ---- what stands where
+
+pub place-none : (s : List ℕ) → nodeStart 20 0 s ≡ 0
+unfolding nodeStart
+place-none s = refl
+
+pub place-step : (k : ℕ) (s : List ℕ) (h : Head) (m : ℕ) → readNode 20 0 s ≡ good h m → nodeStart 20 (suc k) s ≡ m + nodeStart 20 k (drop m s)
+unfolding nodeStart
+place-step k s h m e = rw e
+
+pub place-bad : (k n p : ℕ) (s : List ℕ) → readNode 20 0 s ≡ bad n p → nodeStart 20 (suc k) s ≡ length s
+unfolding nodeStart
+place-bad k n p s e = rw e
+
+pub reads-width : (s : List ℕ) (f : Forest) (k m : ℕ) → Reads s f k m → width f ≡ k
+unfolding width
+reads-width s _ _ _ reads-none = refl
+reads-width s _ _ _ (reads-more q r t) = ap suc (reads-width _ _ _ _ t)
+
+pub drops : (a b c : ℕ) (s : List ℕ) → drop c (drop b (drop a s)) ≡ drop (a + (b + c)) s
+drops a b c s = drop-drop c b (drop a s) ∙ drop-drop (b + c) a s
+
+-- three parts of a node: its own bytes, its subtrees, its later siblings
+three : (a b c x y z u : ℕ) → x ≡ a + y → y ≡ b + z → z ≡ c + u → x ≡ a + (b + c) + u
+three a b c x y z u e f g = omega arith
+
+pub reads-length : (s : List ℕ) (f : Forest) (k m : ℕ) → Reads s f k m → (j : ℕ) → treesLength (k + j) s ≡ m + treesLength j (drop m s)
+reads-length s _ _ _ reads-none j = rw (zero-add j, zero-add (treesLength j s))
+reads-length s _ _ _ (reads-more {h = h} {a = a} {b = b} {c = c} {k = k} q r t) j =
+    let e : k + j + h .subtrees ≡ h .subtrees + (k + j) = omega arith in
+    rw (suc-add k j, ← drops a b c s)
+    (three a b c _ _ _ _
+    (trees-step (k + j) s h a q ∙ ap (λ (i : ℕ). a + treesLength i (drop a s)) e)
+    (reads-length _ _ _ _ r (k + j))
+    (reads-length _ _ _ _ t j))
+
+pub reads-places : (s : List ℕ) (f : Forest) (k m : ℕ) → Reads s f k m → (j : ℕ) → nodeStart 20 (size f + j) s ≡ m + nodeStart 20 j (drop m s)
+unfolding size
+reads-places s _ _ _ reads-none j = rw (zero-add j, zero-add (nodeStart 20 j s))
+reads-places s _ _ _ (reads-more {h = h} {kids = kids} {after = after} {a = a} {b = b} {c = c} {k = k} q r t) j =
+    rw (suc-add (size kids + size after) j, add-assoc (size kids) (size after) j, ← drops a b c s)
+    (three a b c _ _ _ _ (place-step (size kids + (size after + j)) s h a q) (reads-places _ _ _ _ r (size after + j)) (reads-places _ _ _ _ t j))
+
+-- ---- names
+
+unfoldable pub siblingNames : Forest → List (List ℕ)
+siblingNames nil = []
+siblingNames (tree n kids after) = n .name ∷ siblingNames after
+
+pub reads-names : (s : List ℕ) (f : Forest) (k m : ℕ) → Reads s f k m → namesOf k s ≡ siblingNames f
+unfolding namesOf siblingNames nameOf restOf
+reads-names s _ _ _ reads-none = refl
+reads-names s _ _ _ (reads-more {h = h} {a = a} {b = b} q r t) =
+    let g = node-named 20 0 s h a q in
+    let e : treesLength 1 s ≡ a + treesLength (0 + h .subtrees) (drop a s) = trees-step 0 s h a q in
+    let i : treesLength (h .subtrees + 0) (drop a s) ≡ b + treesLength 0 (drop b (drop a s)) = reads-length _ _ _ _ r 0 in
+    let z : treesLength 0 (drop b (drop a s)) ≡ 0 = trees-none (drop b (drop a s)) in
+    let same : treesLength (0 + h .subtrees) (drop a s) ≡ treesLength (h .subtrees + 0) (drop a s) = ap (λ (n : ℕ). treesLength n (drop a s)) (omega arith) in
+    let l : treesLength 1 s ≡ a + b = omega arith in
+    rw (l, ← drop-drop b a s, ← (g .0)) (ap (λ (x : List (List ℕ)). h .node .name ∷ x) (reads-names _ _ _ _ t))
+
+has-names : (x : List ℕ) (f : Forest) → has x f ≡ hasName x (siblingNames f)
+unfolding has hasName siblingNames
+has-names x nil = refl
+has-names x (tree n kids after) = rw (has-names x after)
+
+-- whether the lists further down differ in name, each in itself
+unfoldable pub kidsDiffer : Forest → Bool
+kidsDiffer nil = true
+kidsDiffer (tree n kids after) = namesDiffer (siblingNames kids) && kidsDiffer kids && kidsDiffer after
+
+and-names : (h x n k : Bool) → (not h && (x && (n && k))) ≡ (cond h false n && (x && k))
+and-names true x n k = refl
+and-names false true n k = refl
+and-names false false true k = refl
+and-names false false false k = refl
+
+pub distinct-is : (f : Forest) → distinct f ≡ (namesDiffer (siblingNames f) && kidsDiffer f)
+unfolding distinct namesDiffer siblingNames kidsDiffer
+distinct-is nil = refl
+distinct-is (tree n kids after) =
+    rw (has-names (n .name) after, distinct-is kids, distinct-is after)
+    (and-names (hasName (n .name) (siblingNames after)) (namesDiffer (siblingNames kids) && kidsDiffer kids) (namesDiffer (siblingNames after)) (kidsDiffer after))
+
+pub differ-step : (k : ℕ) (s : List ℕ) (h : Head) (m : ℕ) → readNode 20 0 s ≡ good h m → allDiffer (suc k) s ≡ cond (namesDiffer (namesOf (h .subtrees) (drop m s))) (allDiffer k (drop m s)) false
+unfolding allDiffer
+differ-step k s h m e = rw e
+
+and-parts : (n k a x : Bool) → cond n (k && (a && x)) false ≡ ((n && k && a) && x)
+and-parts true true a x = refl
+and-parts true false a x = refl
+and-parts false k a x = refl
+
+pub reads-differ : (s : List ℕ) (f : Forest) (k m : ℕ) → Reads s f k m → (j : ℕ) → allDiffer (size f + j) s ≡ (kidsDiffer f && allDiffer j (drop m s))
+unfolding size kidsDiffer
+reads-differ s _ _ _ reads-none j = rw (zero-add j)
+reads-differ s _ _ _ (reads-more {h = h} {kids = kids} {after = after} {a = a} {b = b} {c = c} q r t) j =
+    rw
+    (suc-add (size kids + size after) j, add-assoc (size kids) (size after) j, ← drops a b c s, differ-step (size kids + (size after + j)) s h a q, reads-names _ _ _ _ r, reads-differ _ _ _ _ r (size after + j), reads-differ _ _ _ _ t j)
+    (and-parts (namesDiffer (siblingNames kids)) (kidsDiffer kids) (kidsDiffer after) (allDiffer j (drop c (drop b (drop a s)))))
+
+-- ---- the items of a list
+
+-- an item is the node that is read there
+pub record Shown (s : List ℕ) (i : Item) : Type 0 where
+  pub taken : ℕ
+  pub reads : readNode 20 0 s ≡ good (record { node = i .node; subtrees = i .subtrees }) taken
+
+pub shown-at : (s t : List ℕ) (i j : Item) → Shown s i → s ≡ t → i ≡ j → Shown t j
+shown-at s t i j x e f = rw (← e, ← f) x
+
+below-or : {P : Type 0} (j n : ℕ) → (j < n → P) → ((i : ℕ) → j ≡ n + i → P) → P
+below-or {P} j n f g = by (ltb j n) refl
+  where
+    by : (t : Bool) → ltb j n ≡ t → P
+    by true e = f (ltb-true j n e)
+    by false e = g (j - n) (omega (arith, ltb-false j n e))
+
+pub reads-item : (s : List ℕ) (f : Forest) (k m : ℕ) → Reads s f k m → (l j : ℕ) (z : Item) → j < size f → Shown (drop (nodeStart 20 j s) s) (getD (items l f) j z)
+unfolding items size
+reads-item s _ _ _ reads-none l j z h = absurd (omega arith)
+reads-item s _ _ _ (reads-more {h = h} {kids = kids} {a = a} q r t) l zero z lt = rw (place-none s) (record { taken = a; reads = q ∙ ap (λ (n : ℕ). good (record { node = h .node; subtrees = n }) a) (sym (reads-width _ _ _ _ r)) })
+reads-item s _ _ _ (reads-more {h = h} {kids = kids} {after = after} {a = a} {b = b} {c = c} q r t) l (suc j) z lt =
+    let xs = items (suc l) kids in
+    let n : length (items (suc l) kids) ≡ size kids = items-size (suc l) kids in
+    below-or j (size kids)
+    (λ (below : j < size kids).
+    shown-at _ _ _ _ (reads-item _ _ _ _ r (suc l) j z below) (drop-drop _ a s ∙ ap (λ (i : ℕ). drop i s) (sym (place-step j s h a q))) (sym (List·getD-append xs (items l after) z j (omega arith))))
+    (λ i (e : j ≡ size kids + i).
+    let p : nodeStart 20 (suc j) s ≡ a + (b + nodeStart 20 i (drop b (drop a s))) = place-step j s h a q ∙ ap (λ (x : ℕ). a + x) (ap (λ (x : ℕ). nodeStart 20 x (drop a s)) e ∙ reads-places _ _ _ _ r i) in
+    let w : j ≡ length xs + i = omega arith in
+    shown-at _ _ _ _ (reads-item _ _ _ _ t l i z (omega arith)) (drops a b _ s ∙ ap (λ (x : ℕ). drop x s) (sym p)) (sym (ap (λ (x : ℕ). getD (xs ++ items l after) x z) w ∙ getD-append-add xs (items l after) i z)))
+
+-- ---- from a place on
+
+module _ (d : List ℕ) (place left : ℕ) where
+  pub place-end : left ≤ 0 → place + nodeStart 20 left (drop place d) ≡ place
+  place-end h = let z : left ≡ 0 = omega arith in rw (z, place-none (drop place d), add-zero place)
+
+  pub trees-end : left ≤ 0 → place + treesLength left (drop place d) ≡ place
+  trees-end h = let z : left ≡ 0 = omega arith in rw (z, trees-none (drop place d), add-zero place)
+
+  module _ (some : 0 < left) where
+    module _ (node : Code.Node) (is : NodeIs d place node) where
+      rest-is : drop (node .next - place) (drop place d) ≡ drop (node .next) d
+      rest-is = let a = is .named in let b = is .ended in drop-to d place (node .next - place) (node .next) (omega arith)
+
+      pub place-more : place + nodeStart 20 left (drop place d) ≡ node .next + nodeStart 20 (left - 1) (drop (node .next) d)
+      place-more =
+          let a = is .named in
+          let b = is .ended in
+          let e : nodeStart 20 left (drop place d) ≡ node .next - place + nodeStart 20 (left - 1) (drop (node .next) d) =
+          ap (λ (k : ℕ). nodeStart 20 k (drop place d)) (suc-pred left some) ∙ place-step (left - 1) (drop place d) (is .head) (node .next - place) (is .reads) ∙ rw rest-is in
+          omega arith
+
+      pub trees-more : place + treesLength left (drop place d) ≡ node .next + treesLength (left - 1 + node .subtrees) (drop (node .next) d)
+      trees-more =
+          let a = is .named in
+          let b = is .ended in
+          let e : treesLength left (drop place d) ≡ node .next - place + treesLength (left - 1 + node .subtrees) (drop (node .next) d) =
+          ap (λ (k : ℕ). treesLength k (drop place d)) (suc-pred left some) ∙ trees-step (left - 1) (drop place d) (is .head) (node .next - place) (is .reads) ∙ rw (rest-is, is .subtrees) in
+          omega arith
+
+    module _ (inside : place ≤ length d) (none : R.Bad ≡ nodeAt place (readNode 20 0 (drop place d))) where
+      pub place-stop : place + nodeStart 20 left (drop place d) ≡ length d
+      place-stop =
+          no-node d place none λ n p q.
+          let e : nodeStart 20 left (drop place d) ≡ length (drop place d) = ap (λ (k : ℕ). nodeStart 20 k (drop place d)) (suc-pred left some) ∙ place-bad (left - 1) n p (drop place d) q in
+          let l : length (drop place d) ≡ length d - place = length-drop place d in
+          omega arith
+
+      pub trees-stop : place + treesLength left (drop place d) ≡ length d
+      trees-stop =
+          no-node d place none λ n p q.
+          let e : treesLength left (drop place d) ≡ length (drop place d) = ap (λ (k : ℕ). treesLength k (drop place d)) (suc-pred left some) ∙ trees-bad (left - 1) n p (drop place d) q in
+          let l : length (drop place d) ≡ length d - place = length-drop place d in
+          omega arith

@@ -1,0 +1,71 @@
+-- The nodes one after another, as they stand in the data, whatever they belong to.
+use mathlib.Core.Path.{_≡_}
+use mathlib.Core.List.{List, [], _∷_}
+use mathlib.Core.Bool.{Bool, true, false, cond}
+use Prim.Native.Nat.{ℕ, zero, suc, _+_}
+use lib.ListN.{length, take, drop}
+use Rattle.format.specs.Bytes.{eqList, before}
+use Rattle.format.specs.Records.{Forest, nil, tree, Tree}
+use Rattle.format.specs.Reading.{good}
+use Rattle.format.specs.Reader.{Head, readNode}
+use Rattle.format.specs.Places.{onNode}
+
+-- how many bytes k nodes take with all below them; fuel is at least the number of bytes
+unfoldable pub lengthOf : ℕ → ℕ → List ℕ → ℕ
+lengthOf zero k s = 0
+lengthOf (suc fuel) zero s = 0
+lengthOf (suc fuel) (suc k) s = onNode (readNode 20 0 s) (length s) (λ subtrees m. m + lengthOf fuel (k + subtrees) (drop m s))
+
+unfoldable pub treesLength : ℕ → List ℕ → ℕ
+treesLength k s = lengthOf (length s) k s
+
+-- ---- the names of k siblings
+
+unfoldable pub nameOf : List ℕ → List ℕ
+nameOf s = take (before 0 s) s
+
+unfoldable pub restOf : List ℕ → List ℕ
+restOf s = drop (treesLength 1 s) s
+
+unfoldable pub namesOf : ℕ → List ℕ → List (List ℕ)
+namesOf zero s = []
+namesOf (suc k) s = nameOf s ∷ namesOf k (restOf s)
+
+-- whether a name is among others, and whether no two are equal
+unfoldable pub hasName : List ℕ → List (List ℕ) → Bool
+hasName x [] = false
+hasName x (y ∷ l) = cond (eqList x y) true (hasName x l)
+
+unfoldable pub namesDiffer : List (List ℕ) → Bool
+namesDiffer [] = true
+namesDiffer (x ∷ l) = cond (hasName x l) false (namesDiffer l)
+
+-- whether in each of n nodes, one after another, the subtrees differ in name
+unfoldable pub allDiffer : ℕ → List ℕ → Bool
+allDiffer zero s = true
+allDiffer (suc n) s = onNode (readNode 20 0 s) true (λ subtrees m. cond (namesDiffer (namesOf subtrees (drop m s))) (allDiffer n (drop m s)) false)
+
+-- ---- siblings that were read
+
+-- Reads s f k m: the first m bytes of s are the k siblings of f, each followed by all below it
+pub data Reads : List ℕ → Forest → ℕ → ℕ → Type 0 where
+  reads-none : {s : List ℕ} → Reads s nil 0 0
+  reads-more :
+      {s : List ℕ} {h : Head} {kids after : Forest} {a b c k : ℕ} →
+      readNode 20 0 s ≡ good h a →
+      Reads (drop a s) kids (h .subtrees) b →
+      Reads (drop b (drop a s)) after k c →
+      Reads s (tree (h .node) kids after) (suc k) (a + (b + c))
+
+-- how many nodes there are
+unfoldable pub size : Forest → ℕ
+size nil = 0
+size (tree n kids more) = suc (size kids + size more)
+
+-- a tree that stands at a place: its root, and its subtrees after it
+pub record TreeAt (d : List ℕ) (place : ℕ) (t : Tree) : Type 0 where
+  pub subtrees : ℕ
+  pub own : ℕ
+  pub below : ℕ
+  pub node : readNode 20 0 (drop place d) ≡ good (record { node = t .root; subtrees = subtrees }) own
+  pub kids : Reads (drop own (drop place d)) (t .subtrees) subtrees below

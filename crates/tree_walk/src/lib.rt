@@ -1,3 +1,0 @@
-// The counts of a cache tree against the entries: refusal 16.
-pub mod counts;
-pub mod walk;
