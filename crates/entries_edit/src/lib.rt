@@ -1,13 +1,16 @@
-// The entries of a body, written with one of them put or removed, or as they are.
+// The entries of a body, which were read before, written with one of them put or removed, or as they are.
 pub mod record;
 pub mod rest;
 
 ghost use mathlib.Core.Path.{_≡_};
 ghost use mathlib.Core.Bool.{true, _||_};
-ghost use Prim.Native.Nat.{_+_, _≤_};
-ghost use lib.ListN.{length};
-ghost use Rattle.format.specs.Records.{Entry};
+ghost use mathlib.Core.List.{List};
+ghost use Prim.Native.Nat.{ℕ, _+_, _≤_};
+ghost use lib.ListN.{length, drop};
+ghost use Rattle.format.specs.Records.{Entry, start};
 ghost use Rattle.format.specs.Layout.{bit};
+ghost use Rattle.format.specs.Reading.{good};
+ghost use Rattle.format.specs.Reader.{readEntries};
 ghost use Rattle.entries_run.specs.Steps.{Room};
 ghost use Rattle.entries.specs.Record.{entryWith};
 ghost use Rattle.entries_edit.specs.declared.Edit.the-variants as E;
@@ -22,16 +25,6 @@ pub enum Edit {
     Remove(u32),
 }
 
-// Whether one of two holds.
-fn or(s: bool, t: bool) -> bool
-    ensures { λ r. ⌜ r ≡ (s || t) ⌝ }
-{
-    if s {
-        return true;
-    }
-    t
-}
-
 // As they are.
 fn put_kept(
     b: &[u8],
@@ -42,7 +35,7 @@ fn put_kept(
     out: &mut [u8],
     at: usize,
 ) -> Laid
-    requires { ⌜ Room (now b) (now work) × (at ≤ 16777216) ⌝ }
+    requires { ⌜ Room (now b) (now work) × (at ≤ 16777216) × ((es : List Entry) × (m : ℕ) × (readEntries 20 v count start 12 (drop 12 (now b)) ≡ good es m)) ⌝ }
     ensures { λ r. ⌜ ((e : Entry) → EntriesEdited v (now (b .entry)) (now (work .entry)) count E.Keep e version (now (out .entry)) at (now (work .exit)) (now (out .exit)) r) ⌝ }
 {
     let start = entries_run::first();
@@ -67,7 +60,7 @@ fn put_with(
     out: &mut [u8],
     at: usize,
 ) -> Laid
-    requires { ⌜ Room (now b) (now work) × (k + bit there ≤ count) × (fields .stage ≤ 3) × (length (now name) ≤ 8192) × (at ≤ 16777216) ⌝ }
+    requires { ⌜ Room (now b) (now work) × (k + bit there ≤ count) × (fields .stage ≤ 3) × (length (now name) ≤ 8192) × (at ≤ 16777216) × ((es : List Entry) × (m : ℕ) × (readEntries 20 v count start 12 (drop 12 (now b)) ≡ good es m)) ⌝ }
     ensures { λ r. ⌜ EntriesEdited v (now (b .entry)) (now (work .entry)) count (E.Put k there) (entryWith fields (now (name .entry))) version (now (out .entry)) at (now (work .exit)) (now (out .exit)) r ⌝ }
 {
     let start = entries_run::first();
@@ -76,10 +69,9 @@ fn put_with(
     let kept = crate::rest::common_at(b, v, &*work, c, name);
     let middle = crate::record::put_record(&mut *out, front.at, version, fields, name, c.len, kept);
     let rest = crate::rest::put_others(b, v, work, c, count - k, there, name, version, out, middle);
-    let word = or(fields.skip_worktree, fields.intent_to_add);
     Laid {
         at: rest.at,
-        extended: or(front.extended, or(word, rest.extended)),
+        extended: front.extended | fields.skip_worktree | fields.intent_to_add | rest.extended,
     }
 }
 
@@ -94,7 +86,7 @@ fn put_without(
     out: &mut [u8],
     at: usize,
 ) -> Laid
-    requires { ⌜ Room (now b) (now work) × (k + 1 ≤ count) × (at ≤ 16777216) ⌝ }
+    requires { ⌜ Room (now b) (now work) × (k + 1 ≤ count) × (at ≤ 16777216) × ((es : List Entry) × (m : ℕ) × (readEntries 20 v count start 12 (drop 12 (now b)) ≡ good es m)) ⌝ }
     ensures { λ r. ⌜ ((e : Entry) → EntriesEdited v (now (b .entry)) (now (work .entry)) count (E.Remove k) e version (now (out .entry)) at (now (work .exit)) (now (out .exit)) r) ⌝ }
 {
     let start = entries_run::first();
@@ -111,7 +103,7 @@ fn put_without(
     );
     Laid {
         at: rest.at,
-        extended: or(front.extended, rest.extended),
+        extended: front.extended | rest.extended,
     }
 }
 
@@ -128,7 +120,7 @@ pub fn put_edited(
     out: &mut [u8],
     at: usize,
 ) -> Laid
-    requires { ⌜ Room (now b) (now work) × (passes edit ≤ count) × (fields .stage ≤ 3) × (length (now name) ≤ 8192) × (at ≤ 16777216) ⌝ }
+    requires { ⌜ Room (now b) (now work) × (passes edit ≤ count) × (fields .stage ≤ 3) × (length (now name) ≤ 8192) × (at ≤ 16777216) × ((es : List Entry) × (m : ℕ) × (readEntries 20 v count start 12 (drop 12 (now b)) ≡ good es m)) ⌝ }
     ensures { λ r. ⌜ EntriesEdited v (now (b .entry)) (now (work .entry)) count edit (entryWith fields (now (name .entry))) version (now (out .entry)) at (now (work .exit)) (now (out .exit)) r ⌝ }
 {
     match edit {

@@ -1,4 +1,5 @@
 -- Laws of entries that are written.
+pub mod Copies
 pub mod Lists
 pub mod Names
 pub mod Runs
