@@ -22,7 +22,8 @@ fn one_less(n: u32) -> u32
     n - 1
 }
 
-// A node at a depth is passed, and its subtrees remain one depth further down.
+// A node at a depth is passed: one sibling less remains there, and its subtrees remain one depth further down, if it has any. No tree
+// that was read has subtrees below depth 127.
 fn enter(remaining: &mut [u32; 128], depth: usize, subtrees: u32) -> usize
     requires { ⌜ (length (now remaining) ≡ 128) × (depth < 128) ⌝ }
     ensures { λ r. ⌜ (length (now (remaining .exit)) ≡ 128) × (r < 128) × ((0 < subtrees → depth < 127) → climbed (stackOf (now (remaining .exit)) (suc r)) ≡ passed subtrees (stackOf (now (remaining .entry)) (suc depth))) ⌝ }
@@ -38,7 +39,7 @@ fn enter(remaining: &mut [u32; 128], depth: usize, subtrees: u32) -> usize
     depth + 1
 }
 
-// Up from a depth to one on which siblings remain; the root's where there is none.
+// Up from a depth to the first one on which siblings remain; 0 where there is none.
 fn climb(remaining: &[u32; 128], depth: usize) -> usize
     requires { ⌜ depth < 128 ⌝ }
     ensures { λ r. ⌜ (r < 128) × (stackOf (now (remaining .entry)) (suc r) ≡ climbed (stackOf (now (remaining .entry)) (suc depth))) ⌝ }
@@ -53,7 +54,8 @@ fn climb(remaining: &[u32; 128], depth: usize) -> usize
     0
 }
 
-// Node number k, from 0 on; the end where there are fewer. On each depth down to the next node's, so many siblings remain.
+// Node number k, from 0 on; the end where there are fewer. remaining has the number of siblings that are still to come on each depth down
+// to the next node's.
 pub fn find_node(d: &[u8], k: u32) -> NodePlace
     ensures { λ r. ⌜ NodeFound (now (d .entry)) k r ⌝ }
 {
