@@ -1,10 +1,11 @@
 -- The proof that `put_with` meets its contract.
+use Prim.Native.Nat.{_≤_}
 use native.Mathlib.Omega.{arith}
 use borrow.Author.Needs.{needs}
 use Rattle.entries_run.proofs.Steps.{inside-first}
 use Rattle.file.specs.Answers.{entryWith}
 use Rattle.entries_rest.proofs.Ways.{cursor-kept}
-use Rattle.entries_edit.proofs.Ways.{put-word, with-laid}
+use Rattle.entries_edit.proofs.Ways.{readable-first, readable-rest, put-word, with-laid}
 use Rattle.entries_edit.proofs.put_with.Statement.{statement}
 use Rattle.entries_edit.proofs.put_with.Tie as tie
 
@@ -15,7 +16,7 @@ put-entries-requires : tie.Need-put-entries-requires
 put-entries-requires c κs =
     let start = c .before .before .before .before .before .before .before in
     let a = start .args in
-    rw (c .before .before .first .ensures) (inside-first (a .b .now) (a .work .now) (start .pre .0), omega arith, omega arith)
+    rw (c .before .before .first .ensures) (inside-first (a .b .now) (a .work .now) (start .pre .0), omega arith, omega arith, readable-first _ (a .count) _ (a .b .now) _ (omega arith) (start .pre .5))
 
 common-at-requires : tie.Need-common-at-requires
 common-at-requires c κs = search needs
@@ -44,7 +45,9 @@ put-others-requires c κs =
     let near = front .near in
     let long = front .long in
     let one = record-put .put-record .ensures .near in
-    (omega arith, front .inside, omega arith, start .pre .3, omega arith)
+    let few : start .args .k ≤ start .args .count = omega (arith, start .pre .1) in
+    let first = rw (put .before .before .before .first .ensures) at front in
+    (omega arith, front .inside, omega arith, start .pre .3, omega arith, readable-rest (start .args .count) few first (start .pre .5))
 
 or-requires : tie.Need-or-requires
 or-requires c κs = search needs
