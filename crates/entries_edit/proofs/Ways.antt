@@ -1,7 +1,7 @@
 -- Laws of all entries that are written with an edit: those in front, one that is put or left out, the others.
 use mathlib.Core.Path.{_≡_, refl, sym, ap, _∙_}
 use mathlib.Core.List.{List, [], _∷_}
-use mathlib.Core.Bool.{Bool, true, false, _||_}
+use mathlib.Core.Bool.{Bool, true, false, _||_, or-assoc}
 use Prim.Native.Nat.{ℕ, zero, suc, _+_, _-_, _≤_}
 use native.Mathlib.Omega.{arith}
 use lib.ListN.{length, take, drop, getElem?}
@@ -78,10 +78,10 @@ kept-laid {v} {b} {work} {count} {version} {out} {at} h e =
     (all-leaves h)
 
 -- whether the entry that is put, one in front of it or one of the others needs the extended word
-pub put-word : (x : Fields) (name : List ℕ) (front word rest others all : Bool) → word ≡ (x .«skip_worktree» || x .«intent_to_add») → others ≡ (word || rest)
-    → all ≡ (front || others) → all ≡ (front || (needsWord (entryWith x name) || rest))
+pub put-word : (x : Fields) (name : List ℕ) (front rest : Bool)
+    → (((front || x .«skip_worktree») || x .«intent_to_add») || rest) ≡ (front || (needsWord (entryWith x name) || rest))
 unfolding needsWord
-put-word x name front word rest others all is more whole = whole ∙ ap (λ (t : Bool). front || t) (more ∙ ap (λ (t : Bool). t || rest) is)
+put-word x name front rest = ap (λ (t : Bool). t || rest) (or-assoc front _ _) ∙ or-assoc front _ rest
 
 -- the first k of them, then a change
 module _ {v : ℕ} {b work : List ℕ} (count : ℕ) {k version : ℕ} {out : List ℕ} {at : ℕ} {work₁ out₁ : List ℕ} {p : Progress} (few : k ≤ count)

@@ -22,16 +22,6 @@ pub enum Edit {
     Remove(u32),
 }
 
-// Whether one of two holds.
-fn or(s: bool, t: bool) -> bool
-    ensures { λ r. ⌜ r ≡ (s || t) ⌝ }
-{
-    if s {
-        return true;
-    }
-    t
-}
-
 // As they are.
 fn put_kept(
     b: &[u8],
@@ -95,10 +85,9 @@ fn put_with(
         out,
         middle,
     );
-    let word = or(fields.skip_worktree, fields.intent_to_add);
     Laid {
         at: rest.at,
-        extended: or(front.extended, or(word, rest.extended)),
+        extended: front.extended | fields.skip_worktree | fields.intent_to_add | rest.extended,
     }
 }
 
@@ -130,7 +119,7 @@ fn put_without(
     );
     Laid {
         at: rest.at,
-        extended: or(front.extended, rest.extended),
+        extended: front.extended | rest.extended,
     }
 }
 

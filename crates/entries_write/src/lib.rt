@@ -1,9 +1,8 @@
 // Entries of a body that were read before, written in a version: the name, what follows the object name, an entry, entries one after another.
 ghost use mathlib.Core.Path.{_≡_};
-ghost use mathlib.Core.Bool.{not, _&&_, _||_};
+ghost use mathlib.Core.Bool.{not, _||_};
 ghost use Prim.Native.Nat.{_+_, _*_, _≤_, _<_};
 ghost use lib.ListN.{length};
-ghost use lib.Dec.{eqb};
 ghost use Rattle.format.specs.Bytes.{putN};
 ghost use Rattle.format.specs.Reader.{isSet};
 ghost use Rattle.format.specs.Writer.{writePlain, writePacked, writeName};
@@ -147,16 +146,6 @@ fn stays(flags: u32, word: u32) -> bool
     true
 }
 
-// Whether neither version is 4, so that names are written in the same way.
-fn is_plain(v: u32, version: u32) -> bool
-    ensures { λ r. ⌜ r ≡ (not (eqb v 4) && not (eqb version 4)) ⌝ }
-{
-    if v == 4 {
-        return false;
-    }
-    version != 4
-}
-
 // The entry that a step read, by copying the bytes that stay as they are: all of them, or those before its name.
 fn put_read<'a>(
     b: &'a [u8],
@@ -176,7 +165,7 @@ fn put_read<'a>(
     let start = st.next.start;
     let len = st.next.len;
     if stays(st.flags, st.word) {
-        if is_plain(v, version) {
+        if (v != 4) & (version != 4) {
             let end = st.next.at;
             return output::put_bytes(out, at, &b[from..end]);
         }

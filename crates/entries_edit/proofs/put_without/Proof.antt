@@ -1,4 +1,5 @@
 -- The proof that `put_without` meets its contract.
+use mathlib.Core.Path.{refl}
 use Prim.Native.Nat.{_≤_}
 use native.Mathlib.Omega.{arith}
 use borrow.Author.Needs.{needs}
@@ -31,9 +32,6 @@ put-removed-requires c κs =
     let rest = readable-rest (start .args .count) few (rw (first .first .ensures) at front) (start .pre .3) in
     (omega arith, front .inside, omega arith, omega (arith, start .pre .1), rest)
 
-or-requires : tie.Need-or-requires
-or-requires c κs = search needs
-
 same-length : tie.Need-same-length
 same-length c = search needs
 
@@ -42,12 +40,12 @@ same-length-2 c = search needs
 
 returns : tie.Need-returns
 returns c =
-    let removed = c .before .before .before .before .before in
+    let removed = c .before .before .before .before .before .before in
     let put = removed .before .before .before .before .before .before .before in
     let first = put .before .before .before in
     let start = first .before .before .before .before in
     let front = rw (first .first .ensures) at (put .put-entries .ensures) in
-    without-laid (start .args .count) (omega (arith, start .pre .1)) front (removed .put-removed .ensures) (c .or .ensures)
+    without-laid (start .args .count) (omega (arith, start .pre .1)) front (removed .put-removed .ensures) refl
 
 pub put-without-spec : {M : Type 1} → statement M
 put-without-spec =
@@ -57,7 +55,6 @@ put-without-spec =
     put-entries-requires
     sub-put-removed
     put-removed-requires
-    or-requires
     same-length
     same-length-2
     returns)

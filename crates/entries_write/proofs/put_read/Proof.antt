@@ -1,6 +1,8 @@
 -- The proof that `put_read` meets its contract.
 use mathlib.Core.Path.{refl, sym, _∙_}
+use mathlib.Core.Bool.{not}
 use native.Mathlib.Omega.{arith}
+use lib.Dec.{eqb}
 use Rattle.format.specs.Bytes.{Bytes}
 use Rattle.format_laws.proofs.Tests.{and-inv}
 use borrow.Author.Tests.{not-true}
@@ -11,9 +13,6 @@ use Rattle.entries_write.proofs.put_read.Tie as tie
 
 stays-requires : tie.Need-stays-requires
 stays-requires c κs = search needs
-
-is-plain-requires : tie.Need-is-plain-requires
-is-plain-requires c κs = search needs
 
 sub-put-bytes : tie.Need-sub-put-bytes
 sub-put-bytes c = search needs
@@ -34,12 +33,12 @@ returns : tie.Need-returns
 returns c =
     let put = c .before .before in
     let plain = put .before .before .before in
-    let same = plain .before .before in
+    let same = plain .before in
     let known = same .before .before .before .before in
     let start = known .before in
     let a = start .args in
     let bytes : Bytes (a .b .now) = λ i. omega (arith, known .shared-slice-known .given i) in
-    let (old, new) = and-inv _ _ (sym (plain .before .is-plain .ensures) ∙ plain .if2 .taken) in
+    let (old, new) = and-inv (not (eqb (a .v) 4)) (not (eqb (a .version) 4)) (plain .if2 .taken) in
     plain-copied bytes (start .pre .1) (sym (same .before .stays .ensures) ∙ same .if1 .taken) _ refl (start .pre .3) (not-true _ old) (not-true _ new) (put .put-bytes .ensures)
 
 add-end : tie.Need-add-end
@@ -64,7 +63,7 @@ put-name-requires : tie.Need-put-name-requires
 put-name-requires c κs =
     let named = c .before in
     let put = named .before .before .before in
-    let start = put .before .before .before .before .before .before .before .before .before .before .before in
+    let start = put .before .before .before .before .before .before .before .before .before .before in
     let a = start .args in
     let read = start .pre .1 in
     (omega (arith, start .pre .0, head-end read (put .put-bytes2 .ensures), head-most read), head-most read, rw (named .name-at .ensures) (start .pre .3))
@@ -77,7 +76,7 @@ returns-2 c =
     let name = c .before .before in
     let named = name .before .before in
     let put = named .before .before .before in
-    let same = put .before .before .before .before .before .before in
+    let same = put .before .before .before .before .before in
     let known = same .before .before .before .before in
     let start = known .before in
     let a = start .args in
@@ -103,7 +102,6 @@ put-read-spec =
     tie.close
     (tie.spec
     stays-requires
-    is-plain-requires
     sub-put-bytes
     part-put-bytes-start
     part-put-bytes-end
