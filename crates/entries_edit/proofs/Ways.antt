@@ -1,7 +1,7 @@
 -- Laws of all entries that are written with an edit: those in front, one that is put or left out, the others.
 use mathlib.Core.Path.{_≡_, refl, sym, ap, _∙_}
 use mathlib.Core.List.{List, [], _∷_}
-use mathlib.Core.Bool.{Bool, true, false, _||_}
+use mathlib.Core.Bool.{Bool, true, false, _||_, or-assoc}
 use Prim.Native.Nat.{ℕ, zero, suc, _+_, _-_, _≤_}
 use native.Mathlib.Omega.{arith}
 use lib.ListN.{length, take, drop, getElem?}
@@ -18,7 +18,7 @@ use Rattle.entries_run.specs.Steps.{nameAt, keyAt, firstCursor, runFrom}
 use Rattle.entries_run.proofs.Names.{nameAt-length}
 use Rattle.entries_run.proofs.Steps.{run-first}
 use Rattle.entries_write.specs.declared.Progress.{Progress}
-use Rattle.entries_write.specs.Parts.{Beside, lastName, EntryWritten, EntriesWritten}
+use Rattle.entries_write.specs.Parts.{Beside, EntryWritten, Readable, lastName, EntriesWritten}
 use Rattle.file.specs.declared.Fields.{Fields}
 use Rattle.file.specs.Answers.{entryWith}
 use Rattle.entries_rest.specs.declared.Laid.{Laid}
@@ -61,6 +61,13 @@ first-name : (v : ℕ) (b work : List ℕ) → keyAt v b work firstCursor .name 
 unfolding nameAt
 first-name v b work = by-cond (λ s. s ≡ []) (eqb v 4) (take 0 work) (take 0 (drop 0 b)) (λ packed. refl) (λ plain. refl)
 
+-- the first of entries that were read
+pub readable-first : (v count k : ℕ) (b work : List ℕ) → k ≤ count → (es : List Entry) × (m : ℕ) × (readEntries 20 v count start 12 (drop 12 b) ≡ good es m)
+    → Readable v k b work firstCursor
+readable-first v count k b work few (es, m, q) =
+    let sum : k + (count - k) ≡ count = omega arith in
+    record { more = count - k; entries = es; taken = m; run = rw sum (run-first v count b work ∙ q) }
+
 -- as they are
 pub kept-laid : {v : ℕ} {b work : List ℕ} {count version : ℕ} {out : List ℕ} {at : ℕ} {work′ out′ : List ℕ} {r : Progress}
     → EntriesWritten v b work firstCursor count version out at work′ out′ r
@@ -71,10 +78,10 @@ kept-laid {v} {b} {work} {count} {version} {out} {at} h e =
     (all-leaves h)
 
 -- whether the entry that is put, one in front of it or one of the others needs the extended word
-pub put-word : (x : Fields) (name : List ℕ) (front word rest others all : Bool) → word ≡ (x .«skip_worktree» || x .«intent_to_add») → others ≡ (word || rest)
-    → all ≡ (front || others) → all ≡ (front || (needsWord (entryWith x name) || rest))
+pub put-word : (x : Fields) (name : List ℕ) (front rest : Bool)
+    → (((front || x .«skip_worktree») || x .«intent_to_add») || rest) ≡ (front || (needsWord (entryWith x name) || rest))
 unfolding needsWord
-put-word x name front word rest others all is more whole = whole ∙ ap (λ (t : Bool). front || t) (more ∙ ap (λ (t : Bool). t || rest) is)
+put-word x name front rest = ap (λ (t : Bool). t || rest) (or-assoc front _ _) ∙ or-assoc front _ rest
 
 -- the first k of them, then a change
 module _ {v : ℕ} {b work : List ℕ} (count : ℕ) {k version : ℕ} {out : List ℕ} {at : ℕ} {work₁ out₁ : List ℕ} {p : Progress} (few : k ≤ count)
@@ -88,6 +95,12 @@ module _ {v : ℕ} {b work : List ℕ} (count : ℕ) {k version : ℕ} {out : Li
       let x = h .passed (count - k) es m (rw sum (run-first v count b work ∙ q)) in
       let none = first-name v b work in
       f (x .taken) (record { wrote = rw none at (x .wrote); extended = x .extended }) (rw none at (x .last)) (x .left)
+
+  -- the others were read too
+  pub readable-rest : (es : List Entry) × (m : ℕ) × (readEntries 20 v count start 12 (drop 12 b) ≡ good es m) → Readable v (count - k) b work₁ (p .cursor)
+  readable-rest (es, m, q) =
+      let none : count - k + 0 ≡ count - k = omega arith in
+      front-on es m q (λ j front last left. record { more = 0; entries = drop k es; taken = j; run = rw none left })
 
   -- the next entry is removed
   pub without-laid : {work₂ out₂ : List ℕ} {r : Laid} {also : Bool} → RemovedLaid v b work₁ (p .cursor) (count - k) version out₁ (p .at) work₂ out₂ r

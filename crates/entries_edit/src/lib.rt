@@ -1,10 +1,13 @@
-// The entries of a body, written with one of them put or removed, or as they are.
+// The entries of a body, which were read before, written with one of them put or removed, or as they are.
 ghost use mathlib.Core.Path.{_≡_};
 ghost use mathlib.Core.Bool.{true, _||_};
-ghost use Prim.Native.Nat.{_+_, _≤_};
-ghost use lib.ListN.{length};
-ghost use Rattle.format.specs.Records.{Entry};
+ghost use mathlib.Core.List.{List};
+ghost use Prim.Native.Nat.{ℕ, _+_, _≤_};
+ghost use lib.ListN.{length, drop};
+ghost use Rattle.format.specs.Records.{Entry, start};
 ghost use Rattle.format.specs.Layout.{bit};
+ghost use Rattle.format.specs.Reading.{good};
+ghost use Rattle.format.specs.Reader.{readEntries};
 ghost use Rattle.entries_run.specs.Steps.{Room};
 ghost use Rattle.file.specs.Answers.{entryWith};
 ghost use Rattle.entries_edit.specs.declared.Edit.the-variants as E;
@@ -19,16 +22,6 @@ pub enum Edit {
     Remove(u32),
 }
 
-// Whether one of two holds.
-fn or(s: bool, t: bool) -> bool
-    ensures { λ r. ⌜ r ≡ (s || t) ⌝ }
-{
-    if s {
-        return true;
-    }
-    t
-}
-
 // As they are.
 fn put_kept(
     b: &[u8],
@@ -39,7 +32,7 @@ fn put_kept(
     out: &mut [u8],
     at: usize,
 ) -> Laid
-    requires { ⌜ Room (now b) (now work) × (at ≤ 16777216) ⌝ }
+    requires { ⌜ Room (now b) (now work) × (at ≤ 16777216) × ((es : List Entry) × (m : ℕ) × (readEntries 20 v count start 12 (drop 12 (now b)) ≡ good es m)) ⌝ }
     ensures { λ r. ⌜ ((e : Entry) → EntriesEdited v (now (b .entry)) (now (work .entry)) count E.Keep e version (now (out .entry)) at (now (work .exit)) (now (out .exit)) r) ⌝ }
 {
     let start = entries_run::first();
@@ -64,7 +57,7 @@ fn put_with(
     out: &mut [u8],
     at: usize,
 ) -> Laid
-    requires { ⌜ Room (now b) (now work) × (k + bit there ≤ count) × (fields .stage ≤ 3) × (length (now name) ≤ 8192) × (at ≤ 16777216) ⌝ }
+    requires { ⌜ Room (now b) (now work) × (k + bit there ≤ count) × (fields .stage ≤ 3) × (length (now name) ≤ 8192) × (at ≤ 16777216) × ((es : List Entry) × (m : ℕ) × (readEntries 20 v count start 12 (drop 12 (now b)) ≡ good es m)) ⌝ }
     ensures { λ r. ⌜ EntriesEdited v (now (b .entry)) (now (work .entry)) count (E.Put k there) (entryWith fields (now (name .entry))) version (now (out .entry)) at (now (work .exit)) (now (out .exit)) r ⌝ }
 {
     let start = entries_run::first();
@@ -92,10 +85,9 @@ fn put_with(
         out,
         middle,
     );
-    let word = or(fields.skip_worktree, fields.intent_to_add);
     Laid {
         at: rest.at,
-        extended: or(front.extended, or(word, rest.extended)),
+        extended: front.extended | fields.skip_worktree | fields.intent_to_add | rest.extended,
     }
 }
 
@@ -110,7 +102,7 @@ fn put_without(
     out: &mut [u8],
     at: usize,
 ) -> Laid
-    requires { ⌜ Room (now b) (now work) × (k + 1 ≤ count) × (at ≤ 16777216) ⌝ }
+    requires { ⌜ Room (now b) (now work) × (k + 1 ≤ count) × (at ≤ 16777216) × ((es : List Entry) × (m : ℕ) × (readEntries 20 v count start 12 (drop 12 (now b)) ≡ good es m)) ⌝ }
     ensures { λ r. ⌜ ((e : Entry) → EntriesEdited v (now (b .entry)) (now (work .entry)) count (E.Remove k) e version (now (out .entry)) at (now (work .exit)) (now (out .exit)) r) ⌝ }
 {
     let start = entries_run::first();
@@ -127,7 +119,7 @@ fn put_without(
     );
     Laid {
         at: rest.at,
-        extended: or(front.extended, rest.extended),
+        extended: front.extended | rest.extended,
     }
 }
 
@@ -144,7 +136,7 @@ pub fn put_edited(
     out: &mut [u8],
     at: usize,
 ) -> Laid
-    requires { ⌜ Room (now b) (now work) × (passes edit ≤ count) × (fields .stage ≤ 3) × (length (now name) ≤ 8192) × (at ≤ 16777216) ⌝ }
+    requires { ⌜ Room (now b) (now work) × (passes edit ≤ count) × (fields .stage ≤ 3) × (length (now name) ≤ 8192) × (at ≤ 16777216) × ((es : List Entry) × (m : ℕ) × (readEntries 20 v count start 12 (drop 12 (now b)) ≡ good es m)) ⌝ }
     ensures { λ r. ⌜ EntriesEdited v (now (b .entry)) (now (work .entry)) count edit (entryWith fields (now (name .entry))) version (now (out .entry)) at (now (work .exit)) (now (out .exit)) r ⌝ }
 {
     match edit {

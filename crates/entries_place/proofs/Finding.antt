@@ -2,7 +2,7 @@
 use mathlib.Core.Path.{_≡_, refl, sym, ap, _∙_}
 use mathlib.Core.List.{List, [], _∷_, _++_, append-assoc}
 use mathlib.Core.Bool.{true, false}
-use Prim.Native.Nat.{ℕ, _+_, _≤_, _<_}
+use Prim.Native.Nat.{ℕ, _+_, _-_, _≤_, _<_}
 use native.Mathlib.Omega.{arith}
 use lib.ListN.{length, take, drop, length-append, take-append-drop}
 use lib.Seq.{drop-append-seam, drop-length}
@@ -15,12 +15,14 @@ use Rattle.format.specs.Reader.{entryOf, readEntries}
 use Rattle.format.specs.Requests.{goesBefore, sameKey}
 use Rattle.format_laws.proofs.Numbers.{bit-below}
 use Rattle.format_laws.proofs.Tests.{by-test}
-use Rattle.format_laws.proofs.Readings.{bad-good, good-inv}
+use Rattle.format_laws.proofs.Readings.{bad-good, good-inv, front-inv}
 use Rattle.entries_run.specs.declared.Cursor.{Cursor}
 use Rattle.entries_run.specs.declared.Step.{Step}
+use Rattle.entries_run.specs.declared.Next.{Next}
 use Rattle.entries_run.specs.declared.Next.the-variants as N
+use Rattle.entries_run.specs.Steps as Steps
 use Rattle.entries_run.specs.Steps.{nameAt, keyAt, entryAt, Found, Stepped, firstCursor}
-use Rattle.entries_run.proofs.Steps.{Walked, walked-first, walked-end, walked-take, walked-bad, walked-more}
+use Rattle.entries_run.proofs.Steps.{entries-again, Walked, walked-first, walked-end, walked-take, walked-bad, walked-more}
 use Rattle.entries_place.specs.Places.{thenStage, compareKeys, rank, startsWith, isThere, Ranked}
 use Rattle.entries_place.proofs.Keys.{isSame, before-by, same-by}
 
@@ -76,6 +78,14 @@ module _ (v : ℕ) (b : List ℕ) (k : Key) where
   passed-first w = record { entries = []; walked = walked-first v b w; many = refl; before = refl }
 
   module _ (n : ℕ) (w : List ℕ) (c : Cursor) (h : Passed v b k n w c) (w′ : List ℕ) where
+    -- where more entries were read, a step without tests is one with them
+    pub passed-again : (count : ℕ) → n < count → (es : List Entry) × (m : ℕ) × (readEntries 20 v count start 12 (drop 12 b) ≡ good es m) → (r : Next)
+        → Steps.Passed v b w c w′ r → Stepped v b w c w′ r
+    passed-again count more (es, m, q) r t =
+        let left : length (h .entries) + (count - length (h .entries)) ≡ count = omega (arith, h .many) in
+        front-inv _ _ _ _ _ (sym (rw left at (h .walked .whole (count - length (h .entries)))) ∙ q) λ gs l rest parts sum.
+        entries-again v b w c w′ (count - length (h .entries)) (omega (arith, h .many)) gs l r rest t (λ u. u)
+
     -- the next entry stands to the key as o says
     module _ (st : Step) (t : Stepped v b w c w′ (N.Good st)) (o : Order) (e : o ≡ compareKeys (keyAt v b w′ (st .next)) k) where
       abbrev next : Entry

@@ -19,7 +19,7 @@ use Rattle.output.proofs.Laws.{wrote-nothing, wrote-then}
 use Rattle.entries_run.specs.declared.Cursor.{Cursor}
 use Rattle.entries_run.specs.declared.Step.{Step}
 use Rattle.entries_run.specs.declared.Next.the-variants as N
-use Rattle.entries_run.specs.Steps.{keyAt, entryAt, Inside, Stepped, runFrom}
+use Rattle.entries_run.specs.Steps.{nameAt, keyAt, entryAt, Inside, Stepped, runFrom}
 use Rattle.entries_run.proofs.Names.{nameAt-length}
 use Rattle.entries_run.proofs.Steps.{entries-bad, entries-good, run-none, entryAt-name}
 use Rattle.entries_write.specs.declared.Progress.{Progress}
@@ -241,13 +241,13 @@ module _ {v : ℕ} {b work : List ℕ} {c : Cursor} {work′ : List ℕ} (n vers
 -- what the names that a step is written after ask of it
 module _ {v : ℕ} {b work : List ℕ} {c : Cursor} {work′ : List ℕ} {st : Step} (t : Stepped v b work c work′ (N.Good st)) (room : 8192 ≤ length work) where
   pub after-kept : (name : List ℕ) {kept : ℕ} → length name ≤ 8192 → kept ≡ common (keyAt v b work′ (st .next) .name) name
-      → Kept (entryAt v b work′ (c .at) st .name) (length name) kept
+      → Kept (nameAt v b work′ (st .next .start) (st .next .len)) (length name) kept
   after-kept name {kept} short is =
       let (within, fits) = common-le (keyAt v b work′ (st .next) .name) name in
       step-keeps t room (length name) kept short (omega arith) (rw (step-name t) (omega arith))
 
   pub past-kept : (previous shared : ℕ) {kept : ℕ} → Inside b c → previous ≤ 8192 → shared ≤ previous → kept ≡ min shared (st .common)
-      → Kept (entryAt v b work′ (c .at) st .name) previous kept
+      → Kept (nameAt v b work′ (st .next .start) (st .next .len)) previous kept
   past-kept previous shared {kept} inside short fits is =
       let within = step-common t room inside .1 in
       step-keeps t room previous kept short (omega arith) (omega arith)

@@ -1,4 +1,4 @@
-// The entries of a body from a cursor on, written after another name than the one before it, or without the first of them.
+// The entries of a body from a cursor on, which were read before, written after another name than the one before it, or without the first of them.
 ghost use mathlib.Core.Path.{_≡_};
 ghost use mathlib.Core.Bool.{true, false};
 ghost use mathlib.Core.List.{List};
@@ -6,8 +6,8 @@ ghost use Prim.Native.Nat.{ℕ, _+_, _*_, _≤_, min};
 ghost use lib.ListN.{length};
 ghost use Rattle.format.specs.Names as Names;
 ghost use Rattle.format.specs.Layout.{bit};
-ghost use Rattle.entries_run.specs.Steps.{Inside, Placed, keyAt, entryAt};
-ghost use Rattle.entries_write.specs.Parts.{Kept};
+ghost use Rattle.entries_run.specs.Steps.{Inside, nameAt, keyAt};
+ghost use Rattle.entries_write.specs.Parts.{Kept, Readable};
 ghost use Rattle.entries_rest.specs.Rests.{StepLaid, OthersLaid, PastLaid, RemovedLaid};
 use entries_run::Cursor;
 use entries_run::Next;
@@ -51,7 +51,7 @@ fn put_stepped(
     out: &mut [u8],
     at: usize,
 ) -> Laid
-    requires { ⌜ (at + (n + 1) * 8264 ≤ 1125899906842624) × Placed (now b) from st × Inside (now b) (st .next) × (8192 ≤ length (now work)) × Kept (entryAt v (now b) (now work) from st .name) previous kept ⌝ }
+    requires { ⌜ (at + (n + 1) * 8264 ≤ 1125899906842624) × (from + 62 ≤ length (now b)) × Inside (now b) (st .next) × (8192 ≤ length (now work)) × Kept (nameAt v (now b) (now work) (st .next .start) (st .next .len)) previous kept × Readable v n (now b) (now work) (st .next) ⌝ }
     ensures { λ r. ⌜ StepLaid v (now (b .entry)) (now (work .entry)) from st n previous kept version (now (out .entry)) at (now (work .exit)) (now (out .exit)) r ⌝ }
 {
     let middle = entries_write::put_step(
@@ -59,7 +59,10 @@ fn put_stepped(
         v,
         &*work,
         from,
-        st,
+        st.flags,
+        st.word,
+        st.next.start,
+        st.next.len,
         version,
         previous,
         kept,
@@ -85,7 +88,7 @@ fn put_after(
     out: &mut [u8],
     at: usize,
 ) -> Laid
-    requires { ⌜ (at + n * 8264 ≤ 1125899906842624) × Inside (now b) c × (8192 ≤ length (now work)) × (length (now name) ≤ 8192) ⌝ }
+    requires { ⌜ (at + n * 8264 ≤ 1125899906842624) × Inside (now b) c × (8192 ≤ length (now work)) × (length (now name) ≤ 8192) × Readable v n (now b) (now work) c ⌝ }
     ensures { λ r. ⌜ OthersLaid v (now (b .entry)) (now (work .entry)) c n false (now (name .entry)) version (now (out .entry)) at (now (work .exit)) (now (out .exit)) r ⌝ }
 {
     if n == 0 {
@@ -94,7 +97,7 @@ fn put_after(
             extended: false,
         };
     }
-    let g = entries_run::next_entry(b, v, &mut *work, c);
+    let g = entries_run::pass_entry(b, v, &mut *work, c);
     match g {
         Next::Bad(_) => Laid {
             at: at,
@@ -130,10 +133,10 @@ fn put_replaced(
     out: &mut [u8],
     at: usize,
 ) -> Laid
-    requires { ⌜ (at + n * 8264 ≤ 1125899906842624) × Inside (now b) c × (8192 ≤ length (now work)) × (1 ≤ n) ⌝ }
+    requires { ⌜ (at + n * 8264 ≤ 1125899906842624) × Inside (now b) c × (8192 ≤ length (now work)) × (1 ≤ n) × Readable v n (now b) (now work) c ⌝ }
     ensures { λ r. ⌜ ((p : List ℕ) → OthersLaid v (now (b .entry)) (now (work .entry)) c n true p version (now (out .entry)) at (now (work .exit)) (now (out .exit)) r) ⌝ }
 {
-    let g = entries_run::next_entry(b, v, &mut *work, c);
+    let g = entries_run::pass_entry(b, v, &mut *work, c);
     match g {
         Next::Bad(_) => Laid {
             at: at,
@@ -162,7 +165,7 @@ pub fn put_others(
     out: &mut [u8],
     at: usize,
 ) -> Laid
-    requires { ⌜ (at + n * 8264 ≤ 1125899906842624) × Inside (now b) c × (8192 ≤ length (now work)) × (length (now name) ≤ 8192) × (bit there ≤ n) ⌝ }
+    requires { ⌜ (at + n * 8264 ≤ 1125899906842624) × Inside (now b) c × (8192 ≤ length (now work)) × (length (now name) ≤ 8192) × (bit there ≤ n) × Readable v n (now b) (now work) c ⌝ }
     ensures { λ r. ⌜ OthersLaid v (now (b .entry)) (now (work .entry)) c n there (now (name .entry)) version (now (out .entry)) at (now (work .exit)) (now (out .exit)) r ⌝ }
 {
     if there {
@@ -184,7 +187,7 @@ fn put_past(
     out: &mut [u8],
     at: usize,
 ) -> Laid
-    requires { ⌜ (at + n * 8264 ≤ 1125899906842624) × Inside (now b) c × (8192 ≤ length (now work)) × (previous ≤ 8192) × (kept ≤ previous) ⌝ }
+    requires { ⌜ (at + n * 8264 ≤ 1125899906842624) × Inside (now b) c × (8192 ≤ length (now work)) × (previous ≤ 8192) × (kept ≤ previous) × Readable v n (now b) (now work) c ⌝ }
     ensures { λ r. ⌜ PastLaid v (now (b .entry)) (now (work .entry)) c n previous kept version (now (out .entry)) at (now (work .exit)) (now (out .exit)) r ⌝ }
 {
     if n == 0 {
@@ -193,7 +196,7 @@ fn put_past(
             extended: false,
         };
     }
-    let g = entries_run::next_entry(b, v, &mut *work, c);
+    let g = entries_run::pass_entry(b, v, &mut *work, c);
     match g {
         Next::Bad(_) => Laid {
             at: at,
@@ -226,10 +229,10 @@ pub fn put_removed(
     out: &mut [u8],
     at: usize,
 ) -> Laid
-    requires { ⌜ (at + n * 8264 ≤ 1125899906842624) × Inside (now b) c × (8192 ≤ length (now work)) × (1 ≤ n) ⌝ }
+    requires { ⌜ (at + n * 8264 ≤ 1125899906842624) × Inside (now b) c × (8192 ≤ length (now work)) × (1 ≤ n) × Readable v n (now b) (now work) c ⌝ }
     ensures { λ r. ⌜ RemovedLaid v (now (b .entry)) (now (work .entry)) c n version (now (out .entry)) at (now (work .exit)) (now (out .exit)) r ⌝ }
 {
-    let g = entries_run::next_entry(b, v, &mut *work, c);
+    let g = entries_run::pass_entry(b, v, &mut *work, c);
     match g {
         Next::Bad(_) => Laid {
             at: at,

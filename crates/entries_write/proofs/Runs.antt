@@ -16,12 +16,14 @@ use Rattle.output.specs.Output.{Wrote}
 use Rattle.output.proofs.Laws.{wrote-nothing, wrote-then}
 use Rattle.entries_run.specs.declared.Cursor.{Cursor}
 use Rattle.entries_run.specs.declared.Step.{Step}
+use Rattle.entries_run.specs.declared.Next.{Next}
 use Rattle.entries_run.specs.declared.Next.the-variants as N
+use Rattle.entries_run.specs.Steps as Steps
 use Rattle.entries_run.specs.Steps.{keyAt, entryAt, Inside, Stepped, runFrom}
 use Rattle.entries_run.proofs.Steps.{entries-bad, entries-good}
-use Rattle.entries_write.specs.Parts.{EntryWritten, lastName, EntriesWritten}
+use Rattle.entries_write.specs.Parts.{EntryWritten, Readable, lastName, EntriesWritten}
 use Rattle.entries_write.proofs.Lists.{entries-append, entries-one, anyWord-append, anyWord-one, lastName-append, lastName-one}
-use Rattle.entries_write.proofs.Stepping.{step-found, step-name, step-beside}
+use Rattle.entries_write.proofs.Stepping.{readable-again, step-found, step-name, step-beside}
 
 -- of the entries all, those after es are left at a cursor, k of them
 pub record Left (v : ℕ) (b work : List ℕ) (c : Cursor) (k : ℕ) (es all : List Entry) : Type 0 where
@@ -87,6 +89,13 @@ module _ {v : ℕ} {b work₀ : List ℕ} {c₀ : Cursor} {n version : ℕ} {out
       }
 
   module _ (more : 0 < left) {work′ : List ℕ} where
+    -- what was read before is read again
+    pub writing-again : (r : Next) → Readable v n b work₀ c₀ → Steps.Passed v b work c work′ r → Stepped v b work c work′ r
+    writing-again r before t =
+        let l = h .whole (before .more) (before .entries) (before .taken) (before .run) in
+        let here : Readable v left b work c = record { more = before .more; entries = l .after; taken = l .taken; run = l .run } in
+        readable-again here more r t
+
     -- the next one is refused
     pub writing-bad : {k : ℕ} → Stepped v b work c work′ (N.Bad k)
         → EntriesWritten v b work₀ c₀ n version out₀ at work′ out (record { cursor = c; at = end; extended = extended })

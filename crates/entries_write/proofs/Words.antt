@@ -18,9 +18,8 @@ use Rattle.spelling_entries.proofs.Bytes.{put32s-be32s}
 use Rattle.spelling_entries.proofs.Flags.{bit-isSet}
 use Rattle.output.specs.Output.{Wrote}
 use Rattle.output.proofs.Laws.{wrote-then}
-use Rattle.entries_run.specs.declared.Step.{Step}
-use Rattle.entries_run.specs.Steps.{nameAt, entryAt}
-use Rattle.entries_write.specs.Parts.{Kept, Told, NameWritten, RestWritten, EntryWritten}
+use Rattle.entries_run.specs.Steps.{nameAt}
+use Rattle.entries_write.specs.Parts.{Told, NameWritten, RestWritten, entryBy, EntryWritten}
 
 -- ---- the extended word is there where it is not zero
 
@@ -87,19 +86,19 @@ module _ (out name : List ℕ) (at version base word previous kept : ℕ) (out�
         near = omega arith;
       }
 
--- ---- an entry that a step read
+-- ---- an entry of a body
 
 -- the first 60 bytes of an entry are its numbers and its object name
 fixed-bytes : (s : List ℕ) → Bytes s → 60 ≤ length s → take 60 s ≡ put32s (be32s s 0 10) ++ take 20 (drop 40 s)
 fixed-bytes s bytes long = take-add 40 20 s ∙ rw (put32s-be32s s 0 10 bytes (omega arith)) refl
 
-pub entry-told : (v : ℕ) (b work : List ℕ) (from : ℕ) (st : Step) (name : List ℕ) → name ≡ nameAt v b work (st .next .start) (st .next .len)
-    → Told (entryAt v b work from st) (st .flags / 32768 % 2 * 32768 + st .flags / 4096 % 4 * 4096) (st .word / 8192 % 4 * 8192) name
+entry-told : (v : ℕ) (b work : List ℕ) (from flags word start len : ℕ) (name : List ℕ) → name ≡ nameAt v b work start len
+    → Told (entryBy v b work from flags word start len) (flags / 32768 % 2 * 32768 + flags / 4096 % 4 * 4096) (word / 8192 % 4 * 8192) name
 unfolding entryOf wordOf
-entry-told v b work from st name is =
+entry-told v b work from flags word start len name is =
     record {
-      flags = rw (bit-isSet 32768 (st .flags)) refl;
-      word-is = rw (bit-isSet 16384 (st .word), bit-isSet 8192 (st .word)) (omega arith);
+      flags = rw (bit-isSet 32768 flags) refl;
+      word-is = rw (bit-isSet 16384 word, bit-isSet 8192 word) (omega arith);
       name-is = sym is;
     }
 
@@ -113,25 +112,20 @@ module _ (b out out′ : List ℕ) (from at p : ℕ) (there : from + 62 ≤ leng
   pub fixed-end : p ≡ at + 60
   fixed-end = fixed-wrote .end ∙ rw (length-take-le 60 (drop from b) fixed-long) refl
 
-  pub entry-wrote : (v : ℕ) (work : List ℕ) (st : Step) (version previous kept : ℕ) (out″ : List ℕ) (r : ℕ) (name : List ℕ)
-      → name ≡ nameAt v b work (st .next .start) (st .next .len) → Bytes b
-      → RestWritten out′ p version (st .flags / 32768 % 2 * 32768 + st .flags / 4096 % 4 * 4096) (st .word / 8192 % 4 * 8192) name previous kept out″ r
-      → EntryWritten out at version (entryAt v b work from st) previous kept out″ r
+  pub entry-wrote : (v : ℕ) (work : List ℕ) (flags word start len version previous kept : ℕ) (out″ : List ℕ) (r : ℕ) (name : List ℕ)
+      → name ≡ nameAt v b work start len → Bytes b
+      → RestWritten out′ p version (flags / 32768 % 2 * 32768 + flags / 4096 % 4 * 4096) (word / 8192 % 4 * 8192) name previous kept out″ r
+      → EntryWritten out at version (entryBy v b work from flags word start len) previous kept out″ r
   unfolding writeEntry entryOf
-  entry-wrote v work st version previous kept out″ r name is bytes y =
+  entry-wrote v work flags word start len version previous kept out″ r name is bytes y =
       let s : List ℕ = drop from b in
       let e = fixed-end in
       let near = y .near in
-      let told = entry-told v b work from st name is in
+      let told = entry-told v b work from flags word start len name is in
       let parts : take 60 s ≡ put32s (be32s s 0 10) ++ take 20 (drop 40 s) = fixed-bytes s (bytes-drop from b bytes) fixed-long in
       record {
         wrote = λ q beside.
-            let rest = y .wrote (entryAt v b work from st) q told (rw is beside) in
+            let rest = y .wrote (entryBy v b work from flags word start len) q told (rw is beside) in
             rw (← append-assoc (put32s (be32s s 0 10)) (take 20 (drop 40 s)) _, ← parts) (wrote-then out (take 60 s) _ out′ out″ at p r fixed-wrote rest);
         near = omega arith;
       }
-
-pub name-kept : (v : ℕ) (b work : List ℕ) (from : ℕ) (st : Step) (name : List ℕ) (previous kept : ℕ) → name ≡ nameAt v b work (st .next .start) (st .next .len)
-    → Kept (entryAt v b work from st .name) previous kept → Kept name previous kept
-unfolding entryOf
-name-kept v b work from st name previous kept is h = rw is h

@@ -1,17 +1,20 @@
 -- What functions that write entries are told, and what they leave behind.
 use mathlib.Core.Path.{_≡_}
 use mathlib.Core.List.{List, [], _∷_}
-use Prim.Native.Nat.{ℕ, _+_, _*_, _≤_}
+use Prim.Native.Nat.{ℕ, _+_, _-_, _*_, _≤_, _<_}
 use lib.ListN.{length, take, drop}
+use Rattle.format.specs.Bytes.{be16}
 use Rattle.format.specs.Names.{common}
-use Rattle.format.specs.Records.{Entry}
-use Rattle.format.specs.Layout.{bit, wordOf}
+use Rattle.format.specs.Records.{Entry, Key}
+use Rattle.format.specs.Layout.{bit, fixedLength, wordOf}
 use Rattle.format.specs.Reading.{good}
+use Rattle.format.specs.Reader.{isSet, entryOf, readEntry}
 use Rattle.format.specs.Writer.{needsWord, writeRest, writeEntry, writeEntries}
 use Rattle.format.specs.Requests.{anyWord}
 use Rattle.output.specs.Output.{Wrote}
 use Rattle.entries_run.specs.declared.Cursor.{Cursor}
-use Rattle.entries_run.specs.Steps.{keyAt, Inside, runFrom}
+use Rattle.entries_run.specs.declared.Step.{Step}
+use Rattle.entries_run.specs.Steps.{nameAt, keyAt, entryAt, Inside, runFrom}
 use Rattle.entries_write.specs.declared.Progress.{Progress}
 
 -- ---- one entry
@@ -44,12 +47,33 @@ pub record RestWritten (out : List ℕ) (at version base word : ℕ) (name : Lis
   pub wrote : (e : Entry) (p : List ℕ) → Told e base word name → Beside p name previous kept → Wrote out at (writeRest 20 version p (needsWord e) e) out′ r
   pub near : r ≤ at + 8204
 
+-- the entry at a place of the body b, by its flags, its extended word or 0, and where its name of len bytes stands
+abbrev pub entryBy : ℕ → List ℕ → List ℕ → ℕ → ℕ → ℕ → ℕ → ℕ → Entry
+entryBy v b work from flags word start len = entryOf 20 (drop from b) flags word (nameAt v b work start len)
+
 -- the entry e was written
 pub record EntryWritten (out : List ℕ) (at version : ℕ) (e : Entry) (previous kept : ℕ) (out′ : List ℕ) (r : ℕ) : Type 0 where
   pub wrote : (p : List ℕ) → Beside p (e .name) previous kept → Wrote out at (writeEntry 20 version p e) out′ r
   pub near : r ≤ at + 8264
 
+-- the entry at a place that a step read, after some key
+pub record IsRead (v : ℕ) (b work : List ℕ) (from : ℕ) (st : Step) : Type 0 where
+  pub key : Key
+  pub read : readEntry 20 v key from (drop from b) ≡ good (entryAt v b work from st) (st .next .at - from)
+  pub flags : st .flags ≡ be16 (drop from b) 60
+  pub head : st .head ≡ fixedLength 20 (isSet 16384 (st .flags))
+  pub least : 62 ≤ st .head
+  pub ahead : from + st .head < st .next .at
+  pub next : Inside b (st .next)
+
 -- ---- entries
+
+-- n entries, and perhaps more, are read from a cursor on
+pub record Readable (v n : ℕ) (b work : List ℕ) (c : Cursor) : Type 0 where
+  pub more : ℕ
+  pub entries : List Entry
+  pub taken : ℕ
+  pub run : runFrom v (n + more) b work c ≡ good entries taken
 
 -- the name after which the next entry stands: that of the last of es, or p where there is none
 unfoldable pub lastName : List ℕ → List Entry → List ℕ

@@ -1,14 +1,14 @@
-// Entries of a body, written in a version: the name, what follows the object name, an entry that a step read, entries one after another.
+// Entries of a body that were read before, written in a version: the name, what follows the object name, an entry, entries one after another.
 ghost use mathlib.Core.Path.{_≡_};
-ghost use mathlib.Core.Bool.{_||_};
+ghost use mathlib.Core.Bool.{not, _||_};
 ghost use Prim.Native.Nat.{_+_, _*_, _≤_, _<_};
 ghost use lib.ListN.{length};
 ghost use Rattle.format.specs.Bytes.{putN};
 ghost use Rattle.format.specs.Reader.{isSet};
 ghost use Rattle.format.specs.Writer.{writePlain, writePacked, writeName};
 ghost use Rattle.output.specs.Output.{Wrote};
-ghost use Rattle.entries_run.specs.Steps.{entryAt, Inside, Placed};
-ghost use Rattle.entries_write.specs.Parts.{Kept, NameWritten, RestWritten, EntryWritten, EntriesWritten};
+ghost use Rattle.entries_run.specs.Steps.{nameAt, entryAt, Inside};
+ghost use Rattle.entries_write.specs.Parts.{Kept, NameWritten, RestWritten, entryBy, EntryWritten, IsRead, Readable, EntriesWritten};
 use entries_run::Cursor;
 use entries_run::Next;
 use entries_run::Step;
@@ -96,29 +96,31 @@ pub fn put_rest(
     put_name(out, end, version, 64, name, previous, kept)
 }
 
-// The entry at a place of the body, of which a step told the flags, the extended word and where its name stands.
+// The entry at a place of the body with these flags and this extended word, or 0, whose name has len bytes and stands at start.
 pub fn put_step<'a>(
     b: &'a [u8],
     v: u32,
     work: &'a [u8],
     from: usize,
-    st: Step,
+    flags: u32,
+    word: u32,
+    start: usize,
+    len: usize,
     version: u32,
     previous: usize,
     kept: usize,
     out: &mut [u8],
     at: usize,
 ) -> usize
-    requires { ⌜ (at + 8264 ≤ 1125899906842624) × Placed (now b) from st × (8192 ≤ length (now work)) × Kept (entryAt v (now b) (now work) from st .name) previous kept ⌝ }
-    ensures { λ r. ⌜ EntryWritten (now (out .entry)) at version (entryAt v (now (b .entry)) (now (work .entry)) from st) previous kept (now (out .exit)) r ⌝ }
+    requires { ⌜ (at + 8264 ≤ 1125899906842624) × (from + 62 ≤ length (now b)) × (start + len ≤ length (now b)) × (len ≤ 8192) × (8192 ≤ length (now work)) × Kept (nameAt v (now b) (now work) start len) previous kept ⌝ }
+    ensures { λ r. ⌜ EntryWritten (now (out .entry)) at version (entryBy v (now (b .entry)) (now (work .entry)) from flags word start len) previous kept (now (out .exit)) r ⌝ }
 {
     let fixed = from + 60;
     let middle = output::put_bytes(&mut *out, at, &b[from..fixed]);
-    let base = st.flags / 32768 % 2 * 32768 + st.flags / 4096 % 4 * 4096;
-    let word = st.word / 8192 % 4 * 8192;
-    let next = st.next;
-    let name = entries_run::name_at(b, v, work, next.start, next.len);
-    put_rest(out, middle, version, base, word, name, previous, kept)
+    let base = flags / 32768 % 2 * 32768 + flags / 4096 % 4 * 4096;
+    let needed = word / 8192 % 4 * 8192;
+    let name = entries_run::name_at(b, v, work, start, len);
+    put_rest(out, middle, version, base, needed, name, previous, kept)
 }
 
 // Whether an entry with this extended word, or 0 without one, needs it, or one before did.
@@ -134,7 +136,62 @@ pub fn either(extended: bool, word: u32) -> bool
     word / 8192 % 2 == 1
 }
 
-// n entries from a cursor on. One that is refused ends them.
+// Whether the bytes before a name stay as they are: an extended word is left out where none of its bits is set.
+fn stays(flags: u32, word: u32) -> bool
+    ensures { λ r. ⌜ r ≡ (not (isSet 16384 flags) || (isSet 16384 word || isSet 8192 word)) ⌝ }
+{
+    if flags / 16384 % 2 == 1 {
+        return either(false, word);
+    }
+    true
+}
+
+// The entry that a step read, by copying the bytes that stay as they are: all of them, or those before its name.
+fn put_read<'a>(
+    b: &'a [u8],
+    v: u32,
+    work: &'a [u8],
+    from: usize,
+    st: Step,
+    version: u32,
+    previous: usize,
+    kept: usize,
+    out: &mut [u8],
+    at: usize,
+) -> usize
+    requires { ⌜ (at + 8264 ≤ 1125899906842624) × IsRead v (now b) (now work) from st × (8192 ≤ length (now work)) × Kept (nameAt v (now b) (now work) (st .next .start) (st .next .len)) previous kept ⌝ }
+    ensures { λ r. ⌜ EntryWritten (now (out .entry)) at version (entryAt v (now (b .entry)) (now (work .entry)) from st) previous kept (now (out .exit)) r ⌝ }
+{
+    let start = st.next.start;
+    let len = st.next.len;
+    if stays(st.flags, st.word) {
+        if (v != 4) & (version != 4) {
+            let end = st.next.at;
+            return output::put_bytes(out, at, &b[from..end]);
+        }
+        let end = from + st.head;
+        let middle = output::put_bytes(&mut *out, at, &b[from..end]);
+        let name = entries_run::name_at(b, v, work, start, len);
+        return put_name(out, middle, version, st.head, name, previous, kept);
+    }
+    put_step(
+        b,
+        v,
+        work,
+        from,
+        st.flags,
+        st.word,
+        start,
+        len,
+        version,
+        previous,
+        kept,
+        out,
+        at,
+    )
+}
+
+// n entries from a cursor on, which were read before.
 pub fn put_entries(
     b: &[u8],
     v: u32,
@@ -145,7 +202,7 @@ pub fn put_entries(
     out: &mut [u8],
     at: usize,
 ) -> Progress
-    requires { ⌜ Inside (now b) c × (8192 ≤ length (now work)) × (at + n * 8264 ≤ 1125899906842624) ⌝ }
+    requires { ⌜ Inside (now b) c × (8192 ≤ length (now work)) × (at + n * 8264 ≤ 1125899906842624) × Readable v n (now b) (now work) c ⌝ }
     ensures { λ r. ⌜ EntriesWritten v (now (b .entry)) (now (work .entry)) c n version (now (out .entry)) at (now (work .exit)) (now (out .exit)) r ⌝ }
 {
     let mut cursor = c;
@@ -153,7 +210,7 @@ pub fn put_entries(
     let mut extended = false;
     let mut left = n;
     while 0 < left {
-        let g = entries_run::next_entry(b, v, &mut *work, cursor);
+        let g = entries_run::pass_entry(b, v, &mut *work, cursor);
         match g {
             Next::Bad(_) => {
                 return Progress {
@@ -163,7 +220,7 @@ pub fn put_entries(
                 };
             }
             Next::Good(st) => {
-                end = put_step(
+                end = put_read(
                     b,
                     v,
                     &*work,

@@ -2,7 +2,7 @@
 use native.Mathlib.Omega.{arith}
 use borrow.Author.Needs.{needs}
 use Rattle.entries_run.proofs.Steps.{inside-first}
-use Rattle.entries_edit.proofs.Ways.{kept-laid}
+use Rattle.entries_edit.proofs.Ways.{readable-first, kept-laid}
 use Rattle.entries_edit.proofs.put_kept.Statement.{statement}
 use Rattle.entries_edit.proofs.put_kept.Tie as tie
 
@@ -13,7 +13,7 @@ put-entries-requires : tie.Need-put-entries-requires
 put-entries-requires c κs =
     let start = c .before .before .before .before .before .before in
     let a = start .args in
-    rw (c .before .before .first .ensures) (inside-first (a .b .now) (a .work .now) (start .pre .0), omega arith, omega arith)
+    rw (c .before .before .first .ensures) (inside-first (a .b .now) (a .work .now) (start .pre .0), omega arith, omega arith, readable-first _ (a .count) _ (a .b .now) _ (omega arith) (start .pre .2))
 
 same-length : tie.Need-same-length
 same-length c = search needs

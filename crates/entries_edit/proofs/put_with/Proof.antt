@@ -1,10 +1,12 @@
 -- The proof that `put_with` meets its contract.
+use mathlib.Core.Path.{_∙_}
+use Prim.Native.Nat.{_≤_}
 use native.Mathlib.Omega.{arith}
 use borrow.Author.Needs.{needs}
 use Rattle.entries_run.proofs.Steps.{inside-first}
 use Rattle.file.specs.Answers.{entryWith}
 use Rattle.entries_rest.proofs.Ways.{cursor-kept}
-use Rattle.entries_edit.proofs.Ways.{put-word, with-laid}
+use Rattle.entries_edit.proofs.Ways.{readable-first, readable-rest, put-word, with-laid}
 use Rattle.entries_edit.proofs.put_with.Statement.{statement}
 use Rattle.entries_edit.proofs.put_with.Tie as tie
 
@@ -15,7 +17,7 @@ put-entries-requires : tie.Need-put-entries-requires
 put-entries-requires c κs =
     let start = c .before .before .before .before .before .before .before in
     let a = start .args in
-    rw (c .before .before .first .ensures) (inside-first (a .b .now) (a .work .now) (start .pre .0), omega arith, omega arith)
+    rw (c .before .before .first .ensures) (inside-first (a .b .now) (a .work .now) (start .pre .0), omega arith, omega arith, readable-first _ (a .count) _ (a .b .now) _ (omega arith) (start .pre .5))
 
 common-at-requires : tie.Need-common-at-requires
 common-at-requires c κs = search needs
@@ -44,28 +46,26 @@ put-others-requires c κs =
     let near = front .near in
     let long = front .long in
     let one = record-put .put-record .ensures .near in
-    (omega arith, front .inside, omega arith, start .pre .3, omega arith)
-
-or-requires : tie.Need-or-requires
-or-requires c κs = search needs
-
-or-requires-2 : tie.Need-or-requires-2
-or-requires-2 c κs = search needs
-
-or-requires-3 : tie.Need-or-requires-3
-or-requires-3 c κs = search needs
+    let few : start .args .k ≤ start .args .count = omega (arith, start .pre .1) in
+    let first = rw (put .before .before .before .first .ensures) at front in
+    (omega arith, front .inside, omega arith, start .pre .3, omega arith, readable-rest (start .args .count) few first (start .pre .5))
 
 same-length : tie.Need-same-length
-same-length c = search needs
+same-length c =
+    let others = c .before .before .before .before .before .before .before .before in
+    let put = others .before .before .before .before .before .before .before .before .before .before .before .before .before .before in
+    others .put-others .ensures .left .long ∙ put .put-entries .ensures .long
 
 same-length-2 : tie.Need-same-length-2
-same-length-2 c = search needs
+same-length-2 c =
+    let others = c .before .before .before .before .before .before .before .before in
+    let record-put = others .before .before .before .before .before in
+    let put = record-put .before .before .before .before .before .before .before .before .before in
+    others .put-others .ensures .left .out-long ∙ record-put .put-record .kept .0 ∙ put .put-entries .ensures .out-long
 
 returns : tie.Need-returns
 returns c =
-    let two = c .before in
-    let one = two .before in
-    let others = one .before .before .before .before .before in
+    let others = c .before .before .before .before .before .before .before .before in
     let record-put = others .before .before .before .before .before in
     let shared = record-put .before .before in
     let put = shared .before .before .before .before .before .before .before in
@@ -74,9 +74,7 @@ returns c =
     let a = start .args in
     let front = rw (first .first .ensures) at (put .put-entries .ensures) in
     let long = front .long in
-    let before = put .put-entries .result .extended in
-    let after = others .put-others .result .extended in
-    let word = put-word (a .fields) (a .name .now) before (one .or .result) after (two .or2 .result) (c .or3 .result) (one .or .ensures) (two .or2 .ensures) (c .or3 .ensures) in
+    let word = put-word (a .fields) (a .name .now) (put .put-entries .result .extended) (others .put-others .result .extended) in
     let x = record-put .put-record in
     with-laid (a .count) (omega (arith, start .pre .1)) front (entryWith (a .fields) (a .name .now)) (a .there) (omega (arith, start .pre .0 .room))
     (shared .common-at .ensures) (x .ensures) (x .kept .0) (others .put-others .ensures) word
@@ -91,9 +89,6 @@ put-with-spec =
     put-record-requires
     sub-put-others
     put-others-requires
-    or-requires
-    or-requires-2
-    or-requires-3
     same-length
     same-length-2
     returns)

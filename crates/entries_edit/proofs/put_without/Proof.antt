@@ -1,8 +1,10 @@
 -- The proof that `put_without` meets its contract.
+use mathlib.Core.Path.{refl}
+use Prim.Native.Nat.{_≤_}
 use native.Mathlib.Omega.{arith}
 use borrow.Author.Needs.{needs}
 use Rattle.entries_run.proofs.Steps.{inside-first}
-use Rattle.entries_edit.proofs.Ways.{without-laid}
+use Rattle.entries_edit.proofs.Ways.{readable-first, readable-rest, without-laid}
 use Rattle.entries_edit.proofs.put_without.Statement.{statement}
 use Rattle.entries_edit.proofs.put_without.Tie as tie
 
@@ -13,16 +15,22 @@ put-entries-requires : tie.Need-put-entries-requires
 put-entries-requires c κs =
     let start = c .before .before .before .before .before .before in
     let a = start .args in
-    rw (c .before .before .first .ensures) (inside-first (a .b .now) (a .work .now) (start .pre .0), omega arith, omega arith)
+    rw (c .before .before .first .ensures) (inside-first (a .b .now) (a .work .now) (start .pre .0), omega arith, omega arith, readable-first _ (a .count) _ (a .b .now) _ (omega arith) (start .pre .3))
 
 sub-put-removed : tie.Need-sub-put-removed
 sub-put-removed c = search needs
 
 put-removed-requires : tie.Need-put-removed-requires
-put-removed-requires c κs = search needs
-
-or-requires : tie.Need-or-requires
-or-requires c κs = search needs
+put-removed-requires c κs =
+    let put = c .before .before .before .before .before .before in
+    let first = put .before .before .before in
+    let start = first .before .before .before .before in
+    let front = put .put-entries .ensures in
+    let near = front .near in
+    let long = front .long in
+    let few : start .args .k ≤ start .args .count = omega (arith, start .pre .1) in
+    let rest = readable-rest (start .args .count) few (rw (first .first .ensures) at front) (start .pre .3) in
+    (omega arith, front .inside, omega arith, omega (arith, start .pre .1), rest)
 
 same-length : tie.Need-same-length
 same-length c = search needs
@@ -32,12 +40,12 @@ same-length-2 c = search needs
 
 returns : tie.Need-returns
 returns c =
-    let removed = c .before .before .before .before .before in
+    let removed = c .before .before .before .before .before .before in
     let put = removed .before .before .before .before .before .before .before in
     let first = put .before .before .before in
     let start = first .before .before .before .before in
     let front = rw (first .first .ensures) at (put .put-entries .ensures) in
-    without-laid (start .args .count) (omega (arith, start .pre .1)) front (removed .put-removed .ensures) (c .or .ensures)
+    without-laid (start .args .count) (omega (arith, start .pre .1)) front (removed .put-removed .ensures) refl
 
 pub put-without-spec : {M : Type 1} → statement M
 put-without-spec =
@@ -47,7 +55,6 @@ put-without-spec =
     put-entries-requires
     sub-put-removed
     put-removed-requires
-    or-requires
     same-length
     same-length-2
     returns)

@@ -1,12 +1,15 @@
 -- The proof that `find_place` meets its contract. The loop keeps that the entries before the cursor all stand before the name and stage.
 use mathlib.Core.Path.{_≡_, refl, _∙_}
-use Prim.Native.Nat.{_-_, _≤_}
+use mathlib.Core.List.{List}
+use Prim.Native.Nat.{ℕ, _-_, _≤_}
 use native.Mathlib.Omega.{arith}
 use borrow.Author.Needs.{needs}
 use lib.ListN.{length, drop}
+use Rattle.entries_run.specs.declared.Next.{Next}
+use Rattle.entries_run.specs.Steps as Steps
 use Rattle.entries_run.specs.Steps.{Inside}
 use Rattle.entries_run.proofs.Steps.{inside-first}
-use Rattle.entries_place.proofs.Finding.{Passed, passed-first, passed-more, passed-end, passed-bad, passed-stop}
+use Rattle.entries_place.proofs.Finding.{Passed, passed-first, passed-again, passed-more, passed-end, passed-bad, passed-stop}
 use Rattle.entries_place.proofs.find_place.Statement.{statement}
 use Rattle.entries_place.proofs.find_place.Tie as tie
 
@@ -25,10 +28,19 @@ loop-holds : tie.Need-loop-holds Inv-loop μ-loop
 loop-holds c =
     let st = c .before .before .before .before in
     let a = st .args in
-    rw (c .first .ensures) (inside-first (a .b .now) (a .work .now) (st .pre), refl, refl, omega arith, passed-first (a .v) (a .b .now) _ (a .work .now))
+    rw (c .first .ensures) (inside-first (a .b .now) (a .work .now) (st .pre .0), refl, refl, omega arith, passed-first (a .v) (a .b .now) _ (a .work .now))
 
-next-entry-requires : tie.Need-next-entry-requires Inv-loop μ-loop
-next-entry-requires c κs = (c .before .before .loop .inv .0, omega arith)
+pass-entry-requires : tie.Need-pass-entry-requires Inv-loop μ-loop
+pass-entry-requires c κs = (c .before .before .loop .inv .0, omega arith)
+
+-- the entries were read before
+again : (e : tie.After-pass-entry Inv-loop μ-loop) → let l = e .before .before .before in let a = l .before .before .before .before .before .args in
+    (work′ : List ℕ) (r : Next) → Steps.Passed (a .v) (a .b .now) (l .loop .work) (l .loop .c) work′ r → Steps.Stepped (a .v) (a .b .now) (l .loop .work) (l .loop .c) work′ r
+again e work′ r =
+    let l = e .before .before .before in
+    let st = l .before .before .before .before .before in
+    let a = st .args in
+    passed-again (a .v) (a .b .now) _ _ (l .loop .work) (l .loop .c) (l .loop .inv .4) work′ (a .count) (e .before .before .loop-test .taken) (st .pre .1) r
 
 enum-told : tie.Need-enum-told Inv-loop μ-loop
 enum-told c = search needs
@@ -42,7 +54,7 @@ returns c =
     let l = e .before .before .before in
     let a = l .before .before .before .before .before .args in
     let i = l .loop .inv in
-    let t = rw (c .enum-told .given .1) at (e .next-entry .ensures) in
+    let t = rw (c .enum-told .given .1) at (again e _ _ (e .pass-entry .ensures)) in
     passed-bad (a .v) (a .b .now) _ _ (l .loop .work) (l .loop .c) (i .4) _ (a .count) _ (t .long ∙ i .1) (t .past ∙ i .2) (e .before .before .loop-test .taken) _ t
 
 enum-known-g : tie.Need-enum-known-g Inv-loop μ-loop
@@ -52,8 +64,9 @@ order-at-requires : tie.Need-order-at-requires Inv-loop μ-loop
 order-at-requires c κs =
     let g = c .before .before .before in
     let e = g .before .before .before .before in
-    let t = rw (g .g .given .1) at (e .next-entry .ensures) in
-    (t .found _ refl .next, omega arith)
+    let l = e .before .before .before in
+    let t = rw (g .g .given .1) at (again e _ _ (e .pass-entry .ensures)) in
+    (t .found _ refl .next, omega (arith, t .long, l .loop .inv .1, l .before .before .before .before .before .pre .0 .room))
 
 enum-told-2 : tie.Need-enum-told-2 Inv-loop μ-loop
 enum-told-2 c = search needs
@@ -72,7 +85,7 @@ loop-again c =
     let l = e .before .before .before in
     let a = l .before .before .before .before .before .args in
     let i = l .loop .inv in
-    let t = rw (g .g .given .1) at (e .next-entry .ensures) in (
+    let t = rw (g .g .given .1) at (again e _ _ (e .pass-entry .ensures)) in (
       t .found _ refl .next,
       t .long ∙ i .1,
       t .past ∙ i .2,
@@ -94,7 +107,7 @@ returns-2 c =
     let l = e .before .before .before in
     let a = l .before .before .before .before .before .args in
     let i = l .loop .inv in
-    let t = rw (g .g .given .1) at (e .next-entry .ensures) in
+    let t = rw (g .g .given .1) at (again e _ _ (e .pass-entry .ensures)) in
     passed-stop (a .v) (a .b .now) _ _ (l .loop .work) (l .loop .c) (i .4) _ (a .count) _ (t .long ∙ i .1) (t .past ∙ i .2) (e .before .before .loop-test .taken) _ t _
     (rw (c .enum-told3 .given .1) at (o .order-at .ensures)) refl
 
@@ -112,7 +125,7 @@ returns-3 c =
     let l = e .before .before .before in
     let a = l .before .before .before .before .before .args in
     let i = l .loop .inv in
-    let t = rw (g .g .given .1) at (e .next-entry .ensures) in
+    let t = rw (g .g .given .1) at (again e _ _ (e .pass-entry .ensures)) in
     passed-stop (a .v) (a .b .now) _ _ (l .loop .work) (l .loop .c) (i .4) _ (a .count) _ (t .long ∙ i .1) (t .past ∙ i .2) (e .before .before .loop-test .taken) _ t _
     (rw (c .enum-told4 .given .1) at (o .order-at .ensures)) refl
 
@@ -134,7 +147,7 @@ find-place-spec =
     μ-loop
     first-requires
     loop-holds
-    next-entry-requires
+    pass-entry-requires
     enum-told
     same-length
     returns

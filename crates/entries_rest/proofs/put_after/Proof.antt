@@ -6,15 +6,19 @@ use borrow.Author.Needs.{needs}
 use Rattle.entries_rest.proofs.Ways.{after-none, others-refused, after-kept, after-laid}
 use Rattle.entries_rest.proofs.put_after.Statement.{statement}
 use Rattle.entries_rest.proofs.put_after.Tie as tie
-use Rattle.entries_write.proofs.Stepping.{step-found, step-placed, step-room}
+use Rattle.entries_write.proofs.Stepping.{readable-again, readable-next, step-found, step-room}
 
 returns : tie.Need-returns
 returns c =
     let a = c .before .before .before .before .before .args in
     after-none _ _ _ _ (a .n) (a .version) (a .out .now) (a .at) (c .if1 .taken) _
 
-next-entry-requires : tie.Need-next-entry-requires
-next-entry-requires c κs = search needs
+pass-entry-requires : tie.Need-pass-entry-requires
+pass-entry-requires c κs = search needs
+
+-- there is an entry, and it was read before
+some : (e : tie.After-pass-entry) → 0 < e .before .before .before .before .before .before .before .args .n
+some e = omega (arith, e .before .before .if1 .left)
 
 enum-told : tie.Need-enum-told
 enum-told c = search needs
@@ -27,7 +31,7 @@ common-at-requires c κs =
     let known = c .before .before in
     let read = known .before .before .before .before in
     let start = read .before .before .before .before .before .before .before in
-    let t = rw (known .g .given .1) at (read .next-entry .ensures) in
+    let t = rw (known .g .given .1) at (readable-again (start .pre .4) (some read) _ (read .pass-entry .ensures)) in
     (step-found t .next, step-room t (start .pre .2))
 
 sub-put-stepped : tie.Need-sub-put-stepped
@@ -40,9 +44,9 @@ put-stepped-requires c κs =
     let read = known .before .before .before .before in
     let start = read .before .before .before .before .before .before .before in
     let a = start .args in
-    let t = rw (known .g .given .1) at (read .next-entry .ensures) in
+    let t = rw (known .g .given .1) at (readable-again (start .pre .4) (some read) _ (read .pass-entry .ensures)) in
     let kept = after-kept t (start .pre .2) (a .name .now) (start .pre .3) (shared .common-at .ensures) in
-    (omega arith, step-placed t, step-found t .next, step-room t (start .pre .2), kept)
+    (omega arith, omega (arith, step-found t .least, step-found t .ahead, step-found t .next .inside), step-found t .next, step-room t (start .pre .2), kept, readable-next (start .pre .4) (some read) t)
 
 same-length : tie.Need-same-length
 same-length c = search needs
@@ -52,7 +56,7 @@ returns-2 c =
     let read = c .before .before .before .before in
     let start = read .before .before .before .before .before .before .before in
     let a = start .args in
-    let t = rw (c .enum-told .given .1) at (read .next-entry .ensures) in
+    let t = rw (c .enum-told .given .1) at (readable-again (start .pre .4) (some read) _ (read .pass-entry .ensures)) in
     others-refused (a .n) (a .version) (a .out .now) (a .at) (omega arith) t false (a .name .now)
 
 same-length-2 : tie.Need-same-length-2
@@ -70,16 +74,15 @@ returns-3 c =
     let tested = read .before .before in
     let start = tested .before .before .before .before .before in
     let a = start .args in
-    let t = rw (known .g .given .1) at (read .next-entry .ensures) in
-    let more : 0 < a .n = omega (arith, tested .if1 .left) in
-    after-laid (a .n) (a .version) (a .out .now) (a .at) more t (a .name .now) (shared .common-at .ensures) (put .put-stepped .ensures)
+    let t = rw (known .g .given .1) at (readable-again (start .pre .4) (some read) _ (read .pass-entry .ensures)) in
+    after-laid (a .n) (a .version) (a .out .now) (a .at) (some read) t (a .name .now) (shared .common-at .ensures) (put .put-stepped .ensures)
 
 pub put-after-spec : {M : Type 1} → statement M
 put-after-spec =
     tie.close
     (tie.spec
     returns
-    next-entry-requires
+    pass-entry-requires
     enum-told
     enum-known-g
     common-at-requires

@@ -7,7 +7,7 @@ put-replaced-requires : tie.Need-put-replaced-requires
 put-replaced-requires c κs =
     let tested = c .before .before in
     let start = tested .before .before .before .before .before in
-    (start .pre .0, start .pre .1, start .pre .2, rw (tested .if1 .taken) at (start .pre .4))
+    (start .pre .0, start .pre .1, start .pre .2, rw (tested .if1 .taken) at (start .pre .4), start .pre .5)
 
 same-length : tie.Need-same-length
 same-length c = search needs

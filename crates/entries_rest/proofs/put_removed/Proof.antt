@@ -4,10 +4,10 @@ use borrow.Author.Needs.{needs}
 use Rattle.entries_rest.proofs.Ways.{removed-refused, removed-laid}
 use Rattle.entries_rest.proofs.put_removed.Statement.{statement}
 use Rattle.entries_rest.proofs.put_removed.Tie as tie
-use Rattle.entries_write.proofs.Stepping.{step-found, step-room, step-common}
+use Rattle.entries_write.proofs.Stepping.{readable-again, readable-next, step-found, step-room, step-common}
 
-next-entry-requires : tie.Need-next-entry-requires
-next-entry-requires c κs = search needs
+pass-entry-requires : tie.Need-pass-entry-requires
+pass-entry-requires c κs = search needs
 
 enum-told : tie.Need-enum-told
 enum-told c = search needs
@@ -23,9 +23,9 @@ put-past-requires c κs =
     let known = c .before .before .before in
     let read = known .before .before .before .before in
     let start = read .before .before .before .before .before in
-    let t = rw (known .g .given .1) at (read .next-entry .ensures) in
+    let t = rw (known .g .given .1) at (readable-again (start .pre .4) (start .pre .3) _ (read .pass-entry .ensures)) in
     let fits = step-common t (start .pre .2) (start .pre .1) .0 in
-    (omega arith, step-found t .next, step-room t (start .pre .2), start .pre .1 .short, fits)
+    (omega arith, step-found t .next, step-room t (start .pre .2), start .pre .1 .short, fits, readable-next (start .pre .4) (start .pre .3) t)
 
 same-length : tie.Need-same-length
 same-length c = search needs
@@ -35,7 +35,7 @@ returns c =
     let read = c .before .before .before .before in
     let start = read .before .before .before .before .before in
     let a = start .args in
-    let t = rw (c .enum-told .given .1) at (read .next-entry .ensures) in
+    let t = rw (c .enum-told .given .1) at (readable-again (start .pre .4) (start .pre .3) _ (read .pass-entry .ensures)) in
     removed-refused (a .n) (a .version) (a .out .now) (a .at) (omega arith) t
 
 same-length-2 : tie.Need-same-length-2
@@ -51,14 +51,14 @@ returns-2 c =
     let read = known .before .before .before .before in
     let start = read .before .before .before .before .before in
     let a = start .args in
-    let t = rw (known .g .given .1) at (read .next-entry .ensures) in
+    let t = rw (known .g .given .1) at (readable-again (start .pre .4) (start .pre .3) _ (read .pass-entry .ensures)) in
     removed-laid (a .n) (a .version) (a .out .now) (a .at) (omega arith) t (start .pre .2) (start .pre .1) (put .put-past .ensures)
 
 pub put-removed-spec : {M : Type 1} → statement M
 put-removed-spec =
     tie.close
     (tie.spec
-    next-entry-requires
+    pass-entry-requires
     enum-told
     enum-known-g
     sub-put-past

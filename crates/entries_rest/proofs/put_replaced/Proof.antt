@@ -5,10 +5,10 @@ use borrow.Author.Needs.{needs}
 use Rattle.entries_rest.proofs.Ways.{others-refused, replaced-laid}
 use Rattle.entries_rest.proofs.put_replaced.Statement.{statement}
 use Rattle.entries_rest.proofs.put_replaced.Tie as tie
-use Rattle.entries_write.proofs.Stepping.{step-found, step-room}
+use Rattle.entries_write.proofs.Stepping.{readable-again, readable-next, step-found, step-room}
 
-next-entry-requires : tie.Need-next-entry-requires
-next-entry-requires c κs = search needs
+pass-entry-requires : tie.Need-pass-entry-requires
+pass-entry-requires c κs = search needs
 
 enum-told : tie.Need-enum-told
 enum-told c = search needs
@@ -24,8 +24,8 @@ put-entries-requires c κs =
     let known = c .before .before .before in
     let read = known .before .before .before .before in
     let start = read .before .before .before .before .before in
-    let t = rw (known .g .given .1) at (read .next-entry .ensures) in
-    (step-found t .next, step-room t (start .pre .2), omega arith)
+    let t = rw (known .g .given .1) at (readable-again (start .pre .4) (start .pre .3) _ (read .pass-entry .ensures)) in
+    (step-found t .next, step-room t (start .pre .2), omega arith, readable-next (start .pre .4) (start .pre .3) t)
 
 same-length : tie.Need-same-length
 same-length c = search needs
@@ -35,7 +35,7 @@ returns c =
     let read = c .before .before .before .before in
     let start = read .before .before .before .before .before in
     let a = start .args in
-    let t = rw (c .enum-told .given .1) at (read .next-entry .ensures) in
+    let t = rw (c .enum-told .given .1) at (readable-again (start .pre .4) (start .pre .3) _ (read .pass-entry .ensures)) in
     others-refused (a .n) (a .version) (a .out .now) (a .at) (omega arith) t true
 
 same-length-2 : tie.Need-same-length-2
@@ -51,14 +51,14 @@ returns-2 c =
     let read = known .before .before .before .before in
     let start = read .before .before .before .before .before in
     let a = start .args in
-    let t = rw (known .g .given .1) at (read .next-entry .ensures) in
+    let t = rw (known .g .given .1) at (readable-again (start .pre .4) (start .pre .3) _ (read .pass-entry .ensures)) in
     replaced-laid (a .n) (a .version) (a .out .now) (a .at) (omega arith) t (put .put-entries .ensures)
 
 pub put-replaced-spec : {M : Type 1} → statement M
 put-replaced-spec =
     tie.close
     (tie.spec
-    next-entry-requires
+    pass-entry-requires
     enum-told
     enum-known-g
     sub-put-entries

@@ -1,11 +1,14 @@
 -- The proof that `put_entries` meets its contract. The loop keeps that some entries are written, which with those left are all.
 use mathlib.Core.Path.{_∙_}
-use Prim.Native.Nat.{_≤_}
+use mathlib.Core.List.{List}
+use Prim.Native.Nat.{ℕ, _≤_}
 use native.Mathlib.Omega.{arith}
 use borrow.Author.Needs.{needs}
 use lib.ListN.{length}
-use Rattle.entries_write.proofs.Runs.{Writing, writing-start, writing-bad, writing-more, writing-end}
-use Rattle.entries_write.proofs.Stepping.{step-placed, step-kept}
+use Rattle.entries_run.specs.declared.Next.{Next}
+use Rattle.entries_run.specs.Steps as Steps
+use Rattle.entries_write.proofs.Runs.{Writing, writing-start, writing-again, writing-bad, writing-more, writing-end}
+use Rattle.entries_write.proofs.Stepping.{step-read, step-kept}
 use Rattle.entries_write.proofs.put_entries.Statement.{statement}
 use Rattle.entries_write.proofs.put_entries.Tie as tie
 
@@ -19,8 +22,15 @@ abbrev μ-loop : tie.MeasureT-loop
 loop-holds : tie.Need-loop-holds Inv-loop μ-loop
 loop-holds c = writing-start _ _ _ _ _ _ _ _ (c .before .before .before .pre .0)
 
-next-entry-requires : tie.Need-next-entry-requires Inv-loop μ-loop
-next-entry-requires c κs = let long = c .before .before .loop .inv .long in (c .before .before .loop .inv .inside, omega arith)
+pass-entry-requires : tie.Need-pass-entry-requires Inv-loop μ-loop
+pass-entry-requires c κs = let long = c .before .before .loop .inv .long in (c .before .before .loop .inv .inside, omega arith)
+
+-- the entries were read before
+again : (e : tie.After-pass-entry Inv-loop μ-loop) → let l = e .before .before .before in let a = l .before .before .before .before .args in
+    (work′ : List ℕ) (r : Next) → Steps.Passed (a .v) (a .b .now) (l .loop .work) (l .loop .cursor) work′ r → Steps.Stepped (a .v) (a .b .now) (l .loop .work) (l .loop .cursor) work′ r
+again e work′ r =
+    let l = e .before .before .before in
+    writing-again (l .loop .inv) (e .before .before .loop-test .taken) r (l .before .before .before .before .pre .3)
 
 enum-told : tie.Need-enum-told Inv-loop μ-loop
 enum-told c = search needs
@@ -28,7 +38,7 @@ enum-told c = search needs
 same-length : tie.Need-same-length Inv-loop μ-loop
 same-length c =
     let l = c .before .before .before .before .before .before .before in
-    let t = c .before .before .before .before .next-entry .ensures in
+    let t = c .before .before .before .before .pass-entry .ensures in
     t .long ∙ l .loop .inv .long
 
 same-length-2 : tie.Need-same-length-2 Inv-loop μ-loop
@@ -37,23 +47,23 @@ same-length-2 c = c .before .before .before .before .before .before .before .loo
 returns : tie.Need-returns Inv-loop μ-loop
 returns c =
     let l = c .before .before .before .before .before .before .before in
-    let t = rw (c .enum-told .given .1) at (c .before .before .before .before .next-entry .ensures) in
+    let t = rw (c .enum-told .given .1) at (again (c .before .before .before .before) _ _ (c .before .before .before .before .pass-entry .ensures)) in
     writing-bad (l .loop .inv) (c .before .before .before .before .before .before .loop-test .taken) t
 
 enum-known-g : tie.Need-enum-known-g Inv-loop μ-loop
 enum-known-g c = search needs
 
-put-step-requires : tie.Need-put-step-requires Inv-loop μ-loop
-put-step-requires c κs =
+put-read-requires : tie.Need-put-read-requires Inv-loop μ-loop
+put-read-requires c κs =
     let l = c .before .before .before .before .before .before .before .before .before .before in
-    let t = rw (c .before .before .before .g .given .1) at (c .before .before .before .before .before .before .before .next-entry .ensures) in
+    let t = rw (c .before .before .before .g .given .1) at (again (c .before .before .before .before .before .before .before) _ _ (c .before .before .before .before .before .before .before .pass-entry .ensures)) in
     let long = t .long in
     let same = l .loop .inv .long in
     let near = l .loop .inv .near in
     let sum = l .loop .inv .count in
     let room : 8192 ≤ length (l .loop .work) = omega arith in (
       omega arith,
-      step-placed t,
+      step-read t,
       omega arith,
       step-kept t room (l .loop .inv .inside),
     )
@@ -72,10 +82,10 @@ loop-again c =
     let l = c .before .before .before .before .before .before .before .before .before .before .before .before .before .before .before in
     let more = c .before .before .before .before .before .before .before .before .before .before .before .before .before .before .loop-test .taken in
     let read = c .before .before .before .before .before .before .before .before .before .before .before .before in
-    let t = rw (c .before .before .before .before .before .before .before .before .g .given .1) at (read .next-entry .ensures) in
+    let t = rw (c .before .before .before .before .before .before .before .before .g .given .1) at (again read _ _ (read .pass-entry .ensures)) in
     let same = l .loop .inv .long in
     let room : 8192 ≤ length (l .loop .work) = omega arith in
-    writing-more (l .loop .inv) more t room (c .before .before .before .before .put-step .ensures) (c .before .either .ensures)
+    writing-more (l .loop .inv) more t room (c .before .before .before .before .put-read .ensures) (c .before .either .ensures)
 
 same-length-3 : tie.Need-same-length-3 Inv-loop μ-loop
 same-length-3 c = c .before .loop .inv .long
@@ -95,13 +105,13 @@ put-entries-spec =
     Inv-loop
     μ-loop
     loop-holds
-    next-entry-requires
+    pass-entry-requires
     enum-told
     same-length
     same-length-2
     returns
     enum-known-g
-    put-step-requires
+    put-read-requires
     either-requires
     sub-left
     loop-less

@@ -1,7 +1,7 @@
 -- The proof that `put_step` meets its contract.
 use native.Mathlib.Omega.{arith}
 use Rattle.format.specs.Bytes.{Bytes}
-use Rattle.entries_write.proofs.Words.{fixed-end, entry-wrote, name-kept}
+use Rattle.entries_write.proofs.Words.{fixed-end, entry-wrote}
 use borrow.Author.Needs.{needs}
 use Rattle.entries_write.proofs.put_step.Statement.{statement}
 use Rattle.entries_write.proofs.put_step.Tie as tie
@@ -30,8 +30,8 @@ mul-base-2 c = search needs
 add-base : tie.Need-add-base
 add-base c = search needs
 
-mul-word : tie.Need-mul-word
-mul-word c = search needs
+mul-needed : tie.Need-mul-needed
+mul-needed c = search needs
 
 name-at-requires : tie.Need-name-at-requires
 name-at-requires c κs = search needs
@@ -39,11 +39,11 @@ name-at-requires c κs = search needs
 put-rest-requires : tie.Need-put-rest-requires
 put-rest-requires c κs =
     let named = c .before in
-    let put = c .before .before .before .before .before .before .before .before in
-    let start = c .before .before .before .before .before .before .before .before .before .before .before .before .before .before in
+    let put = named .before .before .before in
+    let start = put .before .before .before .before .before .before in
     let a = start .args in
-    let end = fixed-end (a .b .now) _ _ (a .from) _ _ (start .pre .1 .fixed) (put .put-bytes .ensures) in
-    (omega arith, omega arith, name-kept (a .v) (a .b .now) (a .work .now) (a .from) (a .st) _ _ _ (named .name-at .ensures) (start .pre .3))
+    let end = fixed-end (a .b .now) _ _ (a .from) _ _ (start .pre .1) (put .put-bytes .ensures) in
+    (omega arith, omega arith, rw (named .name-at .ensures) (start .pre .5))
 
 same-length : tie.Need-same-length
 same-length c = search needs
@@ -51,9 +51,9 @@ same-length c = search needs
 returns : tie.Need-returns
 returns c =
     let rest = c .before .before in
-    let named = c .before .before .before .before in
-    let put = c .before .before .before .before .before .before .before .before .before .before .before in
-    let known = c .before .before .before .before .before .before .before .before .before .before .before .before .before .before .before .before in
+    let named = rest .before .before in
+    let put = named .before .before .before in
+    let known = put .before .before .before .before .before in
     let start = known .before in
     let a = start .args in
     let bytes : Bytes (a .b .now) = λ i. omega (arith, known .shared-slice-known .given i) in
@@ -64,11 +64,14 @@ returns c =
     (a .from)
     _
     _
-    (start .pre .1 .fixed)
+    (start .pre .1)
     (put .put-bytes .ensures)
     (a .v)
     (a .work .now)
-    (a .st)
+    (a .flags)
+    (a .word)
+    (a .start)
+    (a .len)
     _
     _
     _
@@ -91,7 +94,7 @@ put-step-spec =
     mul-base
     mul-base-2
     add-base
-    mul-word
+    mul-needed
     name-at-requires
     put-rest-requires
     same-length

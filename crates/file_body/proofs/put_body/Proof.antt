@@ -23,7 +23,7 @@ put-edited-requires c κs =
     let h = c .before .before .before .before in
     let st = h .before .before .before .before .before .before .before in
     let p = st .pre in
-    (p .room, p .reach, p .stage, p .short, omega (arith, header-end h))
+    (p .room, p .reach, p .stage, p .short, omega (arith, header-end h), (p .records .entries, _, p .has .entries))
 
 is-change-requires : tie.Need-is-change-requires
 is-change-requires c κs = search needs

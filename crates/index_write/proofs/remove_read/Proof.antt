@@ -32,7 +32,7 @@ slice-aggregate-find-place : tie.Need-slice-aggregate-find-place
 slice-aggregate-find-place c = let a = c .before .before .before .before .before .before .before .args in sym (length-take-le (length (a .file .now) - 20) (a .file .now) (omega arith))
 
 find-place-requires : tie.Need-find-place-requires
-find-place-requires c κs = search needs
+find-place-requires c κs = let h = c .before .before .before .before .before .before .before .before .pre .0 .contains in (search needs, (h .contents .records .entries, _, h .entries))
 
 no-fields-requires : tie.Need-no-fields-requires
 no-fields-requires c κs = search needs
