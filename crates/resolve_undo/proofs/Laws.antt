@@ -25,7 +25,7 @@ use Rattle.resolve_undo.specs.declared.ModeRead.the-variants as M
 use Rattle.resolve_undo.specs.declared.Record.{Record}
 use Rattle.resolve_undo.specs.declared.RecordRead.{RecordRead}
 use Rattle.resolve_undo.specs.declared.RecordRead.the-variants as R
-use Rattle.resolve_undo.specs.Answers.{modeFound, modeRead, ModeWithin, objectLength, objectsLength, objectIn, readThird, readSecond, readFirst, recordOf, recordRead, RecordWithin}
+use Rattle.resolve_undo.specs.Answers.{modeFound, modeRead, ModeWithin, objectLength, objectsLength, objectIn, withMode, readModes, recordOf, recordRead, RecordWithin, RestRead}
 
 -- ---- modes
 
@@ -91,15 +91,15 @@ refused at (bad n p) h = refl
 refused at (good u k) h = absurd (h u k refl)
 
 -- a mode and what comes next
-then-bad : (at : ℕ) (r : Read ℕ) (k : ℕ → ℕ → Read Undo) → M.Bad ≡ modeRead at r → recordRead at (bind r k) ≡ R.Bad
-unfolding bind
-then-bad at r k e = mode-bad-inv at r e λ n p q. rw q
+then-bad : (at p : ℕ) (s : List ℕ) (k : ℕ → List ℕ → Read Undo) → M.Bad ≡ modeRead at (readMode p s) → recordRead at (withMode p k s) ≡ R.Bad
+unfolding bind withMode
+then-bad at p s k e = mode-bad-inv at (readMode p s) e λ n m q. rw q
 
-then-good : (at next m : ℕ) (d : List ℕ) (k : ℕ → List ℕ → Read Undo) (r : Read ℕ) → M.Good m next ≡ modeRead at r
-    → recordRead at (bind r (λ x n. k x (drop n (drop at d)))) ≡ recordRead next (k m (drop next d))
-unfolding bind
-then-good at next m d k r e =
-    mode-good-inv at r m next e λ n q place.
+then-good : (at next m p : ℕ) (d : List ℕ) (k : ℕ → List ℕ → Read Undo) → M.Good m next ≡ modeRead at (readMode p (drop at d))
+    → recordRead at (withMode p k (drop at d)) ≡ recordRead next (k m (drop next d))
+unfolding bind withMode
+then-good at next m p d k e =
+    mode-good-inv at (readMode p (drop at d)) m next e λ n q place.
     rw (q, place) (record-shift at n (k m (drop n (drop at d))) ∙ rw (drop-drop n at d))
 
 -- ---- stages
@@ -237,22 +237,16 @@ record-within at i end (R.Good r) h w = omega arith
 pub record-bounds : (at end : ℕ) (g : Record) (r : RecordRead) → RecordWithin at end r → r ≡ R.Good g → (at < g .next) × (g .next ≤ end)
 record-bounds at end g r h e = rw e at h
 
--- k reads what comes after the mode
-module _ (at size : ℕ) (d : List ℕ) (r : ModeRead) (k : ℕ → List ℕ → ℕ → List ℕ → Read Undo) (told : (p : ℕ) → r ≡ modeRead at (readMode p (drop at d))) where
-  -- the answer g, after a path of so many bytes
-  abbrev Rest : RecordRead → Type 0
-  Rest g =
-      ((p : ℕ) (s : List ℕ) → length s ≡ size → g ≡ recordRead at (bind (readMode p (drop at d)) (λ x n. k p s x (drop n (drop at d)))))
-      × RecordWithin at (length d) g
+-- r is the mode at the place at, and k reads what comes after it
+module _ (at size : ℕ) (d : List ℕ) (k : ℕ → List ℕ → ℕ → List ℕ → Read Undo) (r : ModeRead)
+    (told : ((p : ℕ) → r ≡ modeRead at (readMode p (drop at d))) × ModeWithin at (length d) r) where
+  pub no-mode : r ≡ M.Bad → RestRead at size d (λ p path. withMode p (k p path)) R.Bad
+  no-mode e = (λ p path long. sym (then-bad at p _ _ (sym e ∙ told .0 p)), tt)
 
-  pub no-mode : r ≡ M.Bad → Rest R.Bad
-  no-mode e = (λ p s long. sym (then-bad at _ _ (sym e ∙ told p)), tt)
-
-  pub after-mode : (m next : ℕ) (g : RecordRead) → r ≡ M.Good m next → ModeWithin at (length d) r
-      → ((p : ℕ) (s : List ℕ) → length s ≡ size → g ≡ recordRead next (k p s m (drop next d))) × RecordWithin next (length d) g → Rest g
-  after-mode m next g e w rest =
-      let b = mode-within at (length d) m next r w e in (
-        λ p s long. rest .0 p s long ∙ sym (then-good at next m d (k p s) _ (sym e ∙ told p)),
+  pub after-mode : (m next : ℕ) (g : RecordRead) → r ≡ M.Good m next → RestRead next size d (λ p path. k p path m) g → RestRead at size d (λ p path. withMode p (k p path)) g
+  after-mode m next g e rest =
+      let b = mode-within at (length d) m next r (told .1) e in (
+        λ p path long. rest .0 p path long ∙ sym (then-good at next m p d (k p path) (sym e ∙ told .0 p)),
         record-within at next (length d) g (omega arith) (rest .1),
       )
 
@@ -260,8 +254,8 @@ module _ (at size : ℕ) (d : List ℕ) (r : ModeRead) (k : ℕ → List ℕ →
 
 pub undo-is : (w p : ℕ) (previous s : List ℕ)
     → readUndo w p previous s
-    ≡ bind (readText 0 17 p s) (λ path m. need (okName path && isBelow (compare previous path)) 17 p (readFirst w p path (drop m s)))
-unfolding readUndo readFirst readSecond readThird
+    ≡ bind (readText 0 17 p s) (λ path m. need (okName path && isBelow (compare previous path)) 17 p (readModes w p path (drop m s)))
+unfolding readUndo readModes withMode
 undo-is w p previous s = refl
 
 module _ (w at e : ℕ) (d previous : List ℕ) (is : e ≡ at + before 0 (drop at d)) (inside : at ≤ length d) (p : ℕ) where
@@ -278,9 +272,9 @@ module _ (w at e : ℕ) (d previous : List ℕ) (is : e ≡ at + before 0 (drop 
     undo-path h = rw (undo-is, text-some 0 17 p d at e is more, h)
 
     pub undo-rest : (okName path && isBelow (compare previous path)) ≡ true
-        → recordRead at (readUndo w p previous (drop at d)) ≡ recordRead (e + 1) (readFirst w p path (drop (e + 1) d))
+        → recordRead at (readUndo w p previous (drop at d)) ≡ recordRead (e + 1) (readModes w p path (drop (e + 1) d))
     unfolding bind need
     undo-rest h =
         let place : at + (e + 1 - at) ≡ e + 1 = omega arith in
         rw (undo-is, text-some 0 17 p d at e is more, h)
-        (record-shift at (e + 1 - at) (readFirst w p path (drop (e + 1 - at) (drop at d))) ∙ rw (drop-drop (e + 1 - at) at d, place))
+        (record-shift at (e + 1 - at) (readModes w p path (drop (e + 1 - at) (drop at d))) ∙ rw (drop-drop (e + 1 - at) at d, place))

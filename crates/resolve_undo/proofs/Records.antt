@@ -1,45 +1,58 @@
 -- The records of the data, one after another: what is answered of what is left.
 use mathlib.Core.Path.{_≡_, refl, sym, ap, _∙_}
 use mathlib.Core.List.{List, [], _∷_}
+use mathlib.Core.Bool.{true}
 use Prim.Native.Nat.{ℕ, suc, _+_, _-_, _≤_, _<_}
 use native.Mathlib.Omega.{arith}
 use lib.ListN.{length, take, drop, length-drop, drop-of-length-le}
 use lib.Seq.{drop-drop, length-take-le}
 use lib.Dec.{lit≤}
 use Rattle.format.specs.Bytes.{before}
+use Rattle.format.specs.Names.{okName}
 use Rattle.format.specs.Records.{Undo}
 use Rattle.format.specs.Reading.{Read, bad, good, shift, bind}
-use Rattle.format.specs.Reader.{readUndo, readUndos}
+use Rattle.format.specs.Reader.{readText, readStages, readUndo, readUndos}
+use Rattle.format_laws.proofs.Tests.{and-inv}
 use Rattle.format_laws.proofs.Texts.{before-le, text-inv}
 use Rattle.format_laws.proofs.Readings.{need-inv, bind-inv}
 use Rattle.spelling.proofs.Undo.{undosOf, undosOf-end, undosOf-step}
 use Rattle.resolve_undo.specs.declared.Record.{Record}
+use Rattle.resolve_undo.specs.declared.RecordRead.{RecordRead}
 use Rattle.resolve_undo.specs.declared.RecordRead.the-variants as R
 use Rattle.resolve_undo.specs.declared.RecordsRead.{RecordsRead}
 use Rattle.resolve_undo.specs.declared.RecordsRead.the-variants as S
 use Rattle.format.specs.Places.{afterUndo, undoStart}
-use Rattle.resolve_undo.specs.Answers.{readThird, readSecond, readFirst, recordRead, recordsRead}
-use Rattle.resolve_undo.proofs.Laws.{record-bad-inv, record-good-inv, stages-read, undo-is}
+use Rattle.resolve_undo.specs.Answers.{withMode, readModes, recordOf, recordRead, RecordWithin, recordsRead}
+use Rattle.resolve_undo.proofs.Laws.{record-bad-inv, record-good-inv, stages-read, record-bounds, undo-is}
 
 -- ---- what one record says
 
-first-path : (w p : ℕ) (path s : List ℕ) (u : Undo) (k : ℕ) → 1 ≤ w → readFirst w p path s ≡ good u k → u .path ≡ path
-unfolding readFirst readSecond readThird
-first-path w p path s u k wide q =
-    bind-inv _ _ _ _ q λ a i₀ j₀ aq q₁ size₀.
+-- a record that was read: its path, then the rest; by continuation
+pub undo-inv {ℓ} : {X : Type ℓ} (w p : ℕ) (previous s : List ℕ) (u : Undo) (k : ℕ) → readUndo w p previous s ≡ good u k
+    → ((path : List ℕ) (i j : ℕ) → readText 0 17 p s ≡ good path i → okName path ≡ true → readModes w p path (drop i s) ≡ good u j → i + j ≡ k → X) → X
+undo-inv w p previous s u k q f =
+    bind-inv _ _ _ _ (sym (undo-is w p previous s) ∙ q) λ path i j pathq q₁ size.
+    need-inv _ _ _ _ _ _ q₁ λ test q₂. f path i j pathq (and-inv (okName path) _ test .0) q₂ size
+
+-- the same as far as the object names, which stand after n bytes
+pub stages-inv {ℓ} : {X : Type ℓ} (w p : ℕ) (previous s : List ℕ) (u : Undo) (k : ℕ) → readUndo w p previous s ≡ good u k
+    → ((path : List ℕ) (i a b c n j : ℕ) → readText 0 17 p s ≡ good path i → readStages w p path a b c (drop n s) ≡ good u j → n + j ≡ k → X) → X
+unfolding readModes withMode
+stages-inv w p previous s u k q f =
+    undo-inv w p previous s u k q λ path i j pathq ok q₀ size.
+    bind-inv _ _ _ _ q₀ λ a i₀ j₀ aq q₁ size₀.
     bind-inv _ _ _ _ q₁ λ b i₁ j₁ bq q₂ size₁.
     bind-inv _ _ _ _ q₂ λ c i₂ j₂ cq q₃ size₂.
-    ap (λ (u : Undo). u .path) (stages-read w p path a b c _ wide u j₂ q₃ .0)
+    f path i a b c (i + i₀ + i₁ + i₂) j₂ pathq (rw (drop-drop i₀ i s, drop-drop i₁ (i + i₀) s, drop-drop i₂ (i + i₀ + i₁) s) at q₃) (omega arith)
 
 -- it begins with its path
 pub undo-begins : (w p : ℕ) (previous s : List ℕ) (u : Undo) (k : ℕ) → 1 ≤ w → readUndo w p previous s ≡ good u k
     → (take (length (u .path)) s ≡ u .path) × (length (u .path) ≤ length s)
 undo-begins w p previous s u k wide q =
-    bind-inv _ _ _ _ (sym (undo-is w p previous s) ∙ q) λ path i₀ j₀ pathq q₁ size₀.
-    text-inv 0 17 p s path i₀ pathq λ fits is size₁.
-    need-inv _ _ _ _ _ _ q₁ λ ok q₃.
+    stages-inv w p previous s u k q λ path i a b c n j pathq stagesq size.
+    text-inv 0 17 p s path i pathq λ fits is size₁.
     let l = before-le 0 s in
-    let path-is : u .path ≡ take (before 0 s) s = first-path w p path _ u j₀ wide q₃ ∙ sym is in
+    let path-is : u .path ≡ take (before 0 s) s = ap (λ (u : Undo). u .path) (stages-read w p path a b c _ wide u j stagesq .0) ∙ sym is in
     let long : length (u .path) ≡ before 0 s = ap length path-is ∙ length-take-le (before 0 s) s l in
     (rw long (sym path-is), omega arith)
 
@@ -65,15 +78,9 @@ from-start p d = from-none (readUndos 20 p (length d) [] d)
 pub from-end : (p n at : ℕ) (previous d : List ℕ) → length d ≤ at → answerFrom p n at previous d ≡ S.Good n
 from-end p n at previous d end = let sum : n + 0 ≡ n = omega arith in rw (drop-of-length-le d end, undosOf-end, sum)
 
--- a record that is refused
-bad-from : (at n : ℕ) (r : Read Undo) (k : Undo → ℕ → Read (List Undo)) → R.Bad ≡ recordRead at r → recordsFrom n (bind r k) ≡ S.Bad
+bad-from : (n m p : ℕ) (k : Undo → ℕ → Read (List Undo)) → recordsFrom n (bind (bad m p) k) ≡ S.Bad
 unfolding bind
-bad-from at n r k e = record-bad-inv at r e λ m p q. rw q
-
-pub from-bad : (p n at : ℕ) (previous d : List ℕ) → at < length d → R.Bad ≡ recordRead at (readUndo 20 p previous (drop at d)) → answerFrom p n at previous d ≡ S.Bad
-from-bad p n at previous d inside e =
-    let long : 1 ≤ length (drop at d) = simp length-drop (omega arith) in
-    rw (undosOf-step 20 p previous (drop at d) long) (bad-from at n _ _ e)
+bad-from n m p k = refl
 
 more-from : (n k : ℕ) (u : Undo) (r : Read (List Undo)) → recordsFrom n (shift k (bind r (λ us m. good (u ∷ us) 0))) ≡ recordsFrom (n + 1) r
 unfolding bind shift
@@ -90,42 +97,64 @@ module _ (w p : ℕ) (previous s : List ℕ) (u : Undo) (k : ℕ) (q : readUndo 
   unfolding undoStart afterUndo
   place-after n = rw q
 
--- a record that is read
-module _ (p at : ℕ) (previous d : List ℕ) (g : Record) (e : R.Good g ≡ recordRead at (readUndo 20 p previous (drop at d))) where
-  pub path-fits : at ≤ length d → at + g .path ≤ length d
-  path-fits inside =
-      record-good-inv at (readUndo 20 p previous (drop at d)) g e λ u k q is.
-      let h = undo-begins 20 p previous (drop at d) u k (lit≤ tt) q in
-      let l = length-drop at d in
-      rw is (omega arith)
+pub place-end : (p at left : ℕ) (previous d : List ℕ) → left ≤ 0 → at + undoStart 20 p left previous (drop at d) ≡ at
+unfolding undoStart
+place-end p at left previous d h = let none : left ≡ 0 = omega arith in rw none (omega arith)
 
-  pub from-good : at < length d → (n : ℕ) → answerFrom p n at previous d ≡ answerFrom p (n + 1) (g .next) (take (g .path) (drop at d)) d
-  from-good inside n =
-      record-good-inv at (readUndo 20 p previous (drop at d)) g e λ u k q is.
-      let long : 1 ≤ length (drop at d) = simp length-drop (omega arith) in
-      let h = undo-begins 20 p previous (drop at d) u k (lit≤ tt) q in
-      rw (undos-after 20 p previous (drop at d) u k q long, is, h .0, ← (drop-drop k at d))
-      (more-from n k u (undosOf 20 p (u .path) (drop k (drop at d))))
+-- ---- the record at a place
 
-  -- the record left after it
-  pub place-more : (left : ℕ) → 0 < left → at + undoStart 20 p left previous (drop at d) ≡ g .next + undoStart 20 p (left - 1) (take (g .path) (drop at d)) (drop (g .next) d)
-  place-more left some =
-      record-good-inv at (readUndo 20 p previous (drop at d)) g e λ u k q is.
-      let h = undo-begins 20 p previous (drop at d) u k (lit≤ tt) q in
-      let later = place-after 20 p previous (drop at d) u k q (left - 1) in
-      let one : left ≡ suc (left - 1) = omega arith in
-      rw (is, h .0, ← (drop-drop k at d)) (ap (λ n. at + undoStart 20 p n previous (drop at d)) one ∙ omega arith)
+-- r is the record at the place at, after one of the path previous
+abbrev pub Told : ℕ → List ℕ → List ℕ → RecordRead → Type 0
+Told at previous d r = ((p : ℕ) → r ≡ recordRead at (readUndo 20 p previous (drop at d))) × RecordWithin at (length d) r
 
--- ---- the place of a record
+module _ (at : ℕ) (previous d : List ℕ) (r : RecordRead) (told : Told at previous d r) where
+  -- it is refused
+  module _ (e : r ≡ R.Bad) (p : ℕ) where
+    pub refusal {ℓ} : {X : Type ℓ} → ((n m : ℕ) → readUndo 20 p previous (drop at d) ≡ bad n m → X) → X
+    refusal f = record-bad-inv at (readUndo 20 p previous (drop at d)) (sym e ∙ told .0 p) f
 
-module _ (p at left : ℕ) (previous d : List ℕ) where
-  pub place-end : left ≤ 0 → at + undoStart 20 p left previous (drop at d) ≡ at
-  unfolding undoStart
-  place-end h = let none : left ≡ 0 = omega arith in rw none (omega arith)
+    pub from-bad : (n : ℕ) → at < length d → answerFrom p n at previous d ≡ S.Bad
+    from-bad n inside =
+        let long : 1 ≤ length (drop at d) = simp length-drop (omega arith) in
+        refusal λ m i q. rw (undosOf-step 20 p previous (drop at d) long, q) (bad-from n m i _)
 
-  pub place-bad : 0 < left → R.Bad ≡ recordRead at (readUndo 20 p previous (drop at d)) → at + undoStart 20 p left previous (drop at d) ≡ at
-  unfolding undoStart afterUndo
-  place-bad some e =
-      record-bad-inv at (readUndo 20 p previous (drop at d)) e λ n q bad.
-      let one : left ≡ suc (left - 1) = omega arith in
-      rw (one, bad) (omega arith)
+    pub place-bad : (left : ℕ) → 0 < left → at + undoStart 20 p left previous (drop at d) ≡ at
+    unfolding undoStart afterUndo
+    place-bad left some =
+        let one : left ≡ suc (left - 1) = omega arith in
+        refusal λ m i q. rw (one, q) (omega arith)
+
+  -- it is read
+  module _ (g : Record) (e : r ≡ R.Good g) where
+    module _ (p : ℕ) where
+      pub reading {ℓ} : {X : Type ℓ} → ((u : Undo) (k : ℕ) → readUndo 20 p previous (drop at d) ≡ good u k → g ≡ recordOf at u k → X) → X
+      reading f = record-good-inv at (readUndo 20 p previous (drop at d)) g (sym e ∙ told .0 p) f
+
+      pub from-good : at < length d → (n : ℕ) → answerFrom p n at previous d ≡ answerFrom p (n + 1) (g .next) (take (g .path) (drop at d)) d
+      from-good inside n =
+          reading λ u k q is.
+          let long : 1 ≤ length (drop at d) = simp length-drop (omega arith) in
+          let h = undo-begins 20 p previous (drop at d) u k (lit≤ tt) q in
+          rw (undos-after 20 p previous (drop at d) u k q long, is, h .0, ← (drop-drop k at d))
+          (more-from n k u (undosOf 20 p (u .path) (drop k (drop at d))))
+
+      -- the record left after it
+      pub place-more : (left : ℕ) → 0 < left
+          → at + undoStart 20 p left previous (drop at d) ≡ g .next + undoStart 20 p (left - 1) (take (g .path) (drop at d)) (drop (g .next) d)
+      place-more left some =
+          reading λ u k q is.
+          let h = undo-begins 20 p previous (drop at d) u k (lit≤ tt) q in
+          let later = place-after 20 p previous (drop at d) u k q (left - 1) in
+          let one : left ≡ suc (left - 1) = omega arith in
+          rw (is, h .0, ← (drop-drop k at d)) (ap (λ n. at + undoStart 20 p n previous (drop at d)) one ∙ omega arith)
+
+    -- it takes bytes, and it and its path end in the data
+    pub within : at ≤ length d → (at < g .next) × (g .next ≤ length d) × (at + g .path ≤ length d)
+    within inside =
+        let b = record-bounds at (length d) g r (told .1) e in
+        let fits : at + g .path ≤ length d =
+        reading 0 λ u k q is.
+        let h = undo-begins 20 0 previous (drop at d) u k (lit≤ tt) q in
+        let l = length-drop at d in
+        rw is (omega arith) in
+        (b .0, b .1, fits)

@@ -13,15 +13,16 @@ use Rattle.format.specs.Names.{okName, compare, isBelow}
 use Rattle.format.specs.Records.{Undo}
 use Rattle.format.specs.Reading.{Read, bad, good, need, bind}
 use Rattle.format.specs.Reader.{readText, readUndo, readUndos}
-use Rattle.format_laws.proofs.Tests.{false-true, and-inv, and-both}
-use Rattle.format_laws.proofs.Readings.{good-inv, need-inv, bind-inv, need-good, bind-good, none-some}
+use Rattle.format_laws.proofs.Tests.{false-true, and-both}
+use Rattle.format_laws.proofs.Readings.{good-inv, bind-inv, need-good, bind-good, none-some, same-size}
 use Rattle.spelling.proofs.Undo.{undosOf, undosOf-end, undosOf-step}
 use Rattle.resolve_undo.specs.declared.Record.{Record}
+use Rattle.resolve_undo.specs.declared.RecordRead.{RecordRead}
 use Rattle.resolve_undo.specs.declared.RecordRead.the-variants as R
 use Rattle.format.specs.Places.{undoStart}
-use Rattle.resolve_undo.specs.Answers.{objectLength, objectsLength, objectIn, readThird, readSecond, readFirst, recordRead, item, valueOf, undoAt, nothing, shown}
-use Rattle.resolve_undo.proofs.Laws.{record-bad-inv, record-good-inv, stages-read, undo-is}
-use Rattle.resolve_undo.proofs.Records.{undo-begins, place-after}
+use Rattle.resolve_undo.specs.Answers.{objectLength, objectsLength, objectIn, item, valueOf, undoAt, nothing, shown}
+use Rattle.resolve_undo.proofs.Laws.{stages-read, undo-is}
+use Rattle.resolve_undo.proofs.Records.{undo-inv, stages-inv, undo-begins, place-after, Told, refusal, reading}
 
 -- ---- the record at a place
 
@@ -33,10 +34,8 @@ below-all (x ∷ path) ok = refl
 
 pub undo-alone : (w p : ℕ) (previous s : List ℕ) (u : Undo) (k : ℕ) → readUndo w p previous s ≡ good u k → readUndo w p [] s ≡ good u k
 undo-alone w p previous s u k q =
-    bind-inv _ _ _ _ (sym (undo-is w p previous s) ∙ q) λ path i j pathq q₁ size.
-    need-inv _ _ _ _ _ _ q₁ λ test q₂.
-    let ok = and-inv (okName path) _ test .0 in
-    undo-is w p [] s ∙ bind-good _ _ path i u j pathq (need-good _ 17 p _ u j (and-both _ _ ok (below-all path ok)) q₂) ∙ ap (λ (n : ℕ). good u n) size
+    undo-inv w p previous s u k q λ path i j pathq ok modesq size.
+    undo-is w p [] s ∙ bind-good _ _ path i u j pathq (need-good _ 17 p _ u j (and-both _ _ ok (below-all path ok)) modesq) ∙ same-size size
 
 undos-inv {ℓ} : {X : Type ℓ} (w p : ℕ) (previous s : List ℕ) (us : List Undo) (k : ℕ) → undosOf w p previous s ≡ good us k → 1 ≤ length us
     → ((u : Undo) (vs : List Undo) (i j : ℕ) → readUndo w p previous s ≡ good u i → undosOf w p (u .path) (drop i s) ≡ good vs j → u ∷ vs ≡ us → X) → X
@@ -79,54 +78,28 @@ shown-path w p s u wide e = value-inv (readUndo w p [] s) u e λ k q. undo-begin
 
 -- ---- its object names
 
--- where they stand in s, whose first k bytes end with them
-record Objects (w : ℕ) (u : Undo) (s : List ℕ) (k : ℕ) : Type 0 where
+-- where they stand in d: at the end of a record that ends at the place end
+record Objects (w : ℕ) (u : Undo) (d : List ℕ) (end : ℕ) : Type 0 where
   place : ℕ
-  end : k ≡ place + objectsLength w u
-  first : u .first .object ≡ objectIn w (u .first .mode) (drop place s)
-  second : u .second .object ≡ objectIn w (u .second .mode) (drop (place + objectLength w (u .first .mode)) s)
-  third : u .third .object ≡ objectIn w (u .third .mode) (drop (place + objectLength w (u .first .mode) + objectLength w (u .second .mode)) s)
+  last : end ≡ place + objectsLength w u
+  first : u .first .object ≡ objectIn w (u .first .mode) (drop place d)
+  second : u .second .object ≡ objectIn w (u .second .mode) (drop (place + objectLength w (u .first .mode)) d)
+  third : u .third .object ≡ objectIn w (u .third .mode) (drop (place + objectLength w (u .first .mode) + objectLength w (u .second .mode)) d)
 
--- the same from n bytes before
-objects-after : (w n : ℕ) (u : Undo) (s : List ℕ) (j k : ℕ) → n + j ≡ k → Objects w u (drop n s) j → Objects w u s k
-objects-after w n u s j k sum h =
-    let a : ℕ = objectLength w (u .first .mode) in
-    let b : ℕ = objectLength w (u .second .mode) in
-    let second-at : n + (h .place + a) ≡ n + h .place + a = omega arith in
-    let third-at : n + (h .place + a + b) ≡ n + h .place + a + b = omega arith in
-    record {
-      place = n + h .place;
-      end = omega (arith, h .end);
-      first = h .first ∙ ap (objectIn w (u .first .mode)) (drop-drop (h .place) n s);
-      second = h .second ∙ ap (objectIn w (u .second .mode)) (rw (drop-drop (h .place + a) n s, second-at));
-      third = h .third ∙ ap (objectIn w (u .third .mode)) (rw (drop-drop (h .place + a + b) n s, third-at));
-    }
-
-first-objects : (w p : ℕ) (path s : List ℕ) (u : Undo) (k : ℕ) → 1 ≤ w → readFirst w p path s ≡ good u k → Objects w u s k
-unfolding readFirst readSecond readThird objectsLength
-first-objects w p path s u k wide q =
-    bind-inv _ _ _ _ q λ a i₀ j₀ aq q₁ size₀.
-    bind-inv _ _ _ _ q₁ λ b i₁ j₁ bq q₂ size₁.
-    bind-inv _ _ _ _ q₂ λ c i₂ j₂ cq q₃ size₂.
-    let s₃ : List ℕ = drop i₂ (drop i₁ (drop i₀ s)) in
-    let h = stages-read w p path a b c s₃ wide u j₂ q₃ in
-    let start : 0 + objectLength w a ≡ objectLength w a = omega arith in
-    let here : Objects w u s₃ j₂ =
+undo-objects : (w p at : ℕ) (previous d : List ℕ) (u : Undo) (k : ℕ) → 1 ≤ w → readUndo w p previous (drop at d) ≡ good u k → Objects w u d (at + k)
+unfolding objectsLength
+undo-objects w p at previous d u k wide q =
+    stages-inv w p previous (drop at d) u k q λ path i a b c n j pathq stagesq size.
+    let h = stages-read w p path a b c (drop n (drop at d)) wide u j stagesq in
+    let a-long : ℕ = objectLength w a in
     rw (h .0)
     (record {
-      place = 0;
-      end = omega (arith, h .1);
-      first = refl;
-      second = rw start;
-      third = rw (start, drop-drop (objectLength w b) (objectLength w a) s₃);
-    }) in
-    objects-after w i₀ u s j₀ k size₀
-    (objects-after w i₁ u (drop i₀ s) j₁ j₀ size₁ (objects-after w i₂ u (drop i₁ (drop i₀ s)) j₂ j₁ size₂ here))
-
-undo-objects : (w p : ℕ) (previous s : List ℕ) (u : Undo) (k : ℕ) → 1 ≤ w → readUndo w p previous s ≡ good u k → Objects w u s k
-undo-objects w p previous s u k wide q =
-    bind-inv _ _ _ _ (sym (undo-is w p previous s) ∙ q) λ path i j pathq q₁ size.
-    need-inv _ _ _ _ _ _ q₁ λ test q₂. objects-after w i u s j k size (first-objects w p path (drop i s) u j wide q₂)
+      place = at + n;
+      last = omega (arith, h .1);
+      first = rw (drop-drop n at d);
+      second = rw (drop-drop n at d, drop-drop a-long (at + n) d);
+      third = rw (drop-drop n at d, drop-drop a-long (at + n) d, drop-drop (objectLength w b) (at + n + a-long) d);
+    })
 
 -- a stage that is missing has zeros
 missing : (w mode : ℕ) (object s : List ℕ) → object ≡ objectIn w mode s → mode ≡ 0 → object ≡ replicate w 0
@@ -140,7 +113,7 @@ pub missing-zeros : (w p : ℕ) (s : List ℕ) (u : Undo) → 1 ≤ w → undoAt
 unfolding undoAt
 missing-zeros w p s u wide e =
     value-inv (readUndo w p [] s) u e λ k q.
-    let h = undo-objects w p [] s u k wide q in (missing w _ _ _ (h .first), missing w _ _ _ (h .second), missing w _ _ _ (h .third))
+    let h = undo-objects w p 0 [] s u k wide q in (missing w _ _ _ (h .first), missing w _ _ _ (h .second), missing w _ _ _ (h .third))
 
 -- ---- what is shown
 
@@ -148,34 +121,35 @@ pub shown-out : (p at : ℕ) (d : List ℕ) → length d ≤ at → shown at (un
 unfolding undoAt valueOf readUndo readText before need bind
 shown-out p at d h = rw (drop-of-length-le d h)
 
-pub shown-bad : (p at : ℕ) (d : List ℕ) → R.Bad ≡ recordRead at (readUndo 20 p [] (drop at d)) → shown at (undoAt 20 p (drop at d)) ≡ nothing
-unfolding undoAt valueOf
-shown-bad p at d e = record-bad-inv at (readUndo 20 p [] (drop at d)) e λ n m q. rw q
-
-module _ (p at : ℕ) (d : List ℕ) (g : Record) (e : R.Good g ≡ recordRead at (readUndo 20 p [] (drop at d))) where
-  pub objects-end : g .objects + objectLength 20 (g .first) + objectLength 20 (g .second) + objectLength 20 (g .third) ≡ g .next
-  unfolding objectsLength
-  objects-end =
-      record-good-inv at (readUndo 20 p [] (drop at d)) g e λ u k q is.
-      let h = undo-objects 20 p [] (drop at d) u k (lit≤ tt) q in
-      rw is (omega (arith, h .end))
-
-  pub shown-good : (x y : ℕ) → x ≡ objectLength 20 (g .first) → y ≡ objectLength 20 (g .second)
-      → shown at (undoAt 20 p (drop at d))
-      ≡ record {
-        ok = true;
-        path = at;
-        «path_length» = g .path;
-        first = g .first;
-        second = g .second;
-        third = g .third;
-        «first_object» = objectIn 20 (g .first) (drop (g .objects) d);
-        «second_object» = objectIn 20 (g .second) (drop (g .objects + x) d);
-        «third_object» = objectIn 20 (g .third) (drop (g .objects + x + y) d);
-      }
+module _ (at : ℕ) (d : List ℕ) (r : RecordRead) (told : Told at [] d r) where
+  pub shown-bad : r ≡ R.Bad → (p : ℕ) → shown at (undoAt 20 p (drop at d)) ≡ nothing
   unfolding undoAt valueOf
-  shown-good x y x-is y-is =
-      record-good-inv at (readUndo 20 p [] (drop at d)) g e λ u k q is.
-      let h = objects-after 20 at u d k (at + k) refl (undo-objects 20 p [] (drop at d) u k (lit≤ tt) q) in
-      let place : at + k - objectsLength 20 u ≡ h .place = omega (arith, h .end) in
-      rw (q, y-is, x-is, is, place, ← (h .first), ← (h .second), ← (h .third))
+  shown-bad e p = refusal at [] d r told e p λ n m q. rw q
+
+  module _ (g : Record) (e : r ≡ R.Good g) where
+    pub objects-end : g .objects + objectLength 20 (g .first) + objectLength 20 (g .second) + objectLength 20 (g .third) ≡ g .next
+    unfolding objectsLength
+    objects-end =
+        reading at [] d r told g e 0 λ u k q is.
+        let h = undo-objects 20 0 at [] d u k (lit≤ tt) q in
+        rw is (omega (arith, h .last))
+
+    pub shown-good : (x y : ℕ) → x ≡ objectLength 20 (g .first) → y ≡ objectLength 20 (g .second) → (p : ℕ)
+        → shown at (undoAt 20 p (drop at d))
+        ≡ record {
+          ok = true;
+          path = at;
+          «path_length» = g .path;
+          first = g .first;
+          second = g .second;
+          third = g .third;
+          «first_object» = objectIn 20 (g .first) (drop (g .objects) d);
+          «second_object» = objectIn 20 (g .second) (drop (g .objects + x) d);
+          «third_object» = objectIn 20 (g .third) (drop (g .objects + x + y) d);
+        }
+    unfolding undoAt valueOf
+    shown-good x y x-is y-is p =
+        reading at [] d r told g e p λ u k q is.
+        let h = undo-objects 20 p at [] d u k (lit≤ tt) q in
+        let place : at + k - objectsLength 20 u ≡ h .place = omega (arith, h .last) in
+        rw (q, y-is, x-is, is, place, ← (h .first), ← (h .second), ← (h .third))

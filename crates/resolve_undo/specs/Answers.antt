@@ -1,4 +1,5 @@
 -- What the functions of this crate answer, from what the reader of the format answers. A refusal is 17 always, so its number is left out.
+use mathlib.Core.Path.{_≡_}
 use mathlib.Core.List.{List, [], _∷_}
 use mathlib.Core.Bool.{true, false, cond}
 use mathlib.Core.Option.{Option, none, some}
@@ -37,17 +38,15 @@ ModeWithin at end (M.Good m next) = (at < next) × (next ≤ end)
 
 -- ---- one record
 
--- a record after its path, after the first mode and after the second
-unfoldable pub readThird : ℕ → ℕ → List ℕ → ℕ → ℕ → List ℕ → Read Undo
-readThird w p path a b s = bind (readMode p s) λ c n. readStages w p path a b c (drop n s)
+-- a mode, and then what k reads after it
+unfoldable pub withMode : ℕ → (ℕ → List ℕ → Read Undo) → List ℕ → Read Undo
+withMode p k s = bind (readMode p s) λ m n. k m (drop n s)
 
-unfoldable pub readSecond : ℕ → ℕ → List ℕ → ℕ → List ℕ → Read Undo
-readSecond w p path a s = bind (readMode p s) λ b n. readThird w p path a b (drop n s)
+-- the rest of a record, after its path
+unfoldable pub readModes : ℕ → ℕ → List ℕ → List ℕ → Read Undo
+readModes w p path = withMode p λ a. withMode p λ b. withMode p λ c. readStages w p path a b c
 
-unfoldable pub readFirst : ℕ → ℕ → List ℕ → List ℕ → Read Undo
-readFirst w p path s = bind (readMode p s) λ a n. readSecond w p path a (drop n s)
-
--- how many bytes an object name takes in the data: none where the stage is missing
+-- the number of bytes of a stage's object name: none where the stage is missing
 unfoldable pub objectLength : ℕ → ℕ → ℕ
 objectLength w mode = cond (eqb mode 0) 0 w
 
@@ -79,6 +78,11 @@ abbrev pub RecordWithin : ℕ → ℕ → RecordRead → Type 0
 RecordWithin at end R.Bad = Unit
 RecordWithin at end (R.Good r) = (at < r .next) × (r .next ≤ end)
 
+-- r is what k reads at the place at, after a path of size bytes
+abbrev pub RestRead : ℕ → ℕ → List ℕ → (ℕ → List ℕ → List ℕ → Read Undo) → RecordRead → Type 0
+RestRead at size d k r =
+    ((p : ℕ) (path : List ℕ) → length path ≡ size → r ≡ recordRead at (k p path (drop at d))) × RecordWithin at (length d) r
+
 -- ---- all records
 
 -- record number n of a list
@@ -87,7 +91,7 @@ item n [] = none
 item zero (u ∷ us) = some u
 item (suc n) (u ∷ us) = item n us
 
--- how many records there are
+-- the number of records
 abbrev pub recordsRead : Read (List Undo) → RecordsRead
 recordsRead (bad n p) = S.Bad
 recordsRead (good us k) = S.Good (length us)
@@ -98,7 +102,7 @@ unfoldable pub valueOf : Read Undo → Option Undo
 valueOf (bad n p) = none
 valueOf (good u k) = some u
 
--- the record that the bytes s begin with, whatever path stands before it
+-- the record that the bytes s begin with, whatever the path of the record before it
 unfoldable pub undoAt : ℕ → ℕ → List ℕ → Option Undo
 undoAt w p s = valueOf (readUndo w p [] s)
 

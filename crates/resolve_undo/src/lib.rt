@@ -1,16 +1,16 @@
 // The resolve-undo records of an index: the data of its REUC extension, read.
 ghost use mathlib.Core.Path.{_≡_};
-ghost use mathlib.Core.List.{List, []};
+ghost use mathlib.Core.List.{[]};
 ghost use mathlib.Core.Bool.{_&&_};
-ghost use Prim.Native.Nat.{ℕ, _+_, _≤_, _<_};
+ghost use Prim.Native.Nat.{ℕ, _+_, _≤_};
 ghost use lib.ListN.{length, take, drop};
 ghost use Rattle.format.specs.Names as Names;
 ghost use Rattle.format.specs.Reader.{modeIn, readMode, readStages, readUndo, readUndos};
 ghost use Rattle.format.specs.Places.{undoStart};
-ghost use Rattle.resolve_undo.specs.Answers.{modeFound, modeRead, ModeWithin, objectLength, objectIn, readThird, readSecond, readFirst, recordRead, RecordWithin, recordsRead, undoAt, nothing, shown};
+ghost use Rattle.resolve_undo.specs.Answers.{modeFound, modeRead, ModeWithin, objectLength, objectIn, readModes, recordRead, RecordWithin, RestRead, recordsRead, undoAt, nothing, shown};
 use format::Order;
 
-// The mode that a text says.
+// The mode of a text; Bad where it is none of the five.
 enum ModeFound {
     Bad,
     Good(u32),
@@ -37,7 +37,7 @@ pub enum RecordRead {
     Good(Record),
 }
 
-// How many records there are.
+// The number of records.
 pub enum RecordsRead {
     Bad,
     Good(u32),
@@ -78,7 +78,7 @@ fn mode_in(t: &[u8]) -> ModeFound
     ModeFound::Bad
 }
 
-// The mode at a place.
+// The mode whose text begins at the place at.
 pub fn read_mode(d: &[u8], at: usize) -> ModeRead
     requires { ⌜ at ≤ length (now d) ⌝ }
     ensures { λ r. ⌜ ((p : ℕ) → r ≡ modeRead at (readMode p (drop at (now (d .entry))))) × ModeWithin at (length (now (d .entry))) r ⌝ }
@@ -104,7 +104,7 @@ fn is_below(o: Order) -> bool
     }
 }
 
-// Whether a path is sound and comes after the previous one.
+// Whether path is a valid name and comes after previous.
 fn path_ok(path: &[u8], previous: &[u8]) -> bool
     ensures { λ r. ⌜ r ≡ (Names.okName (now (path .entry)) && Names.isBelow (Names.compare (now (previous .entry)) (now (path .entry)))) ⌝ }
 {
@@ -114,7 +114,7 @@ fn path_ok(path: &[u8], previous: &[u8]) -> bool
     false
 }
 
-// How many bytes the object name of a stage takes.
+// The number of bytes of a stage's object name: none where the stage is missing.
 fn object_length(mode: u32) -> usize
     ensures { λ r. ⌜ (r ≡ objectLength 20 mode) × (r ≤ 20) ⌝ }
 {
@@ -124,10 +124,10 @@ fn object_length(mode: u32) -> usize
     20
 }
 
-// The stages of a record, their object names at a place, after a path of so many bytes.
-fn read_stages(d: &[u8], at: usize, path: usize, first: u32, second: u32, third: u32) -> RecordRead
+// The rest of a record after its path, of size bytes, and its three modes: the object names at the place at.
+fn read_stages(d: &[u8], at: usize, size: usize, first: u32, second: u32, third: u32) -> RecordRead
     requires { ⌜ at ≤ length (now d) ⌝ }
-    ensures { λ r. ⌜ ((p : ℕ) (s : List ℕ) → length s ≡ path → r ≡ recordRead at (readStages 20 p s first second third (drop at (now (d .entry))))) × RecordWithin at (length (now (d .entry))) r ⌝ }
+    ensures { λ r. ⌜ RestRead at size (now (d .entry)) (λ p path. readStages 20 p path first second third) r ⌝ }
 {
     let n = object_length(first) + object_length(second) + object_length(third);
     if n == 0 {
@@ -137,7 +137,7 @@ fn read_stages(d: &[u8], at: usize, path: usize, first: u32, second: u32, third:
         return RecordRead::Bad;
     }
     RecordRead::Good(Record {
-        path: path,
+        path: size,
         first: first,
         second: second,
         third: third,
@@ -146,43 +146,24 @@ fn read_stages(d: &[u8], at: usize, path: usize, first: u32, second: u32, third:
     })
 }
 
-// The third mode at a place, and the stages.
-fn read_third(d: &[u8], at: usize, path: usize, first: u32, second: u32) -> RecordRead
+// The rest of a record after its path, of size bytes: the three modes from the place at on, and then the object names.
+fn read_modes(d: &[u8], at: usize, size: usize) -> RecordRead
     requires { ⌜ at ≤ length (now d) ⌝ }
-    ensures { λ r. ⌜ ((p : ℕ) (s : List ℕ) → length s ≡ path → r ≡ recordRead at (readThird 20 p s first second (drop at (now (d .entry))))) × RecordWithin at (length (now (d .entry))) r ⌝ }
+    ensures { λ r. ⌜ RestRead at size (now (d .entry)) (λ p path. readModes 20 p path) r ⌝ }
 {
-    let m = read_mode(d, at);
-    match m {
-        ModeRead::Bad => RecordRead::Bad,
-        ModeRead::Good(third, next) => read_stages(d, next, path, first, second, third),
-    }
+    let ModeRead::Good(first, second_at) = read_mode(d, at) else {
+        return RecordRead::Bad;
+    };
+    let ModeRead::Good(second, third_at) = read_mode(d, second_at) else {
+        return RecordRead::Bad;
+    };
+    let ModeRead::Good(third, objects) = read_mode(d, third_at) else {
+        return RecordRead::Bad;
+    };
+    read_stages(d, objects, size, first, second, third)
 }
 
-// The second mode at a place, and the rest of the record.
-fn read_second(d: &[u8], at: usize, path: usize, first: u32) -> RecordRead
-    requires { ⌜ at ≤ length (now d) ⌝ }
-    ensures { λ r. ⌜ ((p : ℕ) (s : List ℕ) → length s ≡ path → r ≡ recordRead at (readSecond 20 p s first (drop at (now (d .entry))))) × RecordWithin at (length (now (d .entry))) r ⌝ }
-{
-    let m = read_mode(d, at);
-    match m {
-        ModeRead::Bad => RecordRead::Bad,
-        ModeRead::Good(second, next) => read_third(d, next, path, first, second),
-    }
-}
-
-// The first mode at a place, and the rest of the record.
-fn read_first(d: &[u8], at: usize, path: usize) -> RecordRead
-    requires { ⌜ at ≤ length (now d) ⌝ }
-    ensures { λ r. ⌜ ((p : ℕ) (s : List ℕ) → length s ≡ path → r ≡ recordRead at (readFirst 20 p s (drop at (now (d .entry))))) × RecordWithin at (length (now (d .entry))) r ⌝ }
-{
-    let m = read_mode(d, at);
-    match m {
-        ModeRead::Bad => RecordRead::Bad,
-        ModeRead::Good(first, next) => read_second(d, next, path, first),
-    }
-}
-
-// The record at a place; the path of the one before it is the size bytes at prior.
+// The record at the place at. The path of the record before it is the size bytes at the place prior.
 pub fn read_undo(d: &[u8], at: usize, prior: usize, size: usize) -> RecordRead
     requires { ⌜ (at ≤ length (now d)) × (prior + size ≤ length (now d)) ⌝ }
     ensures { λ r. ⌜ ((p : ℕ) → r ≡ recordRead at (readUndo 20 p (take size (drop prior (now (d .entry)))) (drop at (now (d .entry))))) × RecordWithin at (length (now (d .entry))) r ⌝ }
@@ -192,12 +173,12 @@ pub fn read_undo(d: &[u8], at: usize, prior: usize, size: usize) -> RecordRead
         return RecordRead::Bad;
     }
     if path_ok(&d[at..e], &d[prior..prior + size]) {
-        return read_first(d, e + 1, e - at);
+        return read_modes(d, e + 1, e - at);
     }
     RecordRead::Bad
 }
 
-// The whole data: how many records there are.
+// The number of records in the data, where all of them are read.
 pub fn read_undos(d: &[u8]) -> RecordsRead
     requires { ⌜ length (now d) ≤ 16777216 ⌝ }
     ensures { λ r. ⌜ ((p : ℕ) → r ≡ recordsRead (readUndos 20 p (length (now (d .entry))) [] (now (d .entry)))) ⌝ }
@@ -223,7 +204,7 @@ pub fn read_undos(d: &[u8]) -> RecordsRead
     RecordsRead::Good(records)
 }
 
-// Where record number k begins, from 0 on; where one on the way is refused, the place of that one.
+// The place of record k, counted from 0. Where a record before it is refused, the place of that one.
 pub fn find_undo(d: &[u8], k: u32) -> usize
     ensures { λ r. ⌜ r ≡ undoStart 20 0 k [] (now (d .entry)) ⌝ }
 {
@@ -248,18 +229,15 @@ pub fn find_undo(d: &[u8], k: u32) -> usize
     at
 }
 
-// The object name of a stage, at a place; zeros where the stage is missing.
+// The object name of a stage, at the place at; zeros where the stage is missing.
 fn object(d: &[u8], at: usize, mode: u32) -> [u8; 20]
     requires { ⌜ at + objectLength 20 mode ≤ length (now d) ⌝ }
     ensures { λ r. ⌜ r ≡ objectIn 20 mode (drop at (now (d .entry))) ⌝ }
 {
-    let mut o = [0u8; 20];
     if mode == 0 {
-        return o;
+        return [0u8; 20];
     }
-    let e = at + 20;
-    fields::copy_to(&mut o, 0, &d[at..e]);
-    o
+    entries::record::object_at(d, at)
 }
 
 fn no_record() -> Shown
@@ -278,7 +256,7 @@ fn no_record() -> Shown
     }
 }
 
-// The record at a place, whatever path stands before it. Its path is a part of the data.
+// The record at a place, whatever the path of the record before it. Its path is a part of the data.
 pub fn show_undo(d: &[u8], place: usize) -> Shown
     ensures { λ r. ⌜ ((p : ℕ) → r ≡ shown place (undoAt 20 p (drop place (now (d .entry))))) × (r .path + r .«path_length» ≤ length (now (d .entry))) ⌝ }
 {

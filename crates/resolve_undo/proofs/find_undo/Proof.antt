@@ -6,8 +6,7 @@ use native.Mathlib.Omega.{arith}
 use lib.ListN.{length, take, drop}
 use borrow.Author.Needs.{needs}
 use Rattle.format.specs.Places.{undoStart}
-use Rattle.resolve_undo.proofs.Laws.{record-bounds}
-use Rattle.resolve_undo.proofs.Records.{path-fits, place-more, place-end, place-bad}
+use Rattle.resolve_undo.proofs.Records.{within, place-more, place-end, place-bad}
 use Rattle.resolve_undo.proofs.find_undo.Statement.{statement}
 use Rattle.resolve_undo.proofs.find_undo.Tie as tie
 
@@ -31,7 +30,7 @@ returns : tie.Need-returns Inv-loop μ-loop
 returns c =
     let m = c .before .before in
     let l = m .before .before in
-    sym (l .loop .inv .2 ∙ place-bad 0 _ _ _ _ (m .before .loop-test .taken) (sym (c .enum-told .given .1) ∙ m .read-undo .ensures .0 0))
+    sym (l .loop .inv .2 ∙ place-bad _ _ _ _ (m .read-undo .ensures) (c .enum-told .given .1) 0 _ (m .before .loop-test .taken))
 
 enum-known-g : tie.Need-enum-known-g Inv-loop μ-loop
 enum-known-g c = search needs
@@ -46,12 +45,11 @@ loop-again : tie.Need-loop-again Inv-loop μ-loop
 loop-again c =
     let m = c .before .before .before in
     let l = m .before .before in
-    let a = l .before .before .args in
     let g = c .before .g .given in
-    let e = sym (g .1) ∙ m .read-undo .ensures .0 0 in (
-      record-bounds _ _ _ _ (m .read-undo .ensures .1) (g .1) .1,
-      path-fits 0 (l .loop .at) _ (a .d .now) (g .0 .0) e (l .loop .inv .0),
-      l .loop .inv .2 ∙ place-more 0 (l .loop .at) _ (a .d .now) (g .0 .0) e (l .loop .left) (m .before .loop-test .taken),
+    let b = within _ _ _ _ (m .read-undo .ensures) _ (g .1) (l .loop .inv .0) in (
+      b .1,
+      b .2,
+      l .loop .inv .2 ∙ place-more _ _ _ _ (m .read-undo .ensures) _ (g .1) 0 (l .loop .left) (m .before .loop-test .taken),
     )
 
 returns-2 : tie.Need-returns-2 Inv-loop μ-loop

@@ -55,14 +55,14 @@ part-path-ok-end-2 c = search needs
 path-ok-requires : tie.Need-path-ok-requires
 path-ok-requires c κs = search needs
 
-add-read-first : tie.Need-add-read-first
-add-read-first c = search needs
+add-read-modes : tie.Need-add-read-modes
+add-read-modes c = search needs
 
-sub-read-first : tie.Need-sub-read-first
-sub-read-first c = search needs
+sub-read-modes : tie.Need-sub-read-modes
+sub-read-modes c = search needs
 
-read-first-requires : tie.Need-read-first-requires
-read-first-requires c κs = search needs
+read-modes-requires : tie.Need-read-modes-requires
+read-modes-requires c κs = search needs
 
 returns-2 : tie.Need-returns-2
 returns-2 c =
@@ -73,8 +73,8 @@ returns-2 c =
       λ p.
           sym
           (undo-rest 20 (a .at) _ (a .d .now) _ (f .find .ensures .0) (f .before .before .pre .0) p more (path-is o ∙ c .before .if2 .taken)
-          ∙ sym (c .read-first .ensures .0 p _ (part-length (a .d .now) (a .at) (f .find .result) (omega arith)))),
-      record-within (a .at) (f .find .result + 1) (length (a .d .now)) (c .read-first .result) (omega arith) (c .read-first .ensures .1),
+          ∙ sym (c .read-modes .ensures .0 p _ (part-length (a .d .now) (a .at) (f .find .result) (omega arith)))),
+      record-within (a .at) (f .find .result + 1) (length (a .d .now)) (c .read-modes .result) (omega arith) (c .read-modes .ensures .1),
     )
 
 returns-3 : tie.Need-returns-3
@@ -99,8 +99,8 @@ read-undo-spec =
     part-path-ok-start-2
     part-path-ok-end-2
     path-ok-requires
-    add-read-first
-    sub-read-first
-    read-first-requires
+    add-read-modes
+    sub-read-modes
+    read-modes-requires
     returns-2
     returns-3)

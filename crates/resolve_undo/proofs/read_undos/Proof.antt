@@ -8,7 +8,7 @@ use borrow.Author.Needs.{needs}
 use Rattle.format.specs.Reader.{readUndos}
 use Rattle.resolve_undo.specs.Answers.{recordsRead}
 use Rattle.resolve_undo.proofs.Laws.{record-bounds}
-use Rattle.resolve_undo.proofs.Records.{answerFrom, from-start, from-end, from-bad, from-good, path-fits}
+use Rattle.resolve_undo.proofs.Records.{answerFrom, from-start, from-end, from-bad, from-good, within}
 use Rattle.resolve_undo.proofs.read_undos.Statement.{statement}
 use Rattle.resolve_undo.proofs.read_undos.Tie as tie
 
@@ -33,8 +33,7 @@ returns : tie.Need-returns Inv-loop μ-loop
 returns c =
     let m = c .before .before in
     let l = m .before .before in
-    let a = l .before .before .args in
-    λ p. sym (l .loop .inv .3 p ∙ from-bad p _ (l .loop .at) _ (a .d .now) (m .before .loop-test .taken) (sym (c .enum-told .given .1) ∙ m .read-undo .ensures .0 p))
+    λ p. sym (l .loop .inv .3 p ∙ from-bad _ _ _ _ (m .read-undo .ensures) (c .enum-told .given .1) p _ (m .before .loop-test .taken))
 
 enum-known-g : tie.Need-enum-known-g Inv-loop μ-loop
 enum-known-g c = search needs
@@ -52,14 +51,12 @@ loop-again : tie.Need-loop-again Inv-loop μ-loop
 loop-again c =
     let m = c .before .before .before in
     let l = m .before .before in
-    let a = l .before .before .args in
     let g = c .before .g .given in
-    let b = record-bounds _ _ _ _ (m .read-undo .ensures .1) (g .1) in
-    let inside = m .before .loop-test .taken in (
+    let b = within _ _ _ _ (m .read-undo .ensures) _ (g .1) (l .loop .inv .0) in (
       b .1,
-      path-fits 0 (l .loop .at) _ (a .d .now) (g .0 .0) (sym (g .1) ∙ m .read-undo .ensures .0 0) (l .loop .inv .0),
+      b .2,
       omega arith,
-      λ p. l .loop .inv .3 p ∙ from-good p (l .loop .at) _ (a .d .now) (g .0 .0) (sym (g .1) ∙ m .read-undo .ensures .0 p) inside (l .loop .records),
+      λ p. l .loop .inv .3 p ∙ from-good _ _ _ _ (m .read-undo .ensures) _ (g .1) p (m .before .loop-test .taken) (l .loop .records),
     )
 
 returns-2 : tie.Need-returns-2 Inv-loop μ-loop

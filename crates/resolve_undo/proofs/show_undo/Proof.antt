@@ -6,7 +6,7 @@ use lib.ListN.{length}
 use borrow.Author.Needs.{needs}
 use Rattle.resolve_undo.specs.Answers.{objectLength}
 use Rattle.resolve_undo.proofs.Laws.{record-bounds}
-use Rattle.resolve_undo.proofs.Records.{path-fits}
+use Rattle.resolve_undo.proofs.Records.{within}
 use Rattle.resolve_undo.proofs.Showing.{shown-out, shown-bad, shown-good, objects-end}
 use Rattle.resolve_undo.proofs.show_undo.Statement.{statement}
 use Rattle.resolve_undo.proofs.show_undo.Tie as tie
@@ -19,8 +19,7 @@ ends : (c : tie.After-known-told) →
 ends c =
     let g = c .before .g .given in
     let m = c .before .before .before in
-    let a = m .before .before .before .args in
-    let end = objects-end 0 (a .place) (a .d .now) (g .0 .0) (sym (g .1) ∙ m .read-undo .ensures .0 0) in
+    let end = objects-end _ _ _ (m .read-undo .ensures) _ (g .1) in
     let b = record-bounds _ _ _ _ (m .read-undo .ensures .1) (g .1) in
     omega arith
 
@@ -68,9 +67,8 @@ object-requires-3 c κs = let e = ends (c .before .before .before .before .befor
 
 returns-2 : tie.Need-returns-2
 returns-2 c =
-    let m = c .before .before .before in
-    let a = m .before .before .before .args in (
-      λ p. c .no-record2 .ensures ∙ sym (shown-bad p (a .place) (a .d .now) (sym (c .before .enum-told .given .1) ∙ m .read-undo .ensures .0 p)),
+    let m = c .before .before .before in (
+      λ p. c .no-record2 .ensures ∙ sym (shown-bad _ _ _ (m .read-undo .ensures) (c .before .enum-told .given .1) p),
       rw (c .no-record2 .ensures) zero-le,
     )
 
@@ -79,13 +77,12 @@ returns-3 c =
     let l = c .before .before .before in
     let k = l .before .before .before in
     let g = k .before .g .given in
-    let m = k .before .before .before in
-    let a = m .before .before .before .args in (
+    let m = k .before .before .before in (
       λ p.
           rw (c .object3 .ensures, c .before .object2 .ensures, c .before .before .object .ensures)
           (sym
-          (shown-good p (a .place) (a .d .now) (g .0 .0) (sym (g .1) ∙ m .read-undo .ensures .0 p) _ _ (l .before .before .object-length .ensures .0) (l .object-length2 .ensures .0))),
-      path-fits 0 (a .place) _ (a .d .now) (g .0 .0) (sym (g .1) ∙ m .read-undo .ensures .0 0) (m .before .if1 .left),
+          (shown-good _ _ _ (m .read-undo .ensures) _ (g .1) _ _ (l .before .before .object-length .ensures .0) (l .object-length2 .ensures .0) p)),
+      within _ _ _ _ (m .read-undo .ensures) _ (g .1) (m .before .if1 .left) .2,
     )
 
 pub show-undo-spec : {M : Type 1} → statement M
