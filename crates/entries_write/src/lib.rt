@@ -96,7 +96,8 @@ pub fn put_rest(
     put_name(out, end, version, 64, name, previous, kept)
 }
 
-// The entry at a place of the body with these flags and this extended word, or 0, whose name has len bytes and stands at start.
+// The entry at a place of the body with these flags and this extended word, or 0, whose name has len bytes and stands at start. Only its first 60
+// bytes are copied. Numbers are handed on here, and not a Step: a struct by value goes through memory.
 pub fn put_step<'a>(
     b: &'a [u8],
     v: u32,

@@ -71,8 +71,7 @@ returns-3 c =
     let shared = put .before .before .before in
     let known = shared .before .before .before in
     let read = known .before .before .before .before in
-    let tested = read .before .before in
-    let start = tested .before .before .before .before .before in
+    let start = read .before .before .before .before .before .before .before in
     let a = start .args in
     let t = rw (known .g .given .1) at (readable-again (start .pre .4) (some read) _ (read .pass-entry .ensures)) in
     after-laid (a .n) (a .version) (a .out .now) (a .at) (some read) t (a .name .now) (shared .common-at .ensures) (put .put-stepped .ensures)

@@ -65,8 +65,7 @@ returns-3 c =
     let shared = put .before .before in
     let known = shared .before .before .before in
     let read = known .before .before .before .before in
-    let tested = read .before .before in
-    let start = tested .before .before .before .before in
+    let start = read .before .before .before .before .before .before in
     let a = start .args in
     let t = rw (known .g .given .1) at (readable-again (start .pre .5) (some read) _ (read .pass-entry .ensures)) in
     past-laid (a .n) (a .version) (a .out .now) (a .at) (some read) t (a .previous) (a .kept) (shared .least .ensures) (put .put-stepped .ensures)

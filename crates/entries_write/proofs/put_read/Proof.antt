@@ -64,7 +64,6 @@ put-name-requires c κs =
     let named = c .before in
     let put = named .before .before .before in
     let start = put .before .before .before .before .before .before .before .before .before .before in
-    let a = start .args in
     let read = start .pre .1 in
     (omega (arith, start .pre .0, head-end read (put .put-bytes2 .ensures), head-most read), head-most read, rw (named .name-at .ensures) (start .pre .3))
 
