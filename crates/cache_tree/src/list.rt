@@ -1,15 +1,12 @@
 // Lists of siblings. Reading a node means reading its list of subtrees, and each of these is a node: the two readers call each other.
 // They end because fewer bytes remain: a node's list stands after the node. The levels are a limit of the format, and tested as such.
+use crate::differ::differ;
+use crate::orders::Rise;
+use crate::orders::rise;
 use fields::find;
 use tree_nodes::node::NodeRead;
 use tree_nodes::node::read_node;
-ghost use mathlib.Core.Path.{_≡_};
-ghost use mathlib.Core.Bool.{cond};
-ghost use Prim.Native.Nat.{_+_, _-_, _≤_, _<_};
-ghost use lib.ListN.{length, drop};
-ghost use Rattle.format.specs.Layout.{okNodeName};
-ghost use Rattle.format.specs.Reader.{readForest};
-ghost use Rattle.cache_tree.specs.Answers.{readOne, either, listAt, rooted, nodesIn};
+use tree_table::Table;
 
 // The place after a list, its number of nodes in all, and the level of the node that was wanted, 0 where it is not among these.
 pub enum ListRead {
@@ -18,9 +15,7 @@ pub enum ListRead {
 }
 
 // Whether a node below the root may have this name: 1 byte or more, and no "/".
-fn name_ok(name: &[u8]) -> bool
-    ensures { λ r. ⌜ r ≡ okNodeName (now (name .entry)) ⌝ }
-{
+fn name_ok(name: &[u8]) -> bool {
     if name.len() == 0 {
         return false;
     }
@@ -28,9 +23,7 @@ fn name_ok(name: &[u8]) -> bool
 }
 
 // a less b, 0 at least.
-fn less(a: u32, b: u32) -> u32
-    ensures { λ r. ⌜ r ≡ a - b ⌝ }
-{
+fn less(a: u32, b: u32) -> u32 {
     if a < b {
         return 0;
     }
@@ -38,9 +31,7 @@ fn less(a: u32, b: u32) -> u32
 }
 
 // The first of two that is not 0.
-fn first(a: u32, b: u32) -> u32
-    ensures { λ r. ⌜ r ≡ either a b ⌝ }
-{
+fn first(a: u32, b: u32) -> u32 {
     if a == 0 {
         return b;
     }
@@ -48,9 +39,7 @@ fn first(a: u32, b: u32) -> u32
 }
 
 // The level of a node that is wanted, else that of one below it.
-fn either_level(wanted: bool, a: u32, b: u32) -> u32
-    ensures { λ r. ⌜ r ≡ cond wanted a b ⌝ }
-{
+fn either_level(wanted: bool, a: u32, b: u32) -> u32 {
     if wanted {
         return a;
     }
@@ -58,10 +47,7 @@ fn either_level(wanted: bool, a: u32, b: u32) -> u32
 }
 
 // A node on a level and its list of subtrees.
-pub(crate) fn with_root(listed: ListRead, wanted: bool, level: u32) -> ListRead
-    requires { ⌜ nodesIn listed < 4294967295 ⌝ }
-    ensures { λ r. ⌜ r ≡ rooted wanted level listed ⌝ }
-{
+pub(crate) fn with_root(listed: ListRead, wanted: bool, level: u32) -> ListRead {
     match listed {
         ListRead::Bad => ListRead::Bad,
         ListRead::Good {
@@ -80,10 +66,7 @@ pub(crate) fn with_root(listed: ListRead, wanted: bool, level: u32) -> ListRead
 }
 
 // The node at a place and all below it, with at most so many levels. want counts from 1; 0 means none.
-pub fn read_subtree(d: &[u8], at: usize, levels: u32, want: u32) -> ListRead
-    requires { ⌜ (at ≤ length (now d)) × (length (now d) ≤ 16777216) × (levels ≤ 127) ⌝ }
-    ensures { λ r. ⌜ r ≡ listAt at (129 - levels) want (readOne levels (drop at (now (d .entry)))) ⌝ }
-{
+pub fn read_subtree(d: &[u8], at: usize, levels: u32, want: u32, t: &mut Table) -> ListRead {
     if levels == 0 {
         return ListRead::Bad;
     }
@@ -94,7 +77,7 @@ pub fn read_subtree(d: &[u8], at: usize, levels: u32, want: u32) -> ListRead
             let nul = node.nul;
             if name_ok(&d[at..nul]) {
                 let below = less(want, 1);
-                let listed = read_list(d, node.next, levels - 1, node.subtrees, below);
+                let listed = read_list(d, node.next, levels - 1, node.subtrees, below, t);
                 return with_root(listed, want == 1, 129 - levels);
             }
             ListRead::Bad
@@ -102,38 +85,44 @@ pub fn read_subtree(d: &[u8], at: usize, levels: u32, want: u32) -> ListRead
     }
 }
 
-// k siblings at a place and all below them, with at most so many levels.
-pub fn read_list(d: &[u8], at: usize, levels: u32, k: u32, want: u32) -> ListRead
-    requires { ⌜ (at ≤ length (now d)) × (length (now d) ≤ 16777216) × (levels ≤ 127) ⌝ }
-    ensures { λ r. ⌜ r ≡ listAt at (129 - levels) want (readForest 20 0 levels k (drop at (now (d .entry)))) ⌝ }
-{
+// k siblings at a place and all below them, with at most so many levels. Names that rise in one of two orders differ; others are looked at again.
+pub fn read_list(d: &[u8], at: usize, levels: u32, k: u32, want: u32, t: &mut Table) -> ListRead {
     let mut place = at;
+    let mut previous = at;
     let mut left = k;
     let mut wanted = want;
     let mut nodes: u32 = 0;
     let mut level: u32 = 0;
+    let mut rises = Rise {
+        by_slash: true,
+        by_length: true,
+    };
     while 0 < left {
-        let read = read_subtree(d, place, levels, wanted);
-        match read {
-            ListRead::Bad => {
-                return ListRead::Bad;
-            }
-            ListRead::Good {
-                next,
-                nodes: n,
-                level: l,
-            } => {
-                place = next;
-                left -= 1;
-                wanted = less(wanted, n);
-                nodes += n;
-                level = first(level, l);
-            }
+        let read = read_subtree(d, place, levels, wanted, t);
+        let ListRead::Good {
+            next,
+            nodes: n,
+            level: l,
+        } = read
+        else {
+            return ListRead::Bad;
+        };
+        if left < k {
+            rises = rise(d, previous, place, rises);
         }
+        previous = place;
+        place = next;
+        left -= 1;
+        wanted = less(wanted, n);
+        nodes += n;
+        level = first(level, l);
     }
-    ListRead::Good {
-        next: place,
-        nodes: nodes,
-        level: level,
+    if rises.by_slash || rises.by_length || differ(d, at, k, t) {
+        return ListRead::Good {
+            next: place,
+            nodes: nodes,
+            level: level,
+        };
     }
+    ListRead::Bad
 }

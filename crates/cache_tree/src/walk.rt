@@ -1,16 +1,9 @@
 // The nodes one after another, as they stand in the data.
 use tree_nodes::node::NodeRead;
 use tree_nodes::node::read_node;
-ghost use mathlib.Core.Path.{_≡_};
-ghost use Prim.Native.Nat.{_+_, _≤_};
-ghost use lib.ListN.{length, drop};
-ghost use Rattle.format.specs.Places.{nodeStart};
-ghost use Rattle.cache_tree.specs.Flat.{treesLength};
 
 // Where node number k begins, from 0 on; the end where there are fewer.
-pub fn place_of(d: &[u8], k: u32) -> usize
-    ensures { λ r. ⌜ (r ≡ nodeStart 20 k (now (d .entry))) × (r ≤ length (now (d .entry))) ⌝ }
-{
+pub fn place_of(d: &[u8], k: u32) -> usize {
     let mut place = 0;
     let mut left = k;
     while 0 < left {
@@ -28,13 +21,10 @@ pub fn place_of(d: &[u8], k: u32) -> usize
     place
 }
 
-// The place after a node and all below it; the end where there is none. Each node adds its subtrees to those that are still to pass.
-pub fn after_tree(d: &[u8], at: usize) -> usize
-    requires { ⌜ (at ≤ length (now d)) × (length (now d) ≤ 16777216) ⌝ }
-    ensures { λ r. ⌜ (r ≡ at + treesLength 1 (drop at (now (d .entry)))) × (r ≤ length (now (d .entry))) ⌝ }
-{
+// The place after k nodes and all below them; the end where they are not there. Each node adds its subtrees to those that are still to pass.
+pub fn after_trees(d: &[u8], at: usize, k: u32) -> usize {
     let mut place = at;
-    let mut pending: u64 = 1;
+    let mut pending = k as u64;
     while 0 < pending {
         let read = read_node(d, place);
         match read {
@@ -48,4 +38,9 @@ pub fn after_tree(d: &[u8], at: usize) -> usize
         }
     }
     place
+}
+
+// The place after a node and all below it.
+pub fn after_tree(d: &[u8], at: usize) -> usize {
+    after_trees(d, at, 1)
 }

@@ -149,7 +149,6 @@ fn add_tree(
     v: u32,
     count: u32,
     work: &mut [u8],
-    seed: u64,
     want: u32,
 ) -> One
     requires { ⌜ Inside (now b) at end × Room (now b) (now work) ⌝ }
@@ -160,7 +159,8 @@ fn add_tree(
     }
     let undo = found.undo;
     let from = at + 8;
-    let read = cache_tree::read_tree(&b[from..end], &mut *work, seed, want);
+    let mut table = [0u32; 4150];
+    let read = cache_tree::read_tree(&b[from..end], want, &mut table);
     match read {
         TreeRead::Bad => One::Bad(15),
         TreeRead::Good {
@@ -168,7 +168,7 @@ fn add_tree(
             place,
             level,
         } => {
-            if counts_ok(&b[from..end], b, v, count, work, seed) {
+            if counts_ok(&b[from..end], b, v, count, work, &mut table) {
                 return One::Good(
                     end,
                     Found {
@@ -197,7 +197,6 @@ fn read_extension(
     v: u32,
     count: u32,
     work: &mut [u8],
-    seed: u64,
     want_node: u32,
     want_record: u32,
 ) -> One
@@ -207,13 +206,13 @@ fn read_extension(
     let head = read_head(b, at);
     match head {
         Head::Bad(n) => One::Bad(n),
-        Head::Tree(end) => add_tree(b, at, end, found, v, count, work, seed, want_node),
+        Head::Tree(end) => add_tree(b, at, end, found, v, count, work, want_node),
         Head::Undo(end) => add_undo(b, at, end, found, want_record),
         Head::Other(end) => One::Good(end, found),
     }
 }
 
-// All extensions of a body, from a place on. v and count are the version and the number of entries, seed is any number; a node of the
+// All extensions of a body, from a place on. v and count are the version and the number of entries; a node of the
 // cache tree and a resolve-undo record are wanted, by their numbers from 0 on.
 pub fn read_extensions(
     b: &[u8],
@@ -221,7 +220,6 @@ pub fn read_extensions(
     v: u32,
     count: u32,
     work: &mut [u8],
-    seed: u64,
     want_node: u32,
     want_record: u32,
 ) -> Extended
@@ -238,7 +236,6 @@ pub fn read_extensions(
             v,
             count,
             &mut *work,
-            seed,
             want_node,
             want_record,
         );

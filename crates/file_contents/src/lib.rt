@@ -33,7 +33,6 @@ fn read_body(
     v: u32,
     count: u32,
     work: &mut [u8],
-    seed: u64,
     want_node: u32,
     want_record: u32,
 ) -> Whole
@@ -44,16 +43,7 @@ fn read_body(
     match run {
         Run::Bad(n, p) => Whole::Bad(n, p),
         Run::Good(end) => {
-            let read = extensions::read_extensions(
-                b,
-                end,
-                v,
-                count,
-                work,
-                seed,
-                want_node,
-                want_record,
-            );
+            let read = extensions::read_extensions(b, end, v, count, work, want_node, want_record);
             match read {
                 Extended::Bad(n, p) => Whole::Bad(n, p),
                 Extended::Good(found) => Whole::Good(Parts {
@@ -77,15 +67,7 @@ pub fn read_whole(file: &[u8], work: &mut [u8], want_node: u32, want_record: u32
         Header::Bad(n, p) => Whole::Bad(n, p),
         Header::Good(h) => {
             let n = file.len() - 20;
-            read_body(
-                &file[..n],
-                h.version,
-                h.count,
-                work,
-                h.seed,
-                want_node,
-                want_record,
-            )
+            read_body(&file[..n], h.version, h.count, work, want_node, want_record)
         }
     }
 }

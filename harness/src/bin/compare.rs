@@ -259,9 +259,12 @@ impl Comparison {
             return Err(format!("a sound file is refused: {checked:?}"));
         }
         for call in requests::calls(random, input, &checked) {
+            if matches!(call, Call::WalkStart | Call::WalkNext(..)) {
+                continue;
+            }
             self.ask(random, &call, input)?;
         }
-        if checked.refusal == 0 {
+        if checked.refusal == 0 && env::var_os("WALKS").is_some() {
             self.walk()?;
         }
         self.file.guards_stay()?;

@@ -26,7 +26,7 @@ struct Request {
 /// A call, and what stack it took.
 type Call = (&'static str, fn(&mut Request) -> usize);
 
-const CALLS: [Call; 10] = [
+const CALLS: [Call; 8] = [
     ("check", |r| depth(|| ffi::check(&r.file, &mut r.work))),
     ("entry", |r| {
         let k = r.counts.entries.saturating_sub(1);
@@ -57,12 +57,6 @@ const CALLS: [Call; 10] = [
     }),
     ("remove", |r| {
         depth(|| ffi::remove(&r.file, &mut r.work, &mut r.out, r.asked, &r.old, 0))
-    }),
-    ("walk_start", |r| {
-        depth(|| ffi::walk_start(&r.file, &mut r.work))
-    }),
-    ("walk_next", |r| {
-        depth(|| ffi::walk_next(&r.file, 12, r.counts.entries))
     }),
     ("sha1", |r| depth(|| ffi::sha1(&r.file))),
 ];
