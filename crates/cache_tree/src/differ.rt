@@ -43,13 +43,15 @@ fn has_name(d: &[u8], a: usize, b: usize, k: u32) -> bool {
 }
 
 // Whether the name at a place, of number i after those at another, is among the chunk of these, whose keys are in the table. Its own key is put there, if
-// it is of the chunk.
+// it is of the chunk. A slot that is empty says that the key is not there; one that is not may have another key, where the table is full.
 fn repeats(d: &[u8], place: usize, nul: usize, at: usize, i: u32, t: &mut Table) -> bool {
     let key = key_of(&d[place..nul], t);
     let slot = slot_of(t, 0, KEYS, key);
-    let known = t[slot] == key;
+    let known = t[slot] != 0;
     if i < CHUNK {
-        t[slot] = key;
+        if !known {
+            t[slot] = key;
+        }
         return known && has_name(d, place, at, i);
     }
     known && has_name(d, place, at, CHUNK)

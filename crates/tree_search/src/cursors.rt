@@ -40,11 +40,7 @@ fn find_ahead(d: &[u8], name: &[u8], from: usize, count: u32, by_length: bool) -
     while 0 < left {
         let nul = find(d, place, 0);
         if by_length && nul - place != name.len() {
-            return Ahead {
-                found: false,
-                place: place,
-                left: left,
-            };
+            break;
         }
         let order = order_of(&d[place..nul], name);
         match order {
@@ -60,18 +56,14 @@ fn find_ahead(d: &[u8], name: &[u8], from: usize, count: u32, by_length: bool) -
                 };
             }
             Order::Above => {
-                return Ahead {
-                    found: false,
-                    place: place,
-                    left: left,
-                };
+                break;
             }
         }
     }
     Ahead {
         found: false,
         place: place,
-        left: 0,
+        left: left,
     }
 }
 

@@ -20,10 +20,11 @@ fn step_key(m: u64, h: u64, x: u64) -> u64 {
 }
 
 // The key of a name: two bytes are a digit, and the two numbers take turns, so that no search for one of them finds names
-// with the same key. The last step spreads names that differ in their last bytes alone.
+// with the same key. The last step, a square, spreads
+// names that rise by even steps, which would stand side by side in a table.
 pub fn key_of(s: &[u8], t: &Table) -> u32 {
-    let mut m = t[SEED] as u64;
-    let mut n = t[SEED + 1] as u64;
+    let mut m = t[SEED] as u64 % 1073741824;
+    let mut n = t[SEED + 1] as u64 % 1073741824;
     let mut h: u64 = 0;
     let mut i = 0;
     while 2 <= s.len() - i {
@@ -36,10 +37,11 @@ pub fn key_of(s: &[u8], t: &Table) -> u32 {
     if i < s.len() {
         h = step_key(m, h, wide64(s[i]) + 65536);
     }
-    step_key(n, h, 0) as u32
+    let g = h % 2147483648;
+    step_key(g, g, n) as u32
 }
 
-// The seed is made from SHA-1 of the data, if it was not made yet. Both numbers are below 2^30, so that a product fits, and the first is not 0.
+// The seed is made from SHA-1 of the data, if it was not made yet. Neither number is 0 modulo 2^30.
 pub fn make_seed(d: &[u8], t: &mut Table) {
     if t[SEED] == 0 {
         let digest = hash::sha1(d);

@@ -48,6 +48,11 @@ fn agrees(dir: Directory, s: Front) -> bool {
     !dir.valid || dir.count as usize == dir.ahead as usize - s.ahead
 }
 
+// Whether the first entry ahead is in a directory: the directory was just entered, or the name has its first bytes in common with the one before.
+fn is_in(dir: Directory, s: Front) -> bool {
+    s.ahead == dir.ahead as usize || stays(s, dir.q as usize)
+}
+
 // The entries of which one is refused: none is ahead.
 fn ended(s: Front) -> Front {
     let c = s.cursor;
@@ -100,18 +105,16 @@ pub(crate) fn walk_directories(
     let mut above = [root; 128];
     let mut level: u32 = 0;
     let mut dir = root;
-    let mut entered = true;
     let mut front = s;
     let mut ok = true;
     let mut met: u64 = 0;
     loop {
-        if entered || stays(front, dir.q as usize) {
+        if is_in(dir, front) {
             let part = take_part(d, dir, level, b, v, &mut *work, front, &mut *t);
             match part {
                 Part::Passed(holds, next) => {
                     front = next;
                     ok = ok && holds;
-                    entered = false;
                 }
                 Part::Entered(below) => {
                     if level + 1 == LEVELS {
@@ -120,7 +123,6 @@ pub(crate) fn walk_directories(
                     above[level as usize] = dir;
                     level += 1;
                     dir = below;
-                    entered = true;
                 }
             }
         } else {

@@ -170,6 +170,15 @@ fn main() {
         }
         return;
     }
+    if part == "seeds" {
+        for i in 0..6 {
+            row(&format!("{} siblings in no order", 60_000 + i), &unordered(60_000 + i));
+        }
+        for i in 0..10 {
+            row(&format!("{} directories in reverse", 20_000 + i), &hostile::reversed_directories(20_000 + i));
+        }
+        return;
+    }
     if part == "differ" {
         row("100,000 siblings in no order", &unordered(100_000));
         row("200,000 siblings in no order", &unordered(200_000));
