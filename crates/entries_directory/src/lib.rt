@@ -4,12 +4,6 @@ use entries_run::Next;
 use entries_run::name_at;
 use entries_run::pass_entry;
 use fields::find;
-ghost use mathlib.Core.Path.{_≡_};
-ghost use mathlib.Core.Bool.{true, _&&_};
-ghost use Prim.Native.Nat.{_≤_};
-ghost use lib.ListN.{length};
-ghost use lib.Dec.{leb, ltb};
-ghost use Rattle.entries_directory.specs.Ahead.{Fits, Advanced, Went, MoreFiles, WentFiles};
 
 // The name of the first entry ahead stands before the cursor. common is what it has in common with the name before it.
 pub struct Front {
@@ -18,17 +12,8 @@ pub struct Front {
     pub common: usize,
 }
 
-// How many entries were passed, and what is ahead of them.
-pub struct Passage {
-    pub count: usize,
-    pub front: Front,
-}
-
 // The next entry. All entries were read before the walk, so that nothing is tested again. One that is not there ends the walk.
-pub fn advance(b: &[u8], v: u32, work: &mut [u8], s: Front) -> Front
-    requires { ⌜ Fits (now b) s × (8192 ≤ length (now work)) ⌝ }
-    ensures { λ r. ⌜ Advanced v (now (b .entry)) (now (work .entry)) s (now (work .exit)) r ⌝ }
-{
+pub fn advance(b: &[u8], v: u32, work: &mut [u8], s: Front) -> Front {
     let c = s.cursor;
     if s.ahead <= 1 {
         return Front {
@@ -56,38 +41,22 @@ pub fn advance(b: &[u8], v: u32, work: &mut [u8], s: Front) -> Front
 }
 
 // Whether the first entry ahead begins with the same so many bytes as the one before it.
-pub fn stays(s: Front, q: usize) -> bool
-    ensures { λ r. ⌜ r ≡ (ltb 0 (s .ahead) && leb q (s .common)) ⌝ }
-{
-    if s.ahead == 0 {
-        return false;
-    }
-    q <= s.common
+pub fn stays(s: Front, q: usize) -> bool {
+    0 < s.ahead && q <= s.common
 }
 
 // Past all entries that begin with the first q bytes of the first one ahead.
-pub fn pass(b: &[u8], v: u32, work: &mut [u8], s: Front, q: usize) -> Passage
-    requires { ⌜ Fits (now b) s × (8192 ≤ length (now work)) × (1 ≤ s .ahead) ⌝ }
-    ensures { λ r. ⌜ Went v (now (b .entry)) (now (work .entry)) s q (now (work .exit)) r ⌝ }
-{
+pub fn pass(b: &[u8], v: u32, work: &mut [u8], s: Front, q: usize) -> Front {
     let mut front = advance(b, v, &mut *work, s);
-    let mut count = 1;
     while stays(front, q) {
         front = advance(b, v, &mut *work, front);
-        count += 1;
     }
-    Passage {
-        count: count,
-        front: front,
-    }
+    front
 }
 
 // Whether the first entry ahead is one more file of the directory whose name is the first q bytes of the entry before it, which is one. What the two
 // names have in common has no further "/", so only the rest is looked at.
-fn is_file<'a>(b: &'a [u8], v: u32, work: &'a [u8], s: Front, q: usize) -> bool
-    requires { ⌜ Fits (now b) s × (8192 ≤ length (now work)) ⌝ }
-    ensures { λ r. ⌜ (r ≡ true → MoreFiles v (now (b .entry)) (now (work .entry)) s q) ⌝ }
-{
+fn is_file<'a>(b: &'a [u8], v: u32, work: &'a [u8], s: Front, q: usize) -> bool {
     if stays(s, q) {
         let c = s.cursor;
         let start = c.start;
@@ -99,18 +68,10 @@ fn is_file<'a>(b: &'a [u8], v: u32, work: &'a [u8], s: Front, q: usize) -> bool
 }
 
 // Past the files of the directory whose name is the first q bytes of the first one ahead, which is one, up to the first entry that is none.
-pub fn pass_files(b: &[u8], v: u32, work: &mut [u8], s: Front, q: usize) -> Passage
-    requires { ⌜ Fits (now b) s × (8192 ≤ length (now work)) × (1 ≤ s .ahead) ⌝ }
-    ensures { λ r. ⌜ WentFiles v (now (b .entry)) (now (work .entry)) s q (now (work .exit)) r ⌝ }
-{
+pub fn pass_files(b: &[u8], v: u32, work: &mut [u8], s: Front, q: usize) -> Front {
     let mut front = advance(b, v, &mut *work, s);
-    let mut count = 1;
     while is_file(b, v, &work[..], front, q) {
         front = advance(b, v, &mut *work, front);
-        count += 1;
     }
-    Passage {
-        count: count,
-        front: front,
-    }
+    front
 }

@@ -1,47 +1,15 @@
 // Whether the counts of a cache tree are right: refusal 16.
-use crate::survey::Survey;
-use crate::survey::survey_trees;
-use crate::walk::Tally;
-use crate::walk::agrees;
-use crate::walk::both;
-use crate::walk::walk_directory;
+use crate::walk::enter;
+use crate::walk::walk_directories;
+use entries_run::first;
 use entries_directory::Front;
 use entries_directory::advance;
-use entries_run::first;
 use tree_nodes::node::Node;
 use tree_nodes::node::NodeRead;
 use tree_nodes::node::read_node;
-use tree_search::table::reset;
-ghost use Prim.Native.Nat.{_≤_};
-ghost use lib.ListN.{length};
-ghost use Rattle.entries_run.specs.Steps.{Room};
-ghost use Rattle.tree_check.specs.Answers.{RootWalked, CountsTold};
-ghost use Rattle.tree_check.specs.Steps.{Ready, DirectoryWalked};
-
-// The walk over all entries, with the tables for it. The seed is any number.
-fn walk_all(d: &[u8], root: Node, b: &[u8], v: u32, work: &mut [u8], s: Front, seed: u64) -> Tally
-    requires { ⌜ Ready (now d) (root .next) (now b) (now work) 0 s ⌝ }
-    ensures { λ r. ⌜ DirectoryWalked (now (d .entry)) (root .next) (root .subtrees) (root .valid) (now (b .entry)) v (now (work .entry)) 0 s (now (work .exit)) r ⌝ }
-{
-    let mut near = [0u32; 2053];
-    let mut far = [0u32; 2053];
-    let m = (seed % 4294967296) as u32;
-    reset(&mut near, m);
-    reset(&mut far, m);
-    walk_directory(
-        d,
-        root.next,
-        root.subtrees,
-        root.valid,
-        b,
-        v,
-        work,
-        0,
-        s,
-        &mut near,
-        &mut far,
-    )
-}
+use crate::survey::Survey;
+use crate::survey::survey_trees;
+use tree_table::Table;
 
 // What the walk over all entries tests of the root and of what is below it, where met nodes have a count of at least 1.
 fn walk_root(
@@ -52,11 +20,8 @@ fn walk_root(
     v: u32,
     count: u32,
     work: &mut [u8],
-    seed: u64,
-) -> bool
-    requires { ⌜ (root .next ≤ length (now d)) × (length (now d) ≤ 16777216) × Room (now b) (now work) ⌝ }
-    ensures { λ r. ⌜ RootWalked (now (d .entry)) root met (now (b .entry)) v count (now (work .entry)) (now (work .exit)) r ⌝ }
-{
+    t: &mut Table,
+) -> bool {
     let c = first();
     let start = Front {
         cursor: c,
@@ -65,18 +30,13 @@ fn walk_root(
     };
     let front = advance(b, v, &mut *work, start);
     if front.ahead == 0 {
-        return both(agrees(root.valid, root.count, 0), 0 == met);
+        return met == 0 && (!root.valid || root.count == 0);
     }
-    let t = walk_all(d, root, b, v, work, front, seed);
-    let whole = both(t.ok, t.met == met);
-    both(agrees(root.valid, root.count, t.count), whole)
+    walk_directories(d, enter(root, 0, front), met, b, v, work, front, t)
 }
 
-// Whether the counts of the cache tree d are right for the first count entries of the body b of version v. The seed is any number.
-pub fn counts_ok(d: &[u8], b: &[u8], v: u32, count: u32, work: &mut [u8], seed: u64) -> bool
-    requires { ⌜ (length (now d) ≤ 16777216) × Room (now b) (now work) ⌝ }
-    ensures { λ r. ⌜ CountsTold (now (d .entry)) (now (b .entry)) v count (now (work .entry)) (now (work .exit)) r ⌝ }
-{
+// Whether the counts of the cache tree d are right for the first count entries of the body b of version v. The table is of no list.
+pub fn counts_ok(d: &[u8], b: &[u8], v: u32, count: u32, work: &mut [u8], t: &mut Table) -> bool {
     let read = read_node(d, 0);
     match read {
         NodeRead::Bad => false,
@@ -84,7 +44,7 @@ pub fn counts_ok(d: &[u8], b: &[u8], v: u32, count: u32, work: &mut [u8], seed: 
             let found = survey_trees(d, root.next, root.subtrees, root.valid);
             match found {
                 Survey::Untidy => false,
-                Survey::Tidy(met) => walk_root(d, root, met, b, v, count, work, seed),
+                Survey::Tidy(met) => walk_root(d, root, met, b, v, count, work, t),
             }
         }
     }

@@ -87,13 +87,13 @@ pub fn find_node(d: &[u8], k: u32) -> NodePlace
     }
 }
 
-// The place after a node and all below it; the end where there is none. Each node adds its subtrees to those that are still to pass.
-pub fn after_tree(d: &[u8], at: usize) -> usize
+// The place after k nodes and all below them; the end where they are not there. Each node adds its subtrees to those that are still to pass.
+pub fn after_trees(d: &[u8], at: usize, k: u32) -> usize
     requires { ⌜ (at ≤ length (now d)) × (length (now d) ≤ 16777216) ⌝ }
-    ensures { λ r. ⌜ (r ≡ at + treesLength 1 (drop at (now (d .entry)))) × (r ≤ length (now (d .entry))) ⌝ }
+    ensures { λ r. ⌜ (r ≡ at + treesLength k (drop at (now (d .entry)))) × (r ≤ length (now (d .entry))) ⌝ }
 {
     let mut place = at;
-    let mut pending: u64 = 1;
+    let mut pending = k as u64;
     while 0 < pending {
         let read = read_node(d, place);
         match read {
@@ -107,4 +107,12 @@ pub fn after_tree(d: &[u8], at: usize) -> usize
         }
     }
     place
+}
+
+// The place after a node and all below it.
+pub fn after_tree(d: &[u8], at: usize) -> usize
+    requires { ⌜ (at ≤ length (now d)) × (length (now d) ≤ 16777216) ⌝ }
+    ensures { λ r. ⌜ (r ≡ at + treesLength 1 (drop at (now (d .entry)))) × (r ≤ length (now (d .entry))) ⌝ }
+{
+    after_trees(d, at, 1)
 }

@@ -1,152 +1,120 @@
-// A table of the siblings that are about to be asked for: one pass over them notes where each of them stands whose key is wanted.
+// A table of some siblings of a list: of those whose keys are in it, one pass over the list puts down where each stands.
 use crate::child::Answer;
 use crate::child::Child;
 use crate::child::is_named;
-use crate::keys::SLOTS;
-use crate::keys::Table;
-use crate::keys::key_of;
-use crate::keys::slot_of;
-use crate::keys::want;
-use fields::find;
-use tree_nodes::passes::after_tree;
-ghost use mathlib.Core.Path.{_≡_};
-ghost use mathlib.Core.List.{List};
-ghost use Prim.Native.Nat.{ℕ, _+_, _≤_, _<_};
-ghost use lib.ListN.{length, getD, drop};
-ghost use Rattle.tree_nodes.specs.Flat.{nameOf};
-ghost use Rattle.tree_search.specs.Keys.{keyOf};
-ghost use Rattle.tree_search.specs.Siblings.{Told};
-ghost use Rattle.tree_search.specs.Table.{noted, isSaid, Known};
+use tree_nodes::passes::after_trees;
+use tree_nodes::node::NodeRead;
+use tree_nodes::node::read_node;
+use tree_table::Table;
+use tree_table::clear;
+use tree_table::is_of;
+use tree_table::key_of;
+use tree_table::set_list;
+use tree_table::slot_of;
 
-// A number of a table as a place.
-pub fn place_of(x: u32) -> usize
-    ensures { λ r. ⌜ r ≡ x ⌝ }
-{
-    x as usize
-}
+// The two tables: where each begins. The first is for shorter lists, so that many of them below a long one do not make it begin anew.
+pub const NEAR: usize = 0;
 
-// 1,024 numbers of a table from a place on are 0.
-pub fn clear(t: &mut Table, from: usize)
-    requires { ⌜ from ≤ 1024 ⌝ }
-    ensures { λ _. ⌜ (length (now (t .exit)) ≡ length (now (t .entry))) × ((i : ℕ) → i < 1024 → getD (now (t .exit)) (from + i) 0 ≡ 0) ⌝ }
-{
-    let mut i = 0;
-    while i < SLOTS {
-        t[from + i] = 0;
-        i += 1;
+pub const FAR: usize = 1024;
+
+// Their slots: keys, and after them as many places. A pass over a long list costs more, so that its table takes more keys.
+const NEAR_SLOTS: usize = 512;
+
+const FAR_SLOTS: usize = 1024;
+
+// Where the list of the table that begins at a place stands: its place and its number of siblings, 0 where there is none.
+const TABLE_LISTS: usize = 4096;
+
+fn slots_of(from: usize) -> usize {
+    if from == NEAR {
+        return NEAR_SLOTS;
     }
+    FAR_SLOTS
 }
 
-// A table of no siblings, whose keys are made with m.
-pub fn reset(t: &mut Table, m: u32)
-    requires { ⌜ length (now t) ≡ 2053 ⌝ }
-    ensures { λ _. ⌜ ((d : List ℕ) → Known d (now (t .exit))) ⌝ }
-{
-    t[2049] = 0;
-    t[2050] = m;
-    t[2052] = 0;
+// How many keys a table takes: three quarters of its slots.
+pub fn most_keys(from: usize) -> u32 {
+    if from == NEAR {
+        return 384;
+    }
+    768
 }
 
-// The key of the node at a place.
-fn key_at(d: &[u8], place: usize, m: u32) -> u32
-    requires { ⌜ place ≤ length (now d) ⌝ }
-    ensures { λ r. ⌜ r ≡ keyOf m (nameOf (drop place (now (d .entry)))) ⌝ }
-{
-    let nul = find(d, place, 0);
-    key_of(&d[place..nul], m)
+fn list_of(from: usize) -> usize {
+    if from == NEAR {
+        return TABLE_LISTS;
+    }
+    TABLE_LISTS + 2
 }
 
-// The sibling at a place is noted, if its key is wanted.
-fn note(d: &[u8], place: usize, t: &mut Table)
-    requires { ⌜ (place ≤ length (now d)) × (length (now d) ≤ 16777216) ⌝ }
-    ensures { λ _. ⌜ now (t .exit) ≡ noted (now (d .entry)) place (now (t .entry)) ⌝ }
-{
-    let key = key_at(d, place, t[2050]);
-    let i = slot_of(t, key);
+// No keys are in a table.
+pub fn clear_keys(from: usize, t: &mut Table) {
+    clear(t, from, slots_of(from));
+}
+
+// A key is in a table. How many were added.
+pub fn put_key(from: usize, key: u32, t: &mut Table) -> u32 {
+    let slots = slots_of(from);
+    let i = slot_of(t, from, slots, key);
+    if t[i] == key {
+        return 0;
+    }
+    t[i] = key;
+    1
+}
+
+// The place of a sibling with a key is put down, if the key is in the table: 2 more than the place, 1 where there are several.
+fn put_place(key: u32, place: usize, from: usize, t: &mut Table) {
+    let slots = slots_of(from);
+    let i = slot_of(t, from, slots, key);
     if t[i] != key {
         return;
     }
-    if t[SLOTS + i] == 0 {
-        t[SLOTS + i] = place as u32 + 2;
+    if t[slots + i] == 0 {
+        t[slots + i] = place as u32 + 2;
         return;
     }
-    t[SLOTS + i] = 1;
+    t[slots + i] = 1;
 }
 
-// The keys of the k siblings at a place are wanted.
-pub fn want_siblings(d: &[u8], at: usize, k: u32, t: &mut Table)
-    requires { ⌜ (at ≤ length (now d)) × (length (now d) ≤ 16777216) × (length (now t) ≡ 2053) ⌝ }
-    ensures { λ _. ⌜ length (now (t .exit)) ≡ length (now (t .entry)) ⌝ }
-{
+// Those of the k siblings at a place are put down, and the table is of these.
+pub fn put_places(d: &[u8], at: usize, k: u32, from: usize, t: &mut Table) {
+    let slots = slots_of(from);
+    set_list(t, list_of(from), at, 0);
+    clear(t, from + slots, slots);
     let mut place = at;
     let mut left = k;
     while 0 < left {
-        let key = key_at(d, place, t[2050]);
-        want(t, key);
-        place = after_tree(d, place);
+        let read = read_node(d, place);
+        let NodeRead::Good(node) = read else {
+            return;
+        };
+        let nul = node.nul;
+        let key = key_of(&d[place..nul], t);
+        put_place(key, place, from, t);
+        place = after_trees(d, node.next, node.subtrees);
         left -= 1;
     }
+    set_list(t, list_of(from), at, k);
 }
 
-// The k siblings at a place are noted in a table with wanted keys.
-pub fn settle(d: &[u8], at: usize, k: u32, t: &mut Table)
-    requires { ⌜ (at ≤ length (now d)) × (length (now d) ≤ 16777216) × (length (now t) ≡ 2053) ⌝ }
-    ensures { λ _. ⌜ Known (now (d .entry)) (now (t .exit)) ⌝ }
-{
-    clear(t, SLOTS);
-    let mut place = at;
-    let mut left = k;
-    while 0 < left {
-        note(d, place, t);
-        place = after_tree(d, place);
-        left -= 1;
-    }
-    t[2048] = at as u32;
-    t[2049] = k;
-    t[2052] = 0;
-}
-
-// Whether a table has the place of k siblings and their number at i, and there are some.
-pub fn says(t: &Table, i: usize, at: usize, k: u32) -> bool
-    requires { ⌜ i ≤ 2051 ⌝ }
-    ensures { λ r. ⌜ r ≡ isSaid (now (t .entry)) i at k ⌝ }
-{
-    if k == 0 {
-        return false;
-    }
-    if place_of(t[i]) == at {
-        return t[i + 1] == k;
-    }
-    false
-}
-
-// Whether the k siblings at a place are noted in a table.
-pub fn is_of(t: &Table, at: usize, k: u32) -> bool
-    ensures { λ r. ⌜ r ≡ isSaid (now (t .entry)) 2048 at k ⌝ }
-{
-    says(t, 2048, at, k)
-}
-
-// What the notes of a table say of a name.
-pub fn recall(d: &[u8], name: &[u8], t: &Table) -> Answer
-    requires { ⌜ Known (now d) (now t) × (1 ≤ getD (now t) 2049 0) × (getD (now t) 2048 0 ≤ length (now d)) ⌝ }
-    ensures { λ r. ⌜ Told (now (d .entry)) (getD (now (t .entry)) 2048 0) (getD (now (t .entry)) 2049 0) (now (name .entry)) r ⌝ }
-{
-    let key = key_of(name, t[2050]);
-    let i = slot_of(t, key);
-    if t[i] != key {
+// What a table says of a name among the k siblings at a place.
+pub fn find_in_table(d: &[u8], at: usize, k: u32, name: &[u8], from: usize, t: &Table) -> Answer {
+    if !is_of(t, list_of(from), at, k) {
         return Answer::Unknown;
     }
-    let note = t[SLOTS + i];
-    if note == 0 {
+    let key = key_of(name, t);
+    let slots = slots_of(from);
+    let i = slot_of(t, from, slots, key);
+    if t[i] != key || t[slots + i] == 1 {
+        return Answer::Unknown;
+    }
+    if t[slots + i] == 0 {
         return Answer::Known(Child::Missing);
     }
-    if note == 1 {
-        return Answer::Unknown;
-    }
-    let place = place_of(note) - 2;
+    let place = t[slots + i] as usize - 2;
     if is_named(d, place, name) {
-        return Answer::Known(Child::Found(place, 1));
+        return Answer::Known(Child::Found(place));
     }
     Answer::Known(Child::Missing)
 }
