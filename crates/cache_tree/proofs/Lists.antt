@@ -331,13 +331,22 @@ one-alone : (l : ℕ) (s : List ℕ) (t : Forest) (m : ℕ) → readOne l s ≡ 
 unfolding bind shift others
 one-alone l s t m e = list-step l 0 s ∙ rw (e, list-none l (drop m s))
 
-pub one-length : (d : List ℕ) (l place next n : ℕ) → ListIs distinctBelow d place (readOne l (drop place d)) next n → next ≡ place + treesLength 1 (drop place d)
+one-some : (l : ℕ) (s : List ℕ) (f : Forest) (j : ℕ) → readOne l s ≡ good f j → 1 ≤ j
+unfolding readOne
+one-some zero s f j e = bad-good 15 0 f j e
+one-some (suc l) s f j e =
+    bind-inv (readNode 20 0 s) _ f j e λ h m i q r is.
+    let c : (1 ≤ m) × (m ≤ length s) = node-took 20 0 s .of h m q in
+    omega arith
+
+pub one-length : (d : List ℕ) (l place next n : ℕ) → ListIs distinctBelow d place (readOne l (drop place d)) next n → (place < next) × (next ≡ place + treesLength 1 (drop place d))
 one-length d l place next n is =
     let few = is .few in
+    let some : 1 ≤ next - place = one-some l (drop place d) (is .of) (next - place) (is .reads) in
     let r = forest-reads l 1 (drop place d) _ _ (one-alone l (drop place d) (is .of) (next - place) (is .reads)) in
     let e : treesLength (1 + 0) (drop place d) ≡ next - place + (0 + 0) + treesLength 0 (drop (next - place + (0 + 0)) (drop place d)) = reads-length _ _ _ _ r 0 in
     let z : treesLength 0 (drop (next - place + (0 + 0)) (drop place d)) ≡ 0 = trees-none (drop (next - place + (0 + 0)) (drop place d)) in
-    omega arith
+    (omega arith, omega arith)
 
 -- ---- a node and its list of subtrees
 
