@@ -4,4 +4,5 @@ pub mod Below
 pub mod Faults
 pub mod Lists
 pub mod Names
+pub mod Shape
 pub mod Siblings
