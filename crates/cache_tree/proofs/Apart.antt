@@ -107,11 +107,11 @@ module _ (t : List ℕ) (room : 4096 ≤ length t) (x : List ℕ) where
   put-by true e = let z = free-is t x true e .0 refl in (more-own z, more-stays z)
   put-by false e = (e, λ y f. f)
 
-  pub put-own : isFree (putIn t x) x ≡ false
+  put-own : isFree (putIn t x) x ≡ false
   unfolding putIn
   put-own = put-by (isFree t x) refl .0
 
-  pub put-stays : (y : List ℕ) → isFree t y ≡ false → isFree (putIn t x) y ≡ false
+  put-stays : (y : List ℕ) → isFree t y ≡ false → isFree (putIn t x) y ≡ false
   unfolding putIn
   put-stays = put-by (isFree t x) refl .1
 

@@ -22,7 +22,6 @@ use Rattle.tree_nodes.specs.Flat.{size, treesLength, namesOf, hasName, namesDif
 use Rattle.tree_nodes.proofs.Readings.{node-took}
 use Rattle.tree_nodes.proofs.Nodes.{NodeIs}
 use Rattle.tree_nodes.proofs.Flat.{siblingNames, has-names, reads-names, reads-length, trees-none, forest-reads}
-use Rattle.format_laws.proofs.Tests.{by-test}
 
 -- ---- tests
 

@@ -1,8 +1,7 @@
 -- Laws of the names of siblings, one after another.
 use mathlib.Core.Path.{_≡_, refl, sym, ap, _∙_}
 use mathlib.Core.List.{List, [], _∷_}
-use mathlib.Core.Bool.{Bool, true, false, cond, _&&_, true≢false}
-use lib.Dec.{eqb}
+use mathlib.Core.Bool.{Bool, true, false, _&&_, true≢false}
 use borrow.Author.Tests.{eq-eqb, ne-eqb}
 use Prim.Native.Nat.{ℕ, zero, suc, _+_, _-_, _≤_, _<_}
 use native.Mathlib.Omega.{arith}
@@ -68,8 +67,8 @@ module _ (d : List ℕ) (a k : ℕ) where
 
 -- ---- siblings that are read one after another, and whether they rise
 
--- Names b d at k previous place left rises: of k siblings at a place, the one at `previous` was read last, and `left` stand from `place` on. Where names
--- rise so far, they differ if the rest rises too
+-- Rises b d at k previous place left rises: of the k siblings at a place, the one at `previous` was read last, and `left` stand from `place` on. Where
+-- names rise so far, all differ if those that are left rise too
 pub data Rises (b : Bool) (d : List ℕ) (at k : ℕ) : ℕ → ℕ → ℕ → Bool → Type 0 where
   at-first : {rises : Bool} → Rises b d at k at at k rises
   later :

@@ -1,7 +1,6 @@
 -- Laws of keys and their slots.
 use mathlib.Core.Path.{_≡_, refl, sym, ap, _∙_}
 use mathlib.Core.List.{List, [], _∷_}
-use mathlib.Core.Bool.{cond}
 use Prim.Native.Nat.{ℕ, zero, suc, _+_, _*_, _-_, _%_, _≤_, _<_}
 use native.Mathlib.Nat.{mod-lt}
 use native.Mathlib.Omega.{arith}
@@ -73,7 +72,7 @@ module _ (from slots : ℕ) where
     stays-at : (i : ℕ) → (getD t (from + i) 0 ≡ 0 → ⊥) → getD after (from + i) 0 ≡ getD t (from + i) 0
     stays-at i some = getD-set-other t (from + j) (from + i) x 0 (λ e. some (ap (λ (k : ℕ). getD t k 0) e ∙ empty))
 
-    pub probe-stays : (key n i : ℕ) → (getD t (from + probe from slots t key n i) 0 ≡ 0 → ⊥) → getD after (from + probe from slots after key n i) 0 ≡ 0 → ⊥
+    probe-stays : (key n i : ℕ) → (getD t (from + probe from slots t key n i) 0 ≡ 0 → ⊥) → getD after (from + probe from slots after key n i) 0 ≡ 0 → ⊥
     unfolding probe
     probe-stays key zero i some e = some (sym (stays-at i some) ∙ e)
     probe-stays key (suc n) i some e =
@@ -105,7 +104,7 @@ module _ (from slots : ℕ) where
         rw (eq-eqb (getD filled (from + i) 0) key k) is)
         (λ full. rw (stays-at t j key empty i (eqb-false _ _ full), other, full) (probe-put n (nextSlot slots i) (rw (other, full) at e))))
 
-    pub probe-own : (n i : ℕ) → probe from slots t key n i ≡ j → getD filled (from + probe from slots filled key n i) 0 ≡ key
+    probe-own : (n i : ℕ) → probe from slots t key n i ≡ j → getD filled (from + probe from slots filled key n i) 0 ≡ key
     probe-own n i e = rw (probe-put n i e) (getD-set-same t (from + j) key 0 room)
 
   module _ (t : List ℕ) (key : ℕ) (empty : getD t (slotIn from slots t key) 0 ≡ 0) where
@@ -118,7 +117,7 @@ module _ (from slots : ℕ) where
     unfolding slotIn
     slot-own some room = probe-own t key _ some room empty (slots - 1) (key % slots) refl
 
-  pub probe-most : (t : List ℕ) (key n i : ℕ) → i < slots → probe from slots t key n i < slots
+  probe-most : (t : List ℕ) (key n i : ℕ) → i < slots → probe from slots t key n i < slots
   unfolding probe
   probe-most t key zero i l = l
   probe-most t key (suc n) i l =

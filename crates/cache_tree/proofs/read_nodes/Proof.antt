@@ -8,11 +8,6 @@ use mathlib.Core.Path.{sym, ap, _∙_}
 use borrow.Author.Needs.{needs}
 use Rattle.cache_tree.proofs.read_nodes.Statement.{statement}
 use Rattle.cache_tree.proofs.read_nodes.Tie as tie
-use Rattle.cache_tree.proofs.read_nodes.Reads as reads
-use Rattle.cache_tree.proofs.read_nodes.Lts as lts
-use Rattle.cache_tree.proofs.list.read_list.Reads as read-list-reads
-use Rattle.cache_tree.proofs.list.with_root.Reads as with-root-reads
-use Rattle.tree_nodes.proofs.node.read_node.Reads as read-node-reads
 
 root-of : (c : tie.After-known-told) → NodeIs (c .before .before .before .before .before .args .d .now) 0 (c .before .read .given .0 .0)
 root-of c = node-is _ 0 (omega arith) _ (sym (c .before .read .given .1) ∙ c .before .before .before .read-node .ensures)

@@ -5,9 +5,6 @@ use mathlib.Core.Path.{sym, _∙_}
 use borrow.Author.Needs.{needs}
 use Rattle.cache_tree.proofs.read_tree.Statement.{statement}
 use Rattle.cache_tree.proofs.read_tree.Tie as tie
-use Rattle.cache_tree.proofs.read_tree.Reads as reads
-use Rattle.cache_tree.proofs.read_tree.Lts as lts
-use Rattle.cache_tree.proofs.read_nodes.Reads as read-nodes-reads
 
 nodes-of : (c : tie.After-known-told) → NodesAre (c .before .before .before .before .before .before .args .d .now) (c .before .read .given .0 .0) (c .before .read .given .0 .1 .0)
 nodes-of c = nodes-are _ _ _ (sym (c .before .read .given .1) ∙ c .before .before .before .read-nodes .ensures .0)

@@ -5,10 +5,6 @@ use mathlib.Core.Path.{refl, sym, _∙_}
 use borrow.Author.Needs.{needs}
 use Rattle.extensions.proofs.add_tree.Statement.{statement}
 use Rattle.extensions.proofs.add_tree.Tie as tie
-use Rattle.extensions.proofs.add_tree.Reads as reads
-use Rattle.extensions.proofs.add_tree.Lts as lts
-use Rattle.cache_tree.proofs.read_tree.Reads as read-tree-reads
-use Rattle.tree_check.proofs.counts.counts_ok.Reads as counts-ok-reads
 
 returns : tie.Need-returns
 returns c = record { answered = λ es m q. known-seen _ _ _ _ (c .if1 .taken); inside = tt; long = refl; past = refl }

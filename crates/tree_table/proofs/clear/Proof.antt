@@ -8,8 +8,6 @@ use Prim.Native.Nat.{ℕ, _+_, _-_, _≤_, _<_}
 use mathlib.Core.Path.{_≡_, refl, _∙_}
 use Rattle.tree_table.proofs.clear.Statement.{statement}
 use Rattle.tree_table.proofs.clear.Tie as tie
-use Rattle.tree_table.proofs.clear.Reads as reads
-use Rattle.tree_table.proofs.clear.Lts as lts
 
 abbrev Inv-loop : tie.InvT-loop
 Inv-loop t₀ from n i₀ t i = (i ≤ n) × (length t ≡ length t₀) × ((j : ℕ) → j < i → getD t (from + j) 0 ≡ 0) × ((j : ℕ) → from + n ≤ j → getD t j 0 ≡ getD t₀ j 0)

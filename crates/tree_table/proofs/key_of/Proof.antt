@@ -5,15 +5,9 @@ use lib.ListN.{length, drop}
 use native.Mathlib.Omega.{arith}
 use native.Mathlib.Nat.{mul-le-mul}
 use Prim.Native.Nat.{ℕ, _*_, _-_, _≤_, _<_}
-use mathlib.Core.Path.{_≡_, refl, sym, _∙_}
+use mathlib.Core.Path.{_≡_, sym, _∙_}
 use Rattle.tree_table.proofs.key_of.Statement.{statement}
 use Rattle.tree_table.proofs.key_of.Tie as tie
-use Rattle.tree_table.proofs.key_of.Reads as reads
-use Rattle.tree_table.proofs.key_of.Lts as lts
-use Rattle.fields.proofs.wide64.Reads as wide64-reads
-use Rattle.tree_table.proofs.last_key.Reads as last-key-reads
-use Rattle.tree_table.proofs.multiplier.Reads as multiplier-reads
-use Rattle.tree_table.proofs.step_key.Reads as step-key-reads
 
 few : (m h : ℕ) → m < 1073741824 → h < 4294967296 → h * m ≤ 4294967295 * 1073741823
 few m h a b = mul-le-mul {n₂ = 4294967295} {m₂ = 1073741823} (omega arith) (omega arith)

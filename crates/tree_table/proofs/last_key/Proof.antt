@@ -5,9 +5,6 @@ use Prim.Native.Nat.{_*_, _%_, _≤_}
 use borrow.Author.Needs.{needs}
 use Rattle.tree_table.proofs.last_key.Statement.{statement}
 use Rattle.tree_table.proofs.last_key.Tie as tie
-use Rattle.tree_table.proofs.last_key.Reads as reads
-use Rattle.tree_table.proofs.last_key.Lts as lts
-use Rattle.tree_table.proofs.step_key.Reads as step-key-reads
 
 step-key-requires : tie.Need-step-key-requires
 step-key-requires c κs = let l : c .args .h % 2147483648 * (c .args .h % 2147483648) ≤ 2147483647 * 2147483647 = mul-le-mul {n₂ = 2147483647} {m₂ = 2147483647} (omega arith) (omega arith) in (omega arith, omega arith)

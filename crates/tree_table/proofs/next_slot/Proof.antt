@@ -4,8 +4,6 @@ use borrow.Author.Tests.{eq-eqb, ne-eqb}
 use borrow.Author.Needs.{needs}
 use Rattle.tree_table.proofs.next_slot.Statement.{statement}
 use Rattle.tree_table.proofs.next_slot.Tie as tie
-use Rattle.tree_table.proofs.next_slot.Reads as reads
-use Rattle.tree_table.proofs.next_slot.Lts as lts
 
 add-if1 : tie.Need-add-if1
 add-if1 c = search needs

@@ -3,13 +3,10 @@ use Rattle.tree_table.proofs.Slots.{probe-end, probe-here, probe-empty,
 use Rattle.tree_table.specs.Keys.{probe}
 use native.Mathlib.Omega.{arith}
 use native.Mathlib.Nat.{mod-lt}
-use Prim.Native.Nat.{ℕ, _+_, _-_, _%_, _<_}
-use mathlib.Core.Path.{_≡_, refl, sym, ap, _∙_}
+use Prim.Native.Nat.{_-_, _%_, _<_}
+use mathlib.Core.Path.{_≡_, refl, _∙_}
 use Rattle.tree_table.proofs.slot_of.Statement.{statement}
 use Rattle.tree_table.proofs.slot_of.Tie as tie
-use Rattle.tree_table.proofs.slot_of.Reads as reads
-use Rattle.tree_table.proofs.slot_of.Lts as lts
-use Rattle.tree_table.proofs.next_slot.Reads as next-slot-reads
 
 abbrev Inv-loop : tie.InvT-loop
 Inv-loop t from slots key i₀ left₀ i left = (i < slots) × (probe from slots t key (slots - 1) (key % slots) ≡ probe from slots t key left i)

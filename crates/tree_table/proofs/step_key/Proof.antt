@@ -4,8 +4,6 @@ use mathlib.Core.Path.{refl}
 use borrow.Author.Needs.{needs}
 use Rattle.tree_table.proofs.step_key.Statement.{statement}
 use Rattle.tree_table.proofs.step_key.Tie as tie
-use Rattle.tree_table.proofs.step_key.Reads as reads
-use Rattle.tree_table.proofs.step_key.Lts as lts
 
 mul-y : tie.Need-mul-y
 mul-y c = search needs

@@ -7,10 +7,6 @@ use Prim.Native.Nat.{_≤_}
 use mathlib.Core.Path.{_≡_, refl, sym, _∙_}
 use Rattle.cache_tree.proofs.differ.against.Statement.{statement}
 use Rattle.cache_tree.proofs.differ.against.Tie as tie
-use Rattle.cache_tree.proofs.differ.against.Reads as reads
-use Rattle.cache_tree.proofs.differ.against.Lts as lts
-use Rattle.cache_tree.proofs.differ.is_known.Reads as is-known-reads
-use Rattle.tree_nodes.proofs.passes.after_tree.Reads as after-tree-reads
 
 abbrev Inv-loop : tie.InvT-loop
 Inv-loop d a n b k t y₀ left₀ y left = (y ≤ length d) × (apart (namesOf n (drop a d)) (namesOf k (drop b d)) ≡ apart (namesOf n (drop a d)) (namesOf left (drop y d)))

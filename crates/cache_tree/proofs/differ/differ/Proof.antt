@@ -8,13 +8,6 @@ use Prim.Native.Nat.{_≤_}
 use mathlib.Core.Path.{_≡_, refl, sym, _∙_}
 use Rattle.cache_tree.proofs.differ.differ.Statement.{statement}
 use Rattle.cache_tree.proofs.differ.differ.Tie as tie
-use Rattle.cache_tree.proofs.differ.differ.Reads as reads
-use Rattle.cache_tree.proofs.differ.differ.Lts as lts
-use Rattle.cache_tree.proofs.differ.against.Reads as against-reads
-use Rattle.cache_tree.proofs.differ.chunk_size.Reads as chunk-size-reads
-use Rattle.cache_tree.proofs.differ.fill.Reads as fill-reads
-use Rattle.tree_table.proofs.clear.Reads as clear-reads
-use Rattle.tree_table.proofs.make_seed.Reads as make-seed-reads
 
 abbrev Inv-loop : tie.InvT-loop
 Inv-loop d a k t₀ x₀ left₀ t x left = (x ≤ length d) × (length t ≡ 4098) × (namesDiffer (namesOf k (drop a d)) ≡ namesDiffer (namesOf left (drop x d)))

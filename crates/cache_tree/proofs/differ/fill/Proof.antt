@@ -8,10 +8,6 @@ use mathlib.Core.Bool.{true}
 use mathlib.Core.Path.{_≡_, refl, sym, _∙_}
 use Rattle.cache_tree.proofs.differ.fill.Statement.{statement}
 use Rattle.cache_tree.proofs.differ.fill.Tie as tie
-use Rattle.cache_tree.proofs.differ.fill.Reads as reads
-use Rattle.cache_tree.proofs.differ.fill.Lts as lts
-use Rattle.cache_tree.proofs.differ.put.Reads as put-reads
-use Rattle.tree_nodes.proofs.passes.after_tree.Reads as after-tree-reads
 
 abbrev Inv-loop : tie.InvT-loop
 Inv-loop d a k t₀ y₀ n₀ t y n =

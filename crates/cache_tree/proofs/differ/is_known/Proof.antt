@@ -3,11 +3,6 @@ use mathlib.Core.Path.{sym}
 use borrow.Author.Needs.{needs}
 use Rattle.cache_tree.proofs.differ.is_known.Statement.{statement}
 use Rattle.cache_tree.proofs.differ.is_known.Tie as tie
-use Rattle.cache_tree.proofs.differ.is_known.Reads as reads
-use Rattle.cache_tree.proofs.differ.is_known.Lts as lts
-use Rattle.cache_tree.proofs.differ.has_name.Reads as has-name-reads
-use Rattle.cache_tree.proofs.differ.key_at.Reads as key-at-reads
-use Rattle.tree_table.proofs.slot_of.Reads as slot-of-reads
 
 key-at-requires : tie.Need-key-at-requires
 key-at-requires c κs = search needs

@@ -4,10 +4,6 @@ use mathlib.Core.Path.{ap, _∙_}
 use borrow.Author.Needs.{needs}
 use Rattle.cache_tree.proofs.differ.key_at.Statement.{statement}
 use Rattle.cache_tree.proofs.differ.key_at.Tie as tie
-use Rattle.cache_tree.proofs.differ.key_at.Reads as reads
-use Rattle.cache_tree.proofs.differ.key_at.Lts as lts
-use Rattle.fields.proofs.find.Reads as find-reads
-use Rattle.tree_table.proofs.key_of.Reads as key-of-reads
 
 find-requires : tie.Need-find-requires
 find-requires c κs = search needs

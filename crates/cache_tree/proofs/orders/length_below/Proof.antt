@@ -4,8 +4,6 @@ use mathlib.Core.Path.{sym}
 use borrow.Author.Needs.{needs}
 use Rattle.cache_tree.proofs.orders.length_below.Statement.{statement}
 use Rattle.cache_tree.proofs.orders.length_below.Tie as tie
-use Rattle.cache_tree.proofs.orders.length_below.Reads as reads
-use Rattle.cache_tree.proofs.orders.length_below.Lts as lts
 
 returns : tie.Need-returns
 returns c = sym (length-less _ _ (c .if1 .taken))

@@ -5,12 +5,6 @@ use mathlib.Core.Path.{ap₂, _∙_}
 use borrow.Author.Needs.{needs}
 use Rattle.cache_tree.proofs.orders.rise.Statement.{statement}
 use Rattle.cache_tree.proofs.orders.rise.Tie as tie
-use Rattle.cache_tree.proofs.orders.rise.Reads as reads
-use Rattle.cache_tree.proofs.orders.rise.Lts as lts
-use Rattle.cache_tree.proofs.orders.length_below.Reads as length-below-reads
-use Rattle.cache_tree.proofs.orders.slash_below.Reads as slash-below-reads
-use Rattle.fields.proofs.common.Reads as common-reads
-use Rattle.fields.proofs.find.Reads as find-reads
 
 returns : tie.Need-returns
 returns c = (still-same false _ _ _ _ (c .if1 .taken), still-same true _ _ _ _ (c .if1 .taken))

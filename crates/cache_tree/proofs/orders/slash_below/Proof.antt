@@ -3,8 +3,6 @@ use mathlib.Core.Path.{sym}
 use borrow.Author.Needs.{needs}
 use Rattle.cache_tree.proofs.orders.slash_below.Statement.{statement}
 use Rattle.cache_tree.proofs.orders.slash_below.Tie as tie
-use Rattle.cache_tree.proofs.orders.slash_below.Reads as reads
-use Rattle.cache_tree.proofs.orders.slash_below.Lts as lts
 
 returns : tie.Need-returns
 returns c = let p = c .before .before .pre in sym (slash-same _ _ _ (p .0) (c .before .if1 .taken) (c .if2 .taken))
