@@ -151,7 +151,8 @@ fn add_tree(
     }
     let undo = found.undo;
     let from = at + 8;
-    let read = cache_tree::read_tree(&b[from..end], &mut *work, seed);
+    let mut table = [0u32; 4098];
+    let read = cache_tree::read_tree(&b[from..end], &mut table);
     match read {
         TreeRead::Bad => One::Bad(15),
         TreeRead::Good(nodes) => {

@@ -40,11 +40,6 @@ unfoldable pub namesDiffer : List (List ℕ) → Bool
 namesDiffer [] = true
 namesDiffer (x ∷ l) = cond (hasName x l) false (namesDiffer l)
 
--- whether in each of n nodes, one after another, the subtrees differ in name
-unfoldable pub allDiffer : ℕ → List ℕ → Bool
-allDiffer zero s = true
-allDiffer (suc n) s = onNode (readNode 20 0 s) true (λ subtrees m. cond (namesDiffer (namesOf subtrees (drop m s))) (allDiffer n (drop m s)) false)
-
 -- ---- siblings that were read
 
 -- Reads s f k m: the first m bytes of s are the k siblings of f, each followed by all below it

@@ -1,0 +1,23 @@
+use native.Mathlib.Omega.{arith}
+use Rattle.tree_table.specs.Keys.{nextSlot}
+use borrow.Author.Tests.{eq-eqb, ne-eqb}
+use borrow.Author.Needs.{needs}
+use Rattle.tree_table.proofs.next_slot.Statement.{statement}
+use Rattle.tree_table.proofs.next_slot.Tie as tie
+
+add-if1 : tie.Need-add-if1
+add-if1 c = search needs
+
+returns : tie.Need-returns
+unfolding nextSlot
+returns c = (rw (eq-eqb _ _ (c .if1 .taken)), omega arith)
+
+add-result : tie.Need-add-result
+add-result c = search needs
+
+returns-2 : tie.Need-returns-2
+unfolding nextSlot
+returns-2 c = (rw (ne-eqb _ _ (c .if1 .left)), omega arith)
+
+pub next-slot-spec : {M : Type 1} → statement M
+next-slot-spec = tie.close (tie.spec add-if1 returns add-result returns-2)

@@ -1,0 +1,41 @@
+-- Keys of names, and the slots that they stand in. t is a table.
+use mathlib.Core.List.{List, [], _∷_}
+use mathlib.Core.Bool.{cond}
+use Prim.Native.Nat.{ℕ, zero, suc, _+_, _*_, _-_, _/_, _%_}
+use lib.ListN.{getD}
+use lib.Dec.{eqb}
+
+-- a number with the same rest by 2 ^ 31 - 1, a prime
+unfoldable pub fold : ℕ → ℕ
+fold y = y % 2147483648 + y / 2147483648
+
+-- one more digit
+unfoldable pub stepKey : ℕ → ℕ → ℕ → ℕ
+stepKey m h x = fold (h * m + x + 1)
+
+unfoldable pub lastKey : ℕ → ℕ → ℕ
+lastKey h n = stepKey (h % 2147483648) (h % 2147483648) n
+
+-- the key of a name, two bytes at a time; m and n take turns
+unfoldable pub keyFrom : ℕ → ℕ → ℕ → List ℕ → ℕ
+keyFrom m n h [] = lastKey h n
+keyFrom m n h (x ∷ []) = lastKey (stepKey m h (x + 65536)) n
+keyFrom m n h (x ∷ y ∷ s) = keyFrom n m (stepKey m h (x + y * 256)) s
+
+-- the key of a name by the seed of a table
+unfoldable pub keyIn : List ℕ → List ℕ → ℕ
+keyIn t s = keyFrom (getD t 4096 0 % 1073741824) (getD t 4097 0 % 1073741824) 0 s
+
+-- ---- the slot of a key among so many from a place on
+
+-- the slot after another; the first one after the last
+unfoldable pub nextSlot : ℕ → ℕ → ℕ
+nextSlot slots i = cond (eqb (i + 1) slots) 0 (i + 1)
+
+-- the first of n slots from i on that has the key or is empty, else the one after them
+unfoldable pub probe : ℕ → ℕ → List ℕ → ℕ → ℕ → ℕ → ℕ
+probe from slots t key zero i = i
+probe from slots t key (suc n) i = cond (eqb (getD t (from + i) 0) key) i (cond (eqb (getD t (from + i) 0) 0) i (probe from slots t key n (nextSlot slots i)))
+
+unfoldable pub slotIn : ℕ → ℕ → List ℕ → ℕ → ℕ
+slotIn from slots t key = from + probe from slots t key (slots - 1) (key % slots)
