@@ -1,8 +1,6 @@
 -- Laws that the functions' proofs cite.
 pub mod Components
-pub mod Loops
 pub mod Nodes
 pub mod Parts
 pub mod Steps
 pub mod Surveys
-pub mod Wholes
