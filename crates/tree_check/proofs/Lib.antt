@@ -8,3 +8,4 @@ pub mod Steps
 pub mod Surveys
 pub mod Turns
 pub mod Walks
+pub mod Wholes

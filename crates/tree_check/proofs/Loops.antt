@@ -89,6 +89,9 @@ module _ (d b work₀ : List ℕ) (above : List Directory) (work : List ℕ) (le
     same-ahead : under .ahead ≡ s .ahead
     same-ahead = ap (λ (y : Directory). y .ahead) (part .is)
 
+    pub less-entered : turns (s .ahead) (under .ahead) (level + 1) < turns (s .ahead) (dir .ahead) level
+    less-entered = rw same-ahead (turns-entered (s .ahead) (dir .ahead) level more)
+
     held-entered : (j : ℕ) → j < level + 1 → Held d (s .ahead) (under .ahead) (getD (set above level (atSibling dir place left)) j nowhere)
     held-entered j l =
         by-test (eqb j level)
@@ -117,13 +120,13 @@ module _ (d b work₀ : List ℕ) (above : List Directory) (work : List ℕ) (le
           most = omega (arith, same-ahead);
           fresh = λ e. (ready .some, part .look .within);
           held = held-entered;
-          sum = rw same-ahead (omega (arith, h .sum, turns-entered (s .ahead) (dir .ahead) level more));
+          sum = omega (arith, h .sum, less-entered);
           long = ap length (part .same) ∙ h .long;
           past = ap (λ (l : List ℕ). drop 8192 l) (part .same) ∙ h .past;
         }
 
   module _ (off : inDirectory dir s ≡ false) where
-    pub entered-before : s .ahead < dir .ahead
+    entered-before : s .ahead < dir .ahead
     entered-before =
         by-test (eqb (s .ahead) (dir .ahead))
         (λ e. false-true (sym off ∙ ap (λ (t : Bool). t || (ltb 0 (s .ahead) && leb (dir .q) (s .common))) e))
@@ -131,6 +134,9 @@ module _ (d b work₀ : List ℕ) (above : List Directory) (work : List ℕ) (le
 
     pub above-before : 0 < level → s .ahead < getD above (level - 1) nowhere .ahead
     above-before some = h .held (level - 1) (omega arith) .less entered-before
+
+    pub less-left : 0 < level → turns (s .ahead) (getD above (level - 1) nowhere .ahead) (level - 1) < turns (s .ahead) (dir .ahead) level
+    less-left some = turns-left (s .ahead) (dir .ahead) (getD above (level - 1) nowhere .ahead) level entered-before (above-before some) some
 
     pub loop-left : 0 < level → (n : ℕ) → n ≤ 1 → Looping d b work₀ above work (level - 1) (getD above (level - 1) nowhere) s (found + n)
     loop-left some n one = record {
@@ -146,7 +152,7 @@ module _ (d b work₀ : List ℕ) (above : List Directory) (work : List ℕ) (le
       held = λ j l.
           let up = h .held j (omega arith) in
           record { placed = up .placed; most = up .most; less = λ e. up .less entered-before };
-      sum = omega (arith, h .sum, turns-left (s .ahead) (dir .ahead) (getD above (level - 1) nowhere .ahead) level entered-before (above-before some) some);
+      sum = omega (arith, h .sum, less-left some);
       long = h .long;
       past = h .past;
     }
