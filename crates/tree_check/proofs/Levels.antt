@@ -1,19 +1,19 @@
 -- The directories that the walk is in, one for each level: what was passed in each, and the sums up to there.
-use mathlib.Core.Path.{_≡_, refl, sym, ap, subst, _∙_}
+use mathlib.Core.Path.{_≡_, sym, ap, subst, _∙_}
 use mathlib.Core.List.{List, [], _∷_}
 use mathlib.Core.Bool.{Bool, true, false, cond, _&&_, and-assoc}
 use mathlib.Core.Option.{some}
-use Prim.Native.Nat.{ℕ, zero, suc, _+_, _-_, _≤_, _<_}
+use Prim.Native.Nat.{ℕ, suc, _+_, _-_, _≤_}
 use native.Mathlib.Omega.{arith}
 use lib.ListN.{length, drop, getD, set}
-use lib.Seq.{getD-set-same, getD-set-other}
+use lib.Seq.{getD-set-other}
 use lib.Dec.{eqb, leb}
 use Rattle.format.specs.Bytes.{eqList, lacks}
-use Rattle.format.specs.Records.{Forest, nil, Tree}
-use Rattle.format.specs.Layout.{bit, under, isValid, distinct}
+use Rattle.format.specs.Records.{Forest, Tree}
+use Rattle.format.specs.Layout.{bit, under, isValid}
 use Rattle.format_laws.proofs.Tests.{by-test}
 use Rattle.format_laws.proofs.Readings.{none-some}
-use Rattle.tree_nodes.specs.Flat.{Reads, reads-none}
+use Rattle.tree_nodes.specs.Flat.{Reads}
 use Rattle.tree_nodes.proofs.Flat.{Levels, levels-none, levels-more}
 use Rattle.tree_counts.specs.Judge.{says, weight, child, judge, matched, Sound}
 use Rattle.tree_counts.specs.Runs.{Passed}

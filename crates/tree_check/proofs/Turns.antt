@@ -1,6 +1,6 @@
 -- How many turns of its loop the walk can still take: entries are ahead, a directory was entered with so many ahead, and it is on a level.
 use mathlib.Core.Path.{_≡_, refl}
-use mathlib.Core.Bool.{cond, true, false}
+use mathlib.Core.Bool.{cond}
 use Prim.Native.Nat.{ℕ, _+_, _-_, _*_, _≤_, _<_}
 use native.Mathlib.Omega.{arith}
 use lib.Dec.{eqb}

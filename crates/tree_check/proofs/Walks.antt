@@ -1,7 +1,7 @@
 -- The walk over all entries: what a turn of its loop does to the directories that it is in.
 use mathlib.Core.Path.{_≡_, refl, sym, ap, ap₂, subst, _∙_}
 use mathlib.Core.List.{List, [], _∷_}
-use mathlib.Core.Bool.{Bool, true, false, cond, _&&_, _||_, and-true, and-assoc, and-comm}
+use mathlib.Core.Bool.{Bool, true, false, cond, _&&_, _||_, and-true, and-comm}
 use Prim.Native.Nat.{ℕ, zero, suc, _+_, _-_, _≤_, _<_}
 use native.Mathlib.Omega.{arith}
 use lib.ListN.{length, drop, getD, set}
@@ -36,7 +36,7 @@ use Rattle.tree_check.specs.Steps.{entered, atSibling, PartPassed, PartE
 use Rattle.tree_check.proofs.Nodes.{node-says, node-weighs}
 use Rattle.tree_check.proofs.Parts.{looked, part-lacks, part-under, part-length}
 use Rattle.tree_check.proofs.Steps.{part-in, moved-found}
-use Rattle.tree_check.proofs.Levels.{child-levels, Here, Entrance, nowhere, Walking, at-root, below, here-of, walking-moved, walking-at, walking-held}
+use Rattle.tree_check.proofs.Levels.{child-levels, Here, nowhere, Walking, at-root, below, here-of, walking-moved, walking-at, walking-held}
 
 -- ---- how many names are ahead
 

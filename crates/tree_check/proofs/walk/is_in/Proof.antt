@@ -1,28 +1,21 @@
+-- The proof that `is_in` meets its contract.
 use borrow.Author.Needs.{needs}
 use borrow.Author.Tests.{eq-eqb, ne-eqb}
 use Rattle.tree_check.proofs.walk.is_in.Statement.{statement}
 use Rattle.tree_check.proofs.walk.is_in.Tie as tie
-use Rattle.tree_check.proofs.walk.is_in.Reads as reads
-use Rattle.tree_check.proofs.walk.is_in.Lts as lts
-use Rattle.entries_directory.proofs.stays.Reads as stays-reads
 
--- src/walk.rt:90:19
 cast-if1 : tie.Need-cast-if1
 cast-if1 c = search needs
 
--- src/walk.rt:91:9
 returns : tie.Need-returns
 returns c = rw (eq-eqb _ _ (c .if1 .taken))
 
--- src/walk.rt:93:14
 cast-stays : tie.Need-cast-stays
 cast-stays c = search needs
 
--- src/walk.rt:93:5
 stays-requires : tie.Need-stays-requires
 stays-requires c κs = search needs
 
--- src/walk.rt:87:1
 returns-2 : tie.Need-returns-2
 returns-2 c = rw (ne-eqb _ _ (c .before .before .if1 .left)) (c .stays .ensures)
 

@@ -6,68 +6,46 @@ use Rattle.tree_check.proofs.Parts.{part-files, part-missing, part-lost
 use borrow.Author.Needs.{needs}
 use Rattle.tree_check.proofs.walk.take_part.Statement.{statement}
 use Rattle.tree_check.proofs.walk.take_part.Tie as tie
-use Rattle.tree_check.proofs.walk.take_part.Reads as reads
-use Rattle.tree_check.proofs.walk.take_part.Lts as lts
-use Rattle.entries_directory.proofs.pass.Reads as pass-reads
-use Rattle.entries_directory.proofs.pass_files.Reads as pass-files-reads
-use Rattle.tree_check.proofs.look.look_up.Reads as look-up-reads
-use Rattle.tree_check.proofs.walk.ended.Reads as ended-reads
-use Rattle.tree_check.proofs.walk.enter.Reads as enter-reads
-use Rattle.tree_nodes.proofs.node.read_node.Reads as read-node-reads
 
--- src/walk.rt:123:13
 cast-q : tie.Need-cast-q
 cast-q c = search needs
 
--- src/walk.rt:126:9
 cast-look-up : tie.Need-cast-look-up
 cast-look-up c = search needs
 
--- src/walk.rt:128:9
 cast-look-up-2 : tie.Need-cast-look-up-2
 cast-look-up-2 c = search needs
 
--- src/walk.rt:124:9
 look-up-requires : tie.Need-look-up-requires
 look-up-requires c κs = search needs
 
--- src/walk.rt:140:41
 enum-told : tie.Need-enum-told
 enum-told c = search needs
 
--- src/walk.rt:140:17
 pass-files-requires : tie.Need-pass-files-requires
 pass-files-requires c κs = search needs
 
--- src/walk.rt:144:23
 enum-known-look : tie.Need-enum-known-look
 enum-known-look c = search needs
 
--- src/walk.rt:145:17
 pass-requires : tie.Need-pass-requires
 pass-requires c κs = search needs
 
--- src/walk.rt:149:21
 enum-known-look-2 : tie.Need-enum-known-look-2
 enum-known-look-2 c = search needs
 
--- src/walk.rt:150:17
 read-node-requires : tie.Need-read-node-requires
 read-node-requires c κs = let look = rw (c .before .look2 .given .1) at (c .before .before .before .look-up .ensures) in look .0 .most
 
--- src/walk.rt:152:54
 enum-told-2 : tie.Need-enum-told-2
 enum-told-2 c = search needs
 
--- src/walk.rt:152:54
 ended-requires : tie.Need-ended-requires
 ended-requires c κs = search needs
 
--- src/walk.rt:153:32
 enum-known-read : tie.Need-enum-known-read
 enum-known-read c = search needs
 
--- src/walk.rt:153:55
 enter-requires : tie.Need-enter-requires
 enter-requires c κs =
     let st = c .before .before .before .before .before .before .before .before .before .before .before .before .before .before .before .before .before in
@@ -75,47 +53,38 @@ enter-requires c κs =
     let is = node-is _ _ (look .0 .most) _ (sym (c .before .read .given .1) ∙ c .before .before .before .read-node .ensures) in
     (omega (arith, is .within, st .pre .0 .small), omega (arith, look .0 .within, st .pre .0 .fits .inside .short), st .pre .0 .few)
 
--- src/walk.rt:153:74
 cast-t36 : tie.Need-cast-t36
 cast-t36 c =
     let look = rw (c .before .before .before .before .before .before .look2 .given .1) at (c .before .before .before .before .before .before .before .before .look-up .ensures) in
     omega (arith, look .0 .most, c .before .before .before .before .before .before .before .before .before .before .before .before .before .before .before .before .before .before .pre .0 .small)
 
--- src/walk.rt:110:1
 same-length : tie.Need-same-length
 same-length c = search needs
 
--- src/walk.rt:110:1
 returns : tie.Need-returns
 returns c =
     let look = rw (c .before .before .before .before .before .enum-told .given .1) at (c .before .before .before .before .before .before .before .look-up .ensures) in
     (record { is = part-files _ _ _ _ _ _ _ (c .before .before .before .before .before .before .before .before .before .before .before .before .before .before .before .before .before .pre .0) (look .0) _ (c .before .before .before .pass-files .ensures) }, look .1, look .2)
 
--- src/walk.rt:110:1
 same-length-2 : tie.Need-same-length-2
 same-length-2 c = search needs
 
--- src/walk.rt:110:1
 returns-2 : tie.Need-returns-2
 returns-2 c =
     let look = rw (c .before .before .before .before .before .before .before .look .given .1) at (c .before .before .before .before .before .before .before .before .before .look-up .ensures) in
     (record { is = part-missing _ _ _ _ _ _ _ (c .before .before .before .before .before .before .before .before .before .before .before .before .before .before .before .before .before .before .before .pre .0) _ (look .0) _ (c .before .before .before .before .pass .ensures) }, look .1, look .2)
 
--- src/walk.rt:110:1
 same-length-3 : tie.Need-same-length-3
 same-length-3 c = search needs
 
--- src/walk.rt:110:1
 returns-3 : tie.Need-returns-3
 returns-3 c =
     let look = rw (c .before .before .before .before .before .look2 .given .1) at (c .before .before .before .before .before .before .before .look-up .ensures) in
     (record { is = rw (c .ended .ensures) (part-lost _ _ _ _ _ _ (c .before .before .before .before .before .before .before .before .before .before .before .before .before .before .before .before .before .args .work .now) (c .before .before .before .before .before .before .before .before .before .before .before .before .before .before .before .before .before .pre .0) _ _ _ (look .0) (sym (c .before .enum-told2 .given .1) ∙ c .before .before .before .read-node .ensures)) }, look .1, look .2)
 
--- src/walk.rt:110:1
 same-length-4 : tie.Need-same-length-4
 same-length-4 c = search needs
 
--- src/walk.rt:110:1
 returns-4 : tie.Need-returns-4
 returns-4 c =
     let look = rw (c .before .before .before .before .before .before .look2 .given .1) at (c .before .before .before .before .before .before .before .before .look-up .ensures) in

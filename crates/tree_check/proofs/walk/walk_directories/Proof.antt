@@ -17,13 +17,6 @@ use Rattle.tree_check.proofs.Loops.{Looping, loop-start, loop-ready, lo
 use borrow.Author.Needs.{needs}
 use Rattle.tree_check.proofs.walk.walk_directories.Statement.{statement}
 use Rattle.tree_check.proofs.walk.walk_directories.Tie as tie
-use Rattle.tree_check.proofs.walk.walk_directories.Reads as reads
-use Rattle.tree_check.proofs.walk.walk_directories.Lts as lts
-use Rattle.tree_check.proofs.survey.weight.Reads as weight-reads
-use Rattle.tree_check.proofs.walk.agrees.Reads as agrees-reads
-use Rattle.tree_check.proofs.walk.at_sibling.Reads as at-sibling-reads
-use Rattle.tree_check.proofs.walk.is_in.Reads as is-in-reads
-use Rattle.tree_check.proofs.walk.take_part.Reads as take-part-reads
 
 abbrev Inv-loop : tie.InvT-loop
 Inv-loop d expected b v work₀ near₀ far₀ above₀ level₀ dir₀ front₀ ok₀ found₀ work near far above level dir front ok found =
