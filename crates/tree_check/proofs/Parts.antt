@@ -17,7 +17,6 @@ use Rattle.tree_counts.specs.Judge.{Sound}
 use Rattle.entries_directory.specs.Names.{enter}
 use Rattle.entries_directory.proofs.Directory.{component-lacks, component-under}
 use Rattle.entries_directory.specs.declared.Front.{Front}
-use Rattle.entries_directory.specs.declared.Passage.{Passage}
 use Rattle.tree_check.specs.declared.look.Look.{Look}
 use Rattle.tree_check.specs.declared.look.Look.the-variants as L
 use Rattle.tree_check.specs.declared.walk.Directory.{Directory}
@@ -54,29 +53,29 @@ module _ (d : List ℕ) (dir : Directory) (b : List ℕ) (v : ℕ) (work : List 
 
   module _ (work′ : List ℕ) (ready : Ready d dir b work s) where
     pub part-files : LookedUp d (dir .at) (dir .k) (dir .place) (dir .left) (nameAt v b work (s .cursor .start) (s .cursor .len)) (s .cursor .len) (dir .q) L.File
-        → (g : Passage) → WentFiles v b work s (dir .q) work′ g → PartPassed d dir b v work s work′ true (g .front)
-    part-files look g went = record {
+        → (r : Front) → WentFiles v b work s (dir .q) work′ r → PartPassed d dir b v work s work′ true r
+    part-files look r went = record {
       fits = went .gone .fits;
-      less = omega (arith, went .gone .fewer, went .gone .some);
+      less = went .gone .less;
       long = went .gone .long;
       past = went .gone .past;
       moved = λ f m sound reads last p x xs ahead i e whole done passed.
           let file : File p x = record { in-it = i; alone = looked L.File look f m sound reads last p x xs ahead e } in
-          moved-files (dir .valid) f p whole done (x ∷ xs) passed v b work′ (g .front) (g .count) (went .passed p x xs ahead file e);
+          moved-files (dir .valid) f p whole done (x ∷ xs) passed v b work′ r (went .passed p x xs ahead file e);
     }
 
     pub part-missing : (e : ℕ) → LookedUp d (dir .at) (dir .k) (dir .place) (dir .left) (nameAt v b work (s .cursor .start) (s .cursor .len)) (s .cursor .len) (dir .q) (L.Missing e)
-        → (g : Passage) → Went v b work s e work′ g → PartPassed d dir b v work s work′ (not (dir .valid)) (g .front)
-    part-missing e look g went = record {
+        → (r : Front) → Went v b work s e work′ r → PartPassed d dir b v work s work′ (not (dir .valid)) r
+    part-missing e look r went = record {
       fits = went .gone .fits;
-      less = omega (arith, went .gone .fewer, went .gone .some);
+      less = went .gone .less;
       long = went .gone .long;
       past = went .gone .past;
       moved = λ f m sound reads last p x xs ahead i l whole done passed.
           let (is, absent) = looked (L.Missing e) look f m sound reads last p x xs ahead l in
           let c = component (drop (length p) x) in
-          let (count, left) = went .passed (enter p c) x xs ahead (part-in p c x i (part-under p x e is)) (part-length p x e is) in
-          moved-missing (dir .valid) f p x xs whole done v b work′ (g .front) i passed sound c (part-lacks p x e is) (part-under p x e is) left absent;
+          let left = went .passed (enter p c) x xs ahead (part-in p c x i (part-under p x e is)) (part-length p x e is) in
+          moved-missing (dir .valid) f p x xs whole done v b work′ r i passed sound c (part-lacks p x e is) (part-under p x e is) left absent;
     }
 
     -- a node is there

@@ -74,10 +74,10 @@ record Filed (valid : Bool) (f : Forest) (q : List ℕ) (whole done : List (List
   sum : matched now-done f ≡ matched done f
 
 module _ (valid : Bool) (f : Forest) (q : List ℕ) (whole done ss : List (List ℕ)) (h : Passed f q whole done ss) where
-  files-passed : (n : ℕ) (rest : List (List ℕ)) → Files q ss n rest → Filed valid f q whole done rest
-  files-passed _ _ files-none = record { now-done = done; passed = h; judged = refl; sum = refl }
-  files-passed _ _ (files-more {x = x} {xs = xs} before file) =
-      let i = files-passed _ _ before in
+  files-passed : (rest : List (List ℕ)) → Files q ss rest → Filed valid f q whole done rest
+  files-passed _ files-none = record { now-done = done; passed = h; judged = refl; sum = refl }
+  files-passed _ (files-more {x = x} {xs = xs} before file) =
+      let i = files-passed _ before in
       record {
         now-done = i .now-done ++ (drop (length q) x ∷ []);
         passed = passed-name f q whole (i .now-done) x xs (file .in-it) (file-unreached _ f (file .alone)) (i .passed);
@@ -85,9 +85,9 @@ module _ (valid : Bool) (f : Forest) (q : List ℕ) (whole done ss : List (List 
         sum = matched-file (i .now-done) _ f (file .alone) ∙ i .sum;
       }
 
-  pub moved-files : (v : ℕ) (b work : List ℕ) (front : Front) (n : ℕ) → FilesLeft v b work front q ss n → Moved valid f q whole done v b work true 0 front
-  moved-files v b work front n left =
-      let i = files-passed _ _ (left .files) in
+  pub moved-files : (v : ℕ) (b work : List ℕ) (front : Front) → FilesLeft v b work front q ss → Moved valid f q whole done v b work true 0 front
+  moved-files v b work front left =
+      let i = files-passed _ (left .files) in
       record {
         now-done = i .now-done;
         rest = left .rest;

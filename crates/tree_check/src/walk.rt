@@ -136,16 +136,8 @@ fn take_part(
         far,
     );
     match look {
-        Look::File => {
-            let gone = pass_files(b, v, work, s, q);
-            let next = gone.front;
-            Part::Passed(true, next)
-        }
-        Look::Missing(e) => {
-            let gone = pass(b, v, work, s, e);
-            let next = gone.front;
-            Part::Passed(!dir.valid, next)
-        }
+        Look::File => Part::Passed(true, pass_files(b, v, work, s, q)),
+        Look::Missing(e) => Part::Passed(!dir.valid, pass(b, v, work, s, e)),
         Look::Found(e, p, l) => {
             let read = read_node(d, p);
             match read {

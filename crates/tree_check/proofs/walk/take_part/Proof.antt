@@ -53,8 +53,8 @@ enter-requires c κs =
     let is = node-is _ _ (look .0 .most) _ (sym (c .before .read .given .1) ∙ c .before .before .before .read-node .ensures) in
     (omega (arith, is .within, st .pre .0 .small), omega (arith, look .0 .within, st .pre .0 .fits .inside .short), st .pre .0 .few)
 
-cast-t36 : tie.Need-cast-t36
-cast-t36 c =
+cast-t34 : tie.Need-cast-t34
+cast-t34 c =
     let look = rw (c .before .before .before .before .before .before .look2 .given .1) at (c .before .before .before .before .before .before .before .before .look-up .ensures) in
     omega (arith, look .0 .most, c .before .before .before .before .before .before .before .before .before .before .before .before .before .before .before .before .before .before .pre .0 .small)
 
@@ -63,16 +63,16 @@ same-length c = search needs
 
 returns : tie.Need-returns
 returns c =
-    let look = rw (c .before .before .before .before .before .enum-told .given .1) at (c .before .before .before .before .before .before .before .look-up .ensures) in
-    (record { is = part-files _ _ _ _ _ _ _ (c .before .before .before .before .before .before .before .before .before .before .before .before .before .before .before .before .before .pre .0) (look .0) _ (c .before .before .before .pass-files .ensures) }, look .1, look .2)
+    let look = rw (c .before .before .before .before .enum-told .given .1) at (c .before .before .before .before .before .before .look-up .ensures) in
+    (record { is = part-files _ _ _ _ _ _ _ (c .before .before .before .before .before .before .before .before .before .before .before .before .before .before .before .before .pre .0) (look .0) _ (c .before .before .pass-files .ensures) }, look .1, look .2)
 
 same-length-2 : tie.Need-same-length-2
 same-length-2 c = search needs
 
 returns-2 : tie.Need-returns-2
 returns-2 c =
-    let look = rw (c .before .before .before .before .before .before .before .look .given .1) at (c .before .before .before .before .before .before .before .before .before .look-up .ensures) in
-    (record { is = part-missing _ _ _ _ _ _ _ (c .before .before .before .before .before .before .before .before .before .before .before .before .before .before .before .before .before .before .before .pre .0) _ (look .0) _ (c .before .before .before .before .pass .ensures) }, look .1, look .2)
+    let look = rw (c .before .before .before .before .before .before .look .given .1) at (c .before .before .before .before .before .before .before .before .look-up .ensures) in
+    (record { is = part-missing _ _ _ _ _ _ _ (c .before .before .before .before .before .before .before .before .before .before .before .before .before .before .before .before .before .before .pre .0) _ (look .0) _ (c .before .before .pass .ensures) }, look .1, look .2)
 
 same-length-3 : tie.Need-same-length-3
 same-length-3 c = search needs
@@ -108,7 +108,7 @@ take-part-spec =
     ended-requires
     enum-known-read
     enter-requires
-    cast-t36
+    cast-t34
     same-length
     returns
     same-length-2
