@@ -19,10 +19,10 @@ use Rattle.entries_run.specs.declared.Step.{Step}
 use Rattle.entries_run.specs.declared.Next.the-variants as N
 use Rattle.entries_run.specs.Steps.{nameAt, Passed, runFrom}
 use Rattle.entries_run.proofs.Steps.{entries-bad, entries-good, entries-again, run-none}
-use Rattle.entries_directory.specs.Names.{notAbove, sortedFrom, begins, leads, beyond, within}
+use Rattle.entries_directory.specs.Names.{notAbove, sortedFrom, begins, leads, beyond}
 use Rattle.entries_directory.proofs.Order.{begins-common}
 use Rattle.entries_directory.proofs.Directory.{begins-split}
-use Rattle.entries_directory.proofs.Runs.{within-end, within-step, beyond-step, beyond-end}
+use Rattle.entries_directory.proofs.Runs.{beyond-step, beyond-end}
 use Rattle.entries_directory.specs.declared.Front.{Front}
 use Rattle.entries_directory.specs.Ahead.{Fits, Ahead, After, after-none, after-some, Advanced, Left, Gone, File, MoreFiles, Files, files-none, files-more, FilesLeft}
 
@@ -94,29 +94,25 @@ stays-in v b work s last q _ (after-some {x} {xs} h c) i e f =
 -- ---- past one name or more
 
 -- the loop of a walk: work₀ and s₀ are what it starts from, past the first name
-pub record Going (b work₀ : List ℕ) (s₀ : Front) (work : List ℕ) (s : Front) (count : ℕ) : Type 0 where
+pub record Going (b work₀ : List ℕ) (s₀ : Front) (work : List ℕ) (s : Front) : Type 0 where
   pub fits : Fits b s
-  pub fewer : count + s .ahead ≤ 1 + s₀ .ahead
-  pub few : s₀ .ahead ≤ 4294967296
-  pub some : 1 ≤ count
+  pub fewer : s .ahead ≤ s₀ .ahead
   pub room : 8192 ≤ length work
   pub long : length work ≡ length work₀
   pub past : drop 8192 work ≡ drop 8192 work₀
 
 module _ (v : ℕ) (b work : List ℕ) (s : Front) (work₀ : List ℕ) (s₀ : Front) (t : Advanced v b work s work₀ s₀) where
-  pub going-start : 8192 ≤ length work → Going b work₀ s₀ work₀ s₀ 1
-  going-start room = record { fits = t .fits; fewer = omega arith; few = t .fits .few; some = omega arith; room = omega (arith, t .long); long = refl; past = refl }
+  pub going-start : 8192 ≤ length work → Going b work₀ s₀ work₀ s₀
+  going-start room = record { fits = t .fits; fewer = omega arith; room = omega (arith, t .long); long = refl; past = refl }
 
-  pub going-end : 1 ≤ s .ahead → (work′ : List ℕ) (s′ : Front) (count : ℕ) → Going b work₀ s₀ work′ s′ count → Gone b work s work′ (record { count = count; front = s′ })
-  going-end some work′ s′ count h = record { fits = h .fits; fewer = omega (arith, t .fewer, h .fewer); some = h .some; long = h .long ∙ t .long; past = h .past ∙ t .past }
+  pub going-end : 1 ≤ s .ahead → (work′ : List ℕ) (s′ : Front) → Going b work₀ s₀ work′ s′ → Gone b work s work′ s′
+  going-end some work′ s′ h = record { fits = h .fits; less = omega (arith, t .fewer, h .fewer); long = h .long ∙ t .long; past = h .past ∙ t .past }
 
-pub going-on : (v : ℕ) (b work₀ : List ℕ) (s₀ : Front) (work : List ℕ) (s : Front) (count : ℕ) (work′ : List ℕ) (s′ : Front)
-    → Going b work₀ s₀ work s count → 1 ≤ s .ahead → Advanced v b work s work′ s′ → Going b work₀ s₀ work′ s′ (count + 1)
-going-on v b work₀ s₀ work s count work′ s′ h some t = record {
+pub going-on : (v : ℕ) (b work₀ : List ℕ) (s₀ : Front) (work : List ℕ) (s : Front) (work′ : List ℕ) (s′ : Front)
+    → Going b work₀ s₀ work s → Advanced v b work s work′ s′ → Going b work₀ s₀ work′ s′
+going-on v b work₀ s₀ work s work′ s′ h t = record {
   fits = t .fits;
   fewer = omega (arith, t .fewer, h .fewer);
-  few = h .few;
-  some = omega arith;
   room = omega (arith, t .long, h .room);
   long = t .long ∙ h .long;
   past = t .past ∙ h .past;
@@ -124,46 +120,32 @@ going-on v b work₀ s₀ work s count work′ s′ h some t = record {
 
 -- ---- past the names in a directory
 
--- of the names xs those in the directory q have been passed in part: so many, with one before them
-pub record Passing (v : ℕ) (b work : List ℕ) (s : Front) (q : List ℕ) (xs : List (List ℕ)) (count : ℕ) : Type 0 where
+-- of the names xs those in the directory q have been passed in part, with one before them
+pub record Passing (v : ℕ) (b work : List ℕ) (s : Front) (q : List ℕ) (xs : List (List ℕ)) : Type 0 where
   pub rest : List (List ℕ)
   pub last : List ℕ
   pub in-it : begins q last ≡ true
   pub after : After v b work s last rest
-  pub counted : count + length (within q rest) ≡ 1 + length (within q xs)
   pub left : beyond (begins q) rest ≡ beyond (begins q) xs
 
 module _ (v : ℕ) (b : List ℕ) (q : List ℕ) (xs : List (List ℕ)) where
-  pub pass-start : (work : List ℕ) (s : Front) (last : List ℕ) → After v b work s last xs → begins q last ≡ true → Passing v b work s q xs 1
-  pass-start work s last h i = record { rest = xs; last = last; in-it = i; after = h; counted = refl; left = refl }
+  pub pass-start : (work : List ℕ) (s : Front) (last : List ℕ) → After v b work s last xs → begins q last ≡ true → Passing v b work s q xs
+  pass-start work s last h i = record { rest = xs; last = last; in-it = i; after = h; left = refl }
 
-  module _ (work : List ℕ) (s : Front) (count : ℕ) (h : Passing v b work s q xs count) where
-    pub pass-on : (work′ : List ℕ) (r : Front) → (ltb 0 (s .ahead) && leb (length q) (s .common)) ≡ true → Advanced v b work s work′ r → Passing v b work′ r q xs (count + 1)
+  module _ (work : List ℕ) (s : Front) (h : Passing v b work s q xs) where
+    pub pass-on : (work′ : List ℕ) (r : Front) → (ltb 0 (s .ahead) && leb (length q) (s .common)) ≡ true → Advanced v b work s work′ r → Passing v b work′ r q xs
     pass-on work′ r e t =
         stays-in v b work s (h .last) q (h .rest) (h .after) (h .in-it) e λ y ys is ahead c i.
-        let n : length (within q (h .rest)) ≡ 1 + length (within q ys) = ap (λ (l : List (List ℕ)). length (within q l)) is ∙ ap length (within-step q y ys i) ∙ omega arith in
-        record {
-          rest = ys;
-          last = y;
-          in-it = i;
-          after = t .after y ys ahead;
-          counted = omega (arith, h .counted);
-          left = sym (beyond-step q y ys i) ∙ ap (beyond (begins q)) (sym is) ∙ h .left;
-        }
+        record { rest = ys; last = y; in-it = i; after = t .after y ys ahead; left = sym (beyond-step q y ys i) ∙ ap (beyond (begins q)) (sym is) ∙ h .left }
 
-    pub pass-end : (x : List ℕ) → begins q x ≡ true → (ltb 0 (s .ahead) && leb (length q) (s .common)) ≡ false
-        → (count ≡ length (within q (x ∷ xs))) × Left v b work s q (x ∷ xs)
+    pub pass-end : (x : List ℕ) → begins q x ≡ true → (ltb 0 (s .ahead) && leb (length q) (s .common)) ≡ false → Left v b work s q (x ∷ xs)
     pass-end x i e =
         let out : leads (begins q) (h .rest) ≡ false = sym (stays-is v b work s (h .last) q (h .rest) (h .after) (h .in-it)) ∙ e in
-        let n : length (within q (h .rest)) ≡ 0 = ap length (within-end q (h .rest) out) in
-        let m : length (within q (x ∷ xs)) ≡ 1 + length (within q xs) = ap length (within-step q x xs i) ∙ omega arith in (
-          omega (arith, h .counted),
-          record {
-            last = h .last;
-            in-it = h .in-it;
-            after = subst (After v b work s (h .last)) (sym (beyond-end (begins q) (h .rest) out) ∙ h .left ∙ sym (beyond-step q x xs i)) (h .after);
-          },
-        )
+        record {
+          last = h .last;
+          in-it = h .in-it;
+          after = subst (After v b work s (h .last)) (sym (beyond-end (begins q) (h .rest) out) ∙ h .left ∙ sym (beyond-step q x xs i)) (h .after);
+        }
 
 -- ---- past the files of a directory
 
@@ -186,12 +168,12 @@ file-after q s t h i l =
     record { in-it = i; alone = lacks-common 47 (drop (length q) s) (drop (length q) t) (h .alone) (ap (lacks 47) (drop-to t (length q) _ _ sum) ∙ l) }
 
 module _ (v : ℕ) (b : List ℕ) (q : List ℕ) where
-  pub files-start : (work : List ℕ) (s : Front) (x : List ℕ) (xs : List (List ℕ)) → After v b work s x xs → File q x → FilesLeft v b work s q (x ∷ xs) 1
+  pub files-start : (work : List ℕ) (s : Front) (x : List ℕ) (xs : List (List ℕ)) → After v b work s x xs → File q x → FilesLeft v b work s q (x ∷ xs)
   files-start work s x xs h i = record { rest = xs; files = files-more files-none i; last = x; is-file = i; after = h }
 
-  pub files-on : (whole : List (List ℕ)) (work : List ℕ) (s : Front) (count : ℕ) → FilesLeft v b work s q whole count → (work′ : List ℕ) (r : Front) → MoreFiles v b work s (length q)
-      → Advanced v b work s work′ r → FilesLeft v b work′ r q whole (count + 1)
-  files-on whole work s count h work′ r m t =
+  pub files-on : (whole : List (List ℕ)) (work : List ℕ) (s : Front) → FilesLeft v b work s q whole → (work′ : List ℕ) (r : Front) → MoreFiles v b work s (length q)
+      → Advanced v b work s work′ r → FilesLeft v b work′ r q whole
+  files-on whole work s h work′ r m t =
       stays-in v b work s (h .last) q (h .rest) (h .after) (h .is-file .in-it) (m .stays) λ y ys is ahead c i.
       let i′ = file-after q (h .last) y (h .is-file) i (rw (← c, ← (ahead .name)) (m .alone)) in
-      record { rest = ys; files = files-more (subst (Files q whole count) is (h .files)) i′; last = y; is-file = i′; after = t .after y ys ahead }
+      record { rest = ys; files = files-more (subst (Files q whole) is (h .files)) i′; last = y; is-file = i′; after = t .after y ys ahead }

@@ -18,12 +18,6 @@ pub struct Front {
     pub common: usize,
 }
 
-// How many entries were passed, and what is ahead of them.
-pub struct Passage {
-    pub count: usize,
-    pub front: Front,
-}
-
 // The next entry. All entries were read before the walk, so that nothing is tested again. One that is not there ends the walk.
 pub fn advance(b: &[u8], v: u32, work: &mut [u8], s: Front) -> Front
     requires { ⌜ Fits (now b) s × (8192 ≤ length (now work)) ⌝ }
@@ -66,20 +60,15 @@ pub fn stays(s: Front, q: usize) -> bool
 }
 
 // Past all entries that begin with the first q bytes of the first one ahead.
-pub fn pass(b: &[u8], v: u32, work: &mut [u8], s: Front, q: usize) -> Passage
+pub fn pass(b: &[u8], v: u32, work: &mut [u8], s: Front, q: usize) -> Front
     requires { ⌜ Fits (now b) s × (8192 ≤ length (now work)) × (1 ≤ s .ahead) ⌝ }
     ensures { λ r. ⌜ Went v (now (b .entry)) (now (work .entry)) s q (now (work .exit)) r ⌝ }
 {
     let mut front = advance(b, v, &mut *work, s);
-    let mut count = 1;
     while stays(front, q) {
         front = advance(b, v, &mut *work, front);
-        count += 1;
     }
-    Passage {
-        count: count,
-        front: front,
-    }
+    front
 }
 
 // Whether the first entry ahead is one more file of the directory whose name is the first q bytes of the entry before it, which is one. What the two
@@ -99,18 +88,13 @@ fn is_file<'a>(b: &'a [u8], v: u32, work: &'a [u8], s: Front, q: usize) -> bool
 }
 
 // Past the files of the directory whose name is the first q bytes of the first one ahead, which is one, up to the first entry that is none.
-pub fn pass_files(b: &[u8], v: u32, work: &mut [u8], s: Front, q: usize) -> Passage
+pub fn pass_files(b: &[u8], v: u32, work: &mut [u8], s: Front, q: usize) -> Front
     requires { ⌜ Fits (now b) s × (8192 ≤ length (now work)) × (1 ≤ s .ahead) ⌝ }
     ensures { λ r. ⌜ WentFiles v (now (b .entry)) (now (work .entry)) s q (now (work .exit)) r ⌝ }
 {
     let mut front = advance(b, v, &mut *work, s);
-    let mut count = 1;
     while is_file(b, v, &work[..], front, q) {
         front = advance(b, v, &mut *work, front);
-        count += 1;
     }
-    Passage {
-        count: count,
-        front: front,
-    }
+    front
 }

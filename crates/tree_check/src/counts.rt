@@ -1,10 +1,10 @@
 // Whether the counts of a cache tree are right: refusal 16.
 use crate::survey::Survey;
 use crate::survey::survey_trees;
-use crate::walk::Tally;
+use crate::walk::Directory;
 use crate::walk::agrees;
-use crate::walk::both;
-use crate::walk::walk_directory;
+use crate::walk::enter;
+use crate::walk::walk_directories;
 use entries_directory::Front;
 use entries_directory::advance;
 use entries_run::first;
@@ -12,42 +12,40 @@ use tree_nodes::node::Node;
 use tree_nodes::node::NodeRead;
 use tree_nodes::node::read_node;
 use tree_search::table::reset;
+ghost use mathlib.Core.Path.{_≡_};
 ghost use Prim.Native.Nat.{_≤_};
 ghost use lib.ListN.{length};
 ghost use Rattle.entries_run.specs.Steps.{Room};
 ghost use Rattle.tree_check.specs.Answers.{RootWalked, CountsTold};
-ghost use Rattle.tree_check.specs.Steps.{Ready, DirectoryWalked};
+ghost use Rattle.tree_check.specs.Steps.{Ready, Walked};
 
 // The walk over all entries, with the tables for it. The seed is any number.
-fn walk_all(d: &[u8], root: Node, b: &[u8], v: u32, work: &mut [u8], s: Front, seed: u64) -> Tally
-    requires { ⌜ Ready (now d) (root .next) (now b) (now work) 0 s ⌝ }
-    ensures { λ r. ⌜ DirectoryWalked (now (d .entry)) (root .next) (root .subtrees) (root .valid) (now (b .entry)) v (now (work .entry)) 0 s (now (work .exit)) r ⌝ }
+fn walk_all(
+    d: &[u8],
+    root: Directory,
+    expected: u32,
+    b: &[u8],
+    v: u32,
+    work: &mut [u8],
+    s: Front,
+    seed: u64,
+) -> bool
+    requires { ⌜ Ready (now d) root (now b) (now work) s × (root .q ≡ 0) × (root .ahead ≡ s .ahead) × (root .left ≡ 0) ⌝ }
+    ensures { λ r. ⌜ Walked (now (d .entry)) root expected (now (b .entry)) v (now (work .entry)) s (now (work .exit)) r ⌝ }
 {
     let mut near = [0u32; 2053];
     let mut far = [0u32; 2053];
     let m = (seed % 4294967296) as u32;
     reset(&mut near, m);
     reset(&mut far, m);
-    walk_directory(
-        d,
-        root.next,
-        root.subtrees,
-        root.valid,
-        b,
-        v,
-        work,
-        0,
-        s,
-        &mut near,
-        &mut far,
-    )
+    walk_directories(d, root, expected, b, v, work, s, &mut near, &mut far)
 }
 
-// What the walk over all entries tests of the root and of what is below it, where met nodes have a count of at least 1.
+// What the walk over all entries tests of the root and of what is below it, where so many nodes below it have a count of at least 1.
 fn walk_root(
     d: &[u8],
     root: Node,
-    met: u32,
+    expected: u32,
     b: &[u8],
     v: u32,
     count: u32,
@@ -55,7 +53,7 @@ fn walk_root(
     seed: u64,
 ) -> bool
     requires { ⌜ (root .next ≤ length (now d)) × (length (now d) ≤ 16777216) × Room (now b) (now work) ⌝ }
-    ensures { λ r. ⌜ RootWalked (now (d .entry)) root met (now (b .entry)) v count (now (work .entry)) (now (work .exit)) r ⌝ }
+    ensures { λ r. ⌜ RootWalked (now (d .entry)) root expected (now (b .entry)) v count (now (work .entry)) (now (work .exit)) r ⌝ }
 {
     let c = first();
     let start = Front {
@@ -64,12 +62,11 @@ fn walk_root(
         common: 0,
     };
     let front = advance(b, v, &mut *work, start);
+    let dir = enter(root, 0, front);
     if front.ahead == 0 {
-        return both(agrees(root.valid, root.count, 0), 0 == met);
+        return agrees(dir, front) & (expected == 0);
     }
-    let t = walk_all(d, root, b, v, work, front, seed);
-    let whole = both(t.ok, t.met == met);
-    both(agrees(root.valid, root.count, t.count), whole)
+    walk_all(d, dir, expected, b, v, work, front, seed)
 }
 
 // Whether the counts of the cache tree d are right for the first count entries of the body b of version v. The seed is any number.
@@ -84,7 +81,7 @@ pub fn counts_ok(d: &[u8], b: &[u8], v: u32, count: u32, work: &mut [u8], seed: 
             let found = survey_trees(d, root.next, root.subtrees, root.valid);
             match found {
                 Survey::Untidy => false,
-                Survey::Tidy(met) => walk_root(d, root, met, b, v, count, work, seed),
+                Survey::Tidy(expected) => walk_root(d, root, expected, b, v, count, work, seed),
             }
         }
     }

@@ -12,8 +12,10 @@ reset-requires c κs = search needs
 reset-requires-2 : tie.Need-reset-requires-2
 reset-requires-2 c κs = search needs
 
-walk-directory-requires : tie.Need-walk-directory-requires
-walk-directory-requires c κs = (c .before .before .before .before .before .before .before .before .before .before .pre, c .before .before .before .before .before .reset .ensures _, c .before .before .before .reset2 .ensures _)
+walk-directories-requires : tie.Need-walk-directories-requires
+walk-directories-requires c κs =
+    let st = c .before .before .before .before .before .before .before .before .before .before in
+    (st .pre .0, c .before .before .before .before .before .reset .ensures _, c .before .before .before .reset2 .ensures _, st .pre .1, st .pre .2, st .pre .3)
 
 same-length : tie.Need-same-length
 same-length c = search needs
@@ -24,4 +26,4 @@ returns c = search needs
 pub walk-all-spec : {M : Type 1} → statement M
 walk-all-spec =
     tie.close
-    (tie.spec cast-m reset-requires reset-requires-2 walk-directory-requires same-length returns)
+    (tie.spec cast-m reset-requires reset-requires-2 walk-directories-requires same-length returns)
