@@ -91,8 +91,8 @@ fn put(d: &[u8], y: usize, a: usize, n: u32, t: &mut Table) -> bool
 
 // The keys of the k names from a on are put in the table, unless two of these names are equal.
 fn fill(d: &[u8], a: usize, k: u32, t: &mut Table) -> Chunk
-    requires { ⌜ (a ≤ length (now d)) × (length (now d) ≤ 16777216) × (length (now t) ≡ 4098) ⌝ }
-    ensures { λ r. ⌜ (length (now (t .exit)) ≡ 4098) × Filled (now (d .entry)) a k (now (t .exit)) r ⌝ }
+    requires { ⌜ (a ≤ length (now d)) × (length (now d) ≤ 16777216) × (length (now t) ≡ 4150) ⌝ }
+    ensures { λ r. ⌜ (length (now (t .exit)) ≡ 4150) × Filled (now (d .entry)) a k (now (t .exit)) r ⌝ }
 {
     let mut y = a;
     let mut n: u32 = 0;
@@ -135,8 +135,8 @@ fn chunk_size(left: u32) -> u32
 
 // Whether the k names from a on differ.
 pub fn differ(d: &[u8], a: usize, k: u32, t: &mut Table) -> bool
-    requires { ⌜ (a ≤ length (now d)) × (length (now d) ≤ 16777216) × (length (now t) ≡ 4098) ⌝ }
-    ensures { λ r. ⌜ (r ≡ namesDiffer (namesOf k (drop a (now (d .entry))))) × (length (now (t .exit)) ≡ 4098) ⌝ }
+    requires { ⌜ (a ≤ length (now d)) × (length (now d) ≤ 16777216) × (length (now t) ≡ 4150) ⌝ }
+    ensures { λ r. ⌜ (r ≡ namesDiffer (namesOf k (drop a (now (d .entry))))) × (length (now (t .exit)) ≡ 4150) ⌝ }
 {
     make_seed(d, t);
     let mut x = a;

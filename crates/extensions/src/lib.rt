@@ -151,7 +151,7 @@ fn add_tree(
     }
     let undo = found.undo;
     let from = at + 8;
-    let mut table = [0u32; 4098];
+    let mut table = [0u32; 4150];
     let read = cache_tree::read_tree(&b[from..end], &mut table);
     match read {
         TreeRead::Bad => One::Bad(15),

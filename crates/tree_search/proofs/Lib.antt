@@ -1,6 +1,4 @@
--- Laws that the functions' proofs cite.
-pub mod Laying
-pub mod Notes
+-- Laws of siblings, of what is told of them, and of the tables and cursors.
 pub mod Siblings
-pub mod Slots
 pub mod Telling
+pub mod Tables

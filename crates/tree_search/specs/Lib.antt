@@ -1,4 +1,3 @@
 -- What the crate's contracts cite.
-pub mod Keys
 pub mod Siblings
 pub mod Table

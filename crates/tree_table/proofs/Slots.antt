@@ -4,12 +4,12 @@ use mathlib.Core.List.{List, [], _∷_}
 use Prim.Native.Nat.{ℕ, zero, suc, _+_, _*_, _-_, _%_, _≤_, _<_}
 use native.Mathlib.Nat.{mod-lt}
 use native.Mathlib.Omega.{arith}
-use lib.ListN.{length, getD, set, drop, drop-of-length-le}
+use lib.ListN.{length, getD, set, drop, drop-of-length-le, length-set}
 use lib.Seq.{drop-cons, getD-set-same, getD-set-other}
 use lib.Dec.{eqb}
 use borrow.Author.Tests.{eq-eqb, ne-eqb, eqb-true, eqb-false}
 use Rattle.format_laws.proofs.Tests.{by-test}
-use Rattle.tree_table.specs.Keys.{fold, stepKey, lastKey, keyFrom, keyIn, nextSlot, probe, slotIn}
+use Rattle.tree_table.specs.Keys.{fold, stepKey, lastKey, keyFrom, keyIn, nextSlot, probe, slotIn, SeedOnly}
 
 -- ---- the key of a name, two bytes at a time
 
@@ -155,3 +155,10 @@ pub set-zero : (t : List ℕ) (i : ℕ) → getD (set t i 0) i 0 ≡ 0
 set-zero [] i = refl
 set-zero (x ∷ t) zero = refl
 set-zero (x ∷ t) (suc i) = set-zero t i
+
+-- the seed is set, or is as it was
+pub seed-set : (t : List ℕ) (x y : ℕ) → SeedOnly t (set (set t 4096 x) 4097 y)
+seed-set t x y = record { long = simp length-set; same = λ i p q. getD-set-other (set t 4096 x) 4097 i y 0 q ∙ getD-set-other t 4096 i x 0 p }
+
+pub seed-same : (t : List ℕ) → SeedOnly t t
+seed-same t = record { long = refl; same = λ i p q. refl }

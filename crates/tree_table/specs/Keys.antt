@@ -1,8 +1,9 @@
 -- Keys of names, and the slots that they stand in. t is a table.
+use mathlib.Core.Path.{_≡_}
 use mathlib.Core.List.{List, [], _∷_}
-use mathlib.Core.Bool.{cond}
+use mathlib.Core.Bool.{Bool, cond, not, _&&_}
 use Prim.Native.Nat.{ℕ, zero, suc, _+_, _*_, _-_, _/_, _%_}
-use lib.ListN.{getD}
+use lib.ListN.{length, getD}
 use lib.Dec.{eqb}
 
 -- a number with the same rest by 2 ^ 31 - 1, a prime
@@ -26,6 +27,11 @@ keyFrom m n h (x ∷ y ∷ s) = keyFrom n m (stepKey m h (x + y * 256)) s
 unfoldable pub keyIn : List ℕ → List ℕ → ℕ
 keyIn t s = keyFrom (getD t 4096 0 % 1073741824) (getD t 4097 0 % 1073741824) 0 s
 
+-- nothing but the seed changes
+pub record SeedOnly (t t′ : List ℕ) : Type 0 where
+  pub long : length t′ ≡ length t
+  pub same : (i : ℕ) → (i ≡ 4096 → ⊥) → (i ≡ 4097 → ⊥) → getD t′ i 0 ≡ getD t i 0
+
 -- ---- the slot of a key among so many from a place on
 
 -- the slot after another; the first one after the last
@@ -39,3 +45,9 @@ probe from slots t key (suc n) i = cond (eqb (getD t (from + i) 0) key) i (cond 
 
 unfoldable pub slotIn : ℕ → ℕ → List ℕ → ℕ → ℕ
 slotIn from slots t key = from + probe from slots t key (slots - 1) (key % slots)
+
+-- ---- the list of siblings that a table is of
+
+-- whether a table has at i the place of k siblings and their number, and there are some
+unfoldable pub isOf : List ℕ → ℕ → ℕ → ℕ → Bool
+isOf t i at k = not (eqb k 0) && (eqb (getD t i 0) at && eqb (getD t (i + 1) 0) k)

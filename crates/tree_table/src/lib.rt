@@ -4,11 +4,12 @@ use fields::read32;
 use fields::wide64;
 ghost use mathlib.Core.Path.{_≡_};
 ghost use Prim.Native.Nat.{ℕ, _+_, _*_, _%_, _≤_, _<_};
-ghost use lib.ListN.{length, getD};
-ghost use Rattle.tree_table.specs.Keys.{stepKey, lastKey, keyIn, nextSlot, slotIn};
+ghost use lib.ListN.{length, getD, set};
+ghost use Rattle.tree_table.specs.Keys.{stepKey, lastKey, keyIn, nextSlot, slotIn, SeedOnly, isOf};
 
-// KEYS slots, and the seed after them.
-pub type Table = [u32; 4098];
+// While a tree is read: KEYS slots. While entries are walked over: two smaller tables and rows of cursors in their stead (tree_search says where). After
+// them the seed, then the lists of siblings that these tables and rows are of.
+pub type Table = [u32; 4150];
 
 // The slots: 16 KiB, which fit the first cache of a processor.
 pub const KEYS: usize = 4096;
@@ -62,9 +63,14 @@ pub fn key_of(s: &[u8], t: &Table) -> u32
     last_key(h, n)
 }
 
+// Whether the seed was made.
+pub fn has_seed(t: &Table) -> bool {
+    t[SEED] != 0
+}
+
 // The seed is made from SHA-1 of the data, if it was not made yet. Neither number is 0.
 pub fn make_seed(d: &[u8], t: &mut Table)
-    ensures { λ _. ⌜ length (now (t .exit)) ≡ length (now (t .entry)) ⌝ }
+    ensures { λ _. ⌜ SeedOnly (now (t .entry)) (now (t .exit)) ⌝ }
 {
     if t[SEED] == 0 {
         let digest = hash::sha1(d);
@@ -105,14 +111,44 @@ pub fn slot_of(t: &Table, from: usize, slots: usize, key: u32) -> usize
     from + i
 }
 
-// The numbers from a place on, so many, are 0.
+// The n numbers from a place on are 0.
 pub fn clear(t: &mut Table, from: usize, n: usize)
-    requires { ⌜ from + n ≤ 4096 ⌝ }
-    ensures { λ _. ⌜ (length (now (t .exit)) ≡ length (now (t .entry))) × ((i : ℕ) → i < n → getD (now (t .exit)) (from + i) 0 ≡ 0) × ((i : ℕ) → from + n ≤ i → getD (now (t .exit)) i 0 ≡ getD (now (t .entry)) i 0) ⌝ }
+    requires { ⌜ from + n ≤ 4150 ⌝ }
+    ensures { λ _. ⌜ (length (now (t .exit)) ≡ length (now (t .entry))) × ((i : ℕ) → i < n → getD (now (t .exit)) (from + i) 0 ≡ 0) × ((i : ℕ) → (from ≤ i → i < from + n → ⊥) → getD (now (t .exit)) i 0 ≡ getD (now (t .entry)) i 0) ⌝ }
 {
     let mut i = 0;
     while i < n {
         t[from + i] = 0;
         i += 1;
     }
+}
+
+// A number of a table as a place.
+pub fn place_of(x: u32) -> usize
+    ensures { λ r. ⌜ r ≡ x ⌝ }
+{
+    x as usize
+}
+
+// Whether a table has at i the place of k siblings and their number, and there are some.
+pub fn is_of(t: &Table, i: usize, at: usize, k: u32) -> bool
+    requires { ⌜ i + 1 < 4150 ⌝ }
+    ensures { λ r. ⌜ r ≡ isOf (now (t .entry)) i at k ⌝ }
+{
+    if k == 0 {
+        return false;
+    }
+    if place_of(t[i]) == at {
+        return t[i + 1] == k;
+    }
+    false
+}
+
+// It has them there.
+pub fn set_list(t: &mut Table, i: usize, at: usize, k: u32)
+    requires { ⌜ (i + 1 < 4150) × (at < 4294967296) ⌝ }
+    ensures { λ _. ⌜ now (t .exit) ≡ set (set (now (t .entry)) i at) (i + 1) k ⌝ }
+{
+    t[i] = at as u32;
+    t[i + 1] = k;
 }

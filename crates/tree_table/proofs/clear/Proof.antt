@@ -10,7 +10,7 @@ use Rattle.tree_table.proofs.clear.Statement.{statement}
 use Rattle.tree_table.proofs.clear.Tie as tie
 
 abbrev Inv-loop : tie.InvT-loop
-Inv-loop t₀ from n i₀ t i = (i ≤ n) × (length t ≡ length t₀) × ((j : ℕ) → j < i → getD t (from + j) 0 ≡ 0) × ((j : ℕ) → from + n ≤ j → getD t j 0 ≡ getD t₀ j 0)
+Inv-loop t₀ from n i₀ t i = (i ≤ n) × (length t ≡ length t₀) × ((j : ℕ) → j < i → getD t (from + j) 0 ≡ 0) × ((j : ℕ) → (from ≤ j → j < from + n → ⊥) → getD t j 0 ≡ getD t₀ j 0)
 
 abbrev μ-loop : tie.MeasureT-loop
 μ-loop t₀ from n i₀ t i = n - i
@@ -41,7 +41,7 @@ loop-again c =
       omega arith,
       simp length-set (l .loop .inv .1),
       below-more (λ (j : ℕ). getD (set (l .loop .t) (a .from + l .loop .i) 0) (a .from + j) 0 ≡ 0) _ (λ j h. getD-set-other (l .loop .t) (a .from + l .loop .i) (a .from + j) 0 0 (λ e. omega arith) ∙ l .loop .inv .2 j h) here,
-      λ j h. getD-set-other (l .loop .t) (a .from + l .loop .i) j 0 0 (λ e. omega arith) ∙ l .loop .inv .3 j h,
+      λ j h. getD-set-other (l .loop .t) (a .from + l .loop .i) j 0 0 (λ e. h (omega arith) (omega arith)) ∙ l .loop .inv .3 j h,
     )
 
 returns : tie.Need-returns Inv-loop μ-loop

@@ -16,7 +16,7 @@ Inv-loop d a k t₀ y₀ n₀ t y n =
     × (drop y d ≡ restAfter n (drop a d))
     × (namesDiffer (namesOf n (drop a d)) ≡ true)
     × (allHeld t (namesOf n (drop a d)) ≡ true)
-    × (length t ≡ 4098)
+    × (length t ≡ 4150)
 
 abbrev μ-loop : tie.MeasureT-loop
 μ-loop d a k t₀ y₀ n₀ t y n = k - n

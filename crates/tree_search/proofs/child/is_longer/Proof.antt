@@ -1,12 +1,12 @@
--- The proof that `is_long` meets its contract. Each node takes a byte or more, so the nodes that are still to pass stay far below 2 ^ 64.
+-- The proof that `is_longer` meets its contract. Each node takes a byte or more, so the nodes that are still to pass stay far below 2 ^ 64.
 use mathlib.Core.Path.{sym, _∙_}
 use Prim.Native.Nat.{_+_, _*_, _-_, _≤_}
 use native.Mathlib.Omega.{arith}
 use lib.ListN.{length}
 use Rattle.tree_nodes.proofs.Nodes.{node-is}
 use borrow.Author.Needs.{needs}
-use Rattle.tree_search.proofs.child.is_long.Statement.{statement}
-use Rattle.tree_search.proofs.child.is_long.Tie as tie
+use Rattle.tree_search.proofs.child.is_longer.Statement.{statement}
+use Rattle.tree_search.proofs.child.is_longer.Tie as tie
 
 abbrev Inv-loop : tie.InvT-loop
 Inv-loop d at k limit place₀ pending₀ place pending = (at ≤ place) × (place ≤ length d) × (pending ≤ (1 + (place - at)) * 4294967296)
@@ -67,8 +67,8 @@ loop-again c =
 returns-3 : tie.Need-returns-3 Inv-loop μ-loop
 returns-3 c = search needs
 
-pub is-long-spec : {M : Type 1} → statement M
-is-long-spec =
+pub is-longer-spec : {M : Type 1} → statement M
+is-longer-spec =
     tie.close
     (tie.spec
     Inv-loop

@@ -1,13 +1,13 @@
--- The proof that `says` meets its contract.
+-- The proof that `is_of` meets its contract.
 use mathlib.Core.Path.{sym, _∙_}
 use borrow.Author.Tests.{eq-eqb, ne-eqb}
 use borrow.Author.Needs.{needs}
-use Rattle.tree_search.specs.Table.{isSaid}
-use Rattle.tree_search.proofs.table.says.Statement.{statement}
-use Rattle.tree_search.proofs.table.says.Tie as tie
+use Rattle.tree_table.specs.Keys.{isOf}
+use Rattle.tree_table.proofs.is_of.Statement.{statement}
+use Rattle.tree_table.proofs.is_of.Tie as tie
 
 returns : tie.Need-returns
-unfolding isSaid
+unfolding isOf
 returns c = rw (eq-eqb _ _ (c .if1 .taken))
 
 mul-place-of : tie.Need-mul-place-of
@@ -29,15 +29,15 @@ element-copy-out-result : tie.Need-element-copy-out-result
 element-copy-out-result c = search needs
 
 returns-2 : tie.Need-returns-2
-unfolding isSaid
+unfolding isOf
 returns-2 c = rw (ne-eqb _ _ (c .before .before .before .before .if1 .left), eq-eqb _ _ (sym (c .before .before .place-of .ensures) ∙ c .before .if2 .taken))
 
 returns-3 : tie.Need-returns-3
-unfolding isSaid
+unfolding isOf
 returns-3 c = rw (ne-eqb _ _ (c .before .before .before .if1 .left), ne-eqb _ _ (λ e. c .if2 .left (c .before .place-of .ensures ∙ e)))
 
-pub says-spec : {M : Type 1} → statement M
-says-spec =
+pub is-of-spec : {M : Type 1} → statement M
+is-of-spec =
     tie.close
     (tie.spec
     returns
