@@ -9,7 +9,7 @@ ghost use Rattle.format.specs.Names as Names;
 ghost use Rattle.cache_tree.specs.Orders.{slashBelow, lengthBelow, stillRises};
 
 // Whether s is below t, each followed by "/", where they have n bytes in common.
-fn slash_below(s: &[u8], t: &[u8], n: usize) -> bool
+pub fn slash_below(s: &[u8], t: &[u8], n: usize) -> bool
     requires { ⌜ (n ≡ Names.common (now s) (now t)) × (n ≤ length (now s)) × (n ≤ length (now t)) ⌝ }
     ensures { λ r. ⌜ r ≡ slashBelow (now (s .entry)) (now (t .entry)) ⌝ }
 {

@@ -1,3 +1,4 @@
 -- What the crate's contracts cite.
 pub mod Siblings
 pub mod Table
+pub mod Rows
