@@ -2,4 +2,5 @@
 pub mod Siblings
 pub mod Telling
 pub mod Frames
+pub mod Rows
 pub mod Tables
