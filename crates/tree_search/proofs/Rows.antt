@@ -1,20 +1,26 @@
 -- Laws of the rows of cursors.
 use mathlib.Core.Path.{_≡_, refl, sym, ap, _∙_}
 use mathlib.Core.List.{List}
-use mathlib.Core.Bool.{true, not, _&&_}
+use mathlib.Core.Bool.{true, false, not, _&&_}
 use Prim.Native.Nat.{ℕ, _+_, _*_, _≤_, _<_}
 use native.Mathlib.Omega.{arith}
 use lib.ListN.{length, getD, set, length-set}
 use lib.Seq.{getD-set-same, getD-set-other}
 use lib.Dec.{eqb}
 use borrow.Author.Tests.{eqb-true, eqb-false}
-use Rattle.format_laws.proofs.Tests.{by-test, and-inv₃}
+use Rattle.format_laws.proofs.Tests.{false-true, by-test, and-inv₃}
 use Rattle.tree_table.specs.Keys.{isOf}
 use Rattle.tree_search.specs.Siblings.{Cursor}
 use Rattle.tree_search.specs.Table.{Cursors, RowKnown, Known}
-use Rattle.tree_search.specs.Rows.{RowOf}
+use Rattle.tree_search.specs.Rows.{Moved, RowOf}
 use Rattle.tree_search.proofs.Telling.{cursor-all}
 use Rattle.tree_search.proofs.Frames.{table-stays, row-stays}
+
+-- ---- a cursor that went on
+
+-- no name was found
+pub moved-past : (d : List ℕ) (at k : ℕ) (name : List ℕ) (place left : ℕ) → Cursor d at k place left → Moved d at k name false place left
+moved-past d at k name place left cursor = record { cursor = cursor; told = λ e. false-true e }
 
 -- ---- two numbers, one after the other, are set
 
@@ -39,56 +45,56 @@ module _ (t : List ℕ) (i x y : ℕ) where
 module _ (d t t′ : List ℕ) (level : ℕ) (upper : level < 16) (known : Known d t) (long : length t′ ≡ 4150)
     (same : (i : ℕ) → (3072 + level * 64 ≤ i → i < 3072 + level * 64 + 64 → ⊥) → (4102 + level * 3 ≤ i → i < 4102 + level * 3 + 3 → ⊥) → getD t′ i 0 ≡ getD t i 0)
     (own : RowKnown (3072 + level * 64) (4102 + level * 3) d t′)
-    where
-  before-rows : (i : ℕ) → i < 3072 → getD t′ i 0 ≡ getD t i 0
-  before-rows i l = same i (λ a b. omega arith) (λ a b. omega arith)
+  where
+    before-rows : (i : ℕ) → i < 3072 → getD t′ i 0 ≡ getD t i 0
+    before-rows i l = same i (λ a b. omega arith) (λ a b. omega arith)
 
-  after-rows : (i : ℕ) → 4096 ≤ i → i < 4102 → getD t′ i 0 ≡ getD t i 0
-  after-rows i h l = same i (λ a b. omega arith) (λ a b. omega arith)
+    after-rows : (i : ℕ) → 4096 ≤ i → i < 4102 → getD t′ i 0 ≡ getD t i 0
+    after-rows i h l = same i (λ a b. omega arith) (λ a b. omega arith)
 
-  row-of-other : (j : ℕ) → j < 16 → (j ≡ level → ⊥) → RowKnown (3072 + j * 64) (4102 + j * 3) d t′
-  row-of-other j l other =
-      row-stays (3072 + j * 64) (4102 + j * 3) d t t′
-      (λ i a b. same i (λ x y. other (omega arith)) (λ x y. omega arith))
-      (same (4102 + j * 3) (λ x y. omega arith) (λ x y. other (omega arith)))
-      (same (4102 + j * 3 + 1) (λ x y. omega arith) (λ x y. other (omega arith)))
-      (known .rows j l)
+    row-of-other : (j : ℕ) → j < 16 → (j ≡ level → ⊥) → RowKnown (3072 + j * 64) (4102 + j * 3) d t′
+    row-of-other j l other =
+        row-stays (3072 + j * 64) (4102 + j * 3) d t t′
+        (λ i a b. same i (λ x y. other (omega arith)) (λ x y. omega arith))
+        (same (4102 + j * 3) (λ x y. omega arith) (λ x y. other (omega arith)))
+        (same (4102 + j * 3 + 1) (λ x y. omega arith) (λ x y. other (omega arith)))
+        (known .rows j l)
 
-  pub known-row : Known d t′
-  known-row = record {
-    long = long;
-    short-lists = table-stays 0 512 4098 d t t′
-        (λ i a b. before-rows i (omega arith))
-        (after-rows 4096 (omega arith) (omega arith))
-        (after-rows 4097 (omega arith) (omega arith))
-        (after-rows 4098 (omega arith) (omega arith))
-        (after-rows 4099 (omega arith) (omega arith))
-        (omega arith)
-        (known .short-lists);
-    long-lists = table-stays 1024 1024 4100 d t t′
-        (λ i a b. before-rows i (omega arith))
-        (after-rows 4096 (omega arith) (omega arith))
-        (after-rows 4097 (omega arith) (omega arith))
-        (after-rows 4100 (omega arith) (omega arith))
-        (after-rows 4101 (omega arith) (omega arith))
-        (omega arith)
-        (known .long-lists);
-    rows = λ j l. by-test (eqb j level) (λ e. rw (eqb-true j level e) own) (λ e. row-of-other j l (eqb-false j level e));
-  }
+    pub known-row : Known d t′
+    known-row = record {
+      long = long;
+      short-lists = table-stays 0 512 4098 d t t′
+          (λ i a b. before-rows i (omega arith))
+          (after-rows 4096 (omega arith) (omega arith))
+          (after-rows 4097 (omega arith) (omega arith))
+          (after-rows 4098 (omega arith) (omega arith))
+          (after-rows 4099 (omega arith) (omega arith))
+          (omega arith)
+          (known .short-lists);
+      long-lists = table-stays 1024 1024 4100 d t t′
+          (λ i a b. before-rows i (omega arith))
+          (after-rows 4096 (omega arith) (omega arith))
+          (after-rows 4097 (omega arith) (omega arith))
+          (after-rows 4100 (omega arith) (omega arith))
+          (after-rows 4101 (omega arith) (omega arith))
+          (omega arith)
+          (known .long-lists);
+      rows = λ j l. by-test (eqb j level) (λ e. rw (eqb-true j level e) own) (λ e. row-of-other j l (eqb-false j level e));
+    }
 
 -- ---- the row of a level that is of the k siblings at a place
 
 module _ (d : List ℕ) (at k level : ℕ) (t : List ℕ) where
   -- it was of them before
-  pub row-is-of : level < 16 → 1 ≤ k → (list : ℕ) → list ≡ 4102 + level * 3 → isOf t list at k ≡ true → Known d t → RowOf d at k level t
+  pub row-is-of : level < 16 → at ≤ length d → 1 ≤ k → (list : ℕ) → list ≡ 4102 + level * 3 → isOf t list at k ≡ true → Known d t → RowOf d at k level t
   unfolding isOf
-  row-is-of upper some list is e known =
+  row-is-of upper inside some list is e known =
       let i = and-inv₃ (not (eqb k 0)) (eqb (getD t list 0) at) (eqb (getD t (list + 1) 0) k) e in
-      record { known = known; upper = upper; place = rw (sym is) (eqb-true _ _ (i .1)); number = rw (sym is) (eqb-true _ _ (i .2)); some = some }
+      record { known = known; upper = upper; inside = inside; place = rw (sym is) (eqb-true _ _ (i .1)); number = rw (sym is) (eqb-true _ _ (i .2)); some = some }
 
   module _ (row : RowOf d at k level t) where
     pub row-own : RowOf d (getD t (4102 + level * 3) 0) (getD t (4102 + level * 3 + 1) 0) level t
-    row-own = record { known = row .known; upper = row .upper; place = refl; number = refl; some = rw (row .number) (row .some) }
+    row-own = record { known = row .known; upper = row .upper; inside = rw (row .place) (row .inside); place = refl; number = refl; some = rw (row .number) (row .some) }
 
     row-cursors : Cursors (3072 + level * 64) d at k t
     row-cursors = rw (row .place, row .number) at (row .known .rows level (row .upper) .is (rw (row .number) (row .some)))
@@ -108,6 +114,7 @@ module _ (d : List ℕ) (at k level : ℕ) (t : List ℕ) where
           (stays (4102 + level * 3 + 1) (λ e. omega arith))
           (row .known .rows level (row .upper)));
       upper = row .upper;
+      inside = row .inside;
       place = stays (4102 + level * 3) (λ e. omega arith) ∙ row .place;
       number = stays (4102 + level * 3 + 1) (λ e. omega arith) ∙ row .number;
       some = row .some;
@@ -149,6 +156,7 @@ module _ (d : List ℕ) (at k level : ℕ) (t : List ℕ) where
             (λ j a b. two-other t i place left j (λ x. a (omega arith) (omega arith)) (λ x. a (omega arith) (omega arith)))
             (record { is = rw (put-place, put-number) (λ some. put-cursors) });
         upper = row .upper;
+        inside = row .inside;
         place = put-place;
         number = put-number;
         some = row .some;
@@ -160,61 +168,62 @@ module _ (d : List ℕ) (at k level : ℕ) (t t′ : List ℕ) (inside : at ≤ 
     (long : length t′ ≡ length t)
     (clear : (i : ℕ) → i < 64 → getD t′ (row + i) 0 ≡ 0)
     (same : (i : ℕ) → (row ≤ i → i < row + 64 → ⊥) → getD t′ i 0 ≡ getD t i 0)
-    where
-  abbrev first : List ℕ
-  first = two t′ row at k
+  where
+    abbrev first : List ℕ
+    first = two t′ row at k
 
-  abbrev new : List ℕ
-  new = two first list at k
+    abbrev new : List ℕ
+    new = two first list at k
 
-  row-room : row + 1 < length t′
-  row-room = omega (arith, known .long)
+    row-room : row + 1 < length t′
+    row-room = omega (arith, known .long)
 
-  list-room : list + 1 < length first
-  list-room = rw (two-length t′ row at k) (omega (arith, known .long))
+    list-room : list + 1 < length first
+    list-room = rw (two-length t′ row at k) (omega (arith, known .long))
 
-  new-first : getD new row 0 ≡ at
-  new-first = two-other first list at k row (λ e. omega arith) (λ e. omega arith) ∙ two-first t′ row at k row-room
+    new-first : getD new row 0 ≡ at
+    new-first = two-other first list at k row (λ e. omega arith) (λ e. omega arith) ∙ two-first t′ row at k row-room
 
-  new-second : getD new (row + 1) 0 ≡ k
-  new-second = two-other first list at k (row + 1) (λ e. omega arith) (λ e. omega arith) ∙ two-second t′ row at k row-room
+    new-second : getD new (row + 1) 0 ≡ k
+    new-second = two-other first list at k (row + 1) (λ e. omega arith) (λ e. omega arith) ∙ two-second t′ row at k row-room
 
-  new-none : (i : ℕ) → 2 ≤ i → i < 64 → getD new (row + i) 0 ≡ 0
-  new-none i h l =
-      two-other first list at k (row + i) (λ e. omega arith) (λ e. omega arith)
-      ∙ two-other t′ row at k (row + i) (λ e. omega arith) (λ e. omega arith)
-      ∙ clear i l
+    new-none : (i : ℕ) → 2 ≤ i → i < 64 → getD new (row + i) 0 ≡ 0
+    new-none i h l =
+        two-other first list at k (row + i) (λ e. omega arith) (λ e. omega arith)
+        ∙ two-other t′ row at k (row + i) (λ e. omega arith) (λ e. omega arith)
+        ∙ clear i l
 
-  new-cursors : Cursors (3072 + level * 64) d at k new
-  new-cursors = record { is = λ c l. by-test (eqb c 0) (λ e. is-first c (eqb-true c 0 e)) (λ e. is-none c l (eqb-false c 0 e)) }
-    where
-      is-first : (c : ℕ) → c ≡ 0 → 1 ≤ getD new (3072 + level * 64 + c * 2 + 1) 0 → Cursor d at k (getD new (3072 + level * 64 + c * 2) 0) (getD new (3072 + level * 64 + c * 2 + 1) 0)
-      is-first c e = rw (e, sym is, new-first, new-second) (λ h. cursor-all d at k inside)
+    new-cursors : Cursors (3072 + level * 64) d at k new
+    new-cursors = record { is = λ c l. by-test (eqb c 0) (λ e. is-first c (eqb-true c 0 e)) (λ e. is-none c l (eqb-false c 0 e)) }
+      where
+        is-first : (c : ℕ) → c ≡ 0 → 1 ≤ getD new (3072 + level * 64 + c * 2 + 1) 0 → Cursor d at k (getD new (3072 + level * 64 + c * 2) 0) (getD new (3072 + level * 64 + c * 2 + 1) 0)
+        is-first c e = rw (e, sym is, new-first, new-second) (λ h. cursor-all d at k inside)
 
-      is-none : (c : ℕ) → c < 32 → (c ≡ 0 → ⊥) → 1 ≤ getD new (3072 + level * 64 + c * 2 + 1) 0 → Cursor d at k (getD new (3072 + level * 64 + c * 2) 0) (getD new (3072 + level * 64 + c * 2 + 1) 0)
-      is-none c l other h =
-          let e : 3072 + level * 64 + c * 2 + 1 ≡ row + (c * 2 + 1) = omega arith in
-          let z : getD new (3072 + level * 64 + c * 2 + 1) 0 ≡ 0 = rw e (new-none (c * 2 + 1) (omega arith) (omega arith)) in
-          absurd (omega arith)
+        is-none : (c : ℕ) → c < 32 → (c ≡ 0 → ⊥) → 1 ≤ getD new (3072 + level * 64 + c * 2 + 1) 0 → Cursor d at k (getD new (3072 + level * 64 + c * 2) 0) (getD new (3072 + level * 64 + c * 2 + 1) 0)
+        is-none c l other h =
+            let e : 3072 + level * 64 + c * 2 + 1 ≡ row + (c * 2 + 1) = omega arith in
+            let z : getD new (3072 + level * 64 + c * 2 + 1) 0 ≡ 0 = rw e (new-none (c * 2 + 1) (omega arith) (omega arith)) in
+            absurd (omega arith)
 
-  new-place : getD new (4102 + level * 3) 0 ≡ at
-  new-place = rw (sym list-is) (two-first first list at k list-room)
+    new-place : getD new (4102 + level * 3) 0 ≡ at
+    new-place = rw (sym list-is) (two-first first list at k list-room)
 
-  new-number : getD new (4102 + level * 3 + 1) 0 ≡ k
-  new-number = rw (sym list-is) (two-second first list at k list-room)
+    new-number : getD new (4102 + level * 3 + 1) 0 ≡ k
+    new-number = rw (sym list-is) (two-second first list at k list-room)
 
-  new-other : (i : ℕ) → (3072 + level * 64 ≤ i → i < 3072 + level * 64 + 64 → ⊥) → (4102 + level * 3 ≤ i → i < 4102 + level * 3 + 3 → ⊥) → getD new i 0 ≡ getD t i 0
-  new-other i a b =
-      two-other first list at k i (λ e. b (omega arith) (omega arith)) (λ e. b (omega arith) (omega arith))
-      ∙ two-other t′ row at k i (λ e. a (omega arith) (omega arith)) (λ e. a (omega arith) (omega arith))
-      ∙ same i (λ x y. a (omega arith) (omega arith))
+    new-other : (i : ℕ) → (3072 + level * 64 ≤ i → i < 3072 + level * 64 + 64 → ⊥) → (4102 + level * 3 ≤ i → i < 4102 + level * 3 + 3 → ⊥) → getD new i 0 ≡ getD t i 0
+    new-other i a b =
+        two-other first list at k i (λ e. b (omega arith) (omega arith)) (λ e. b (omega arith) (omega arith))
+        ∙ two-other t′ row at k i (λ e. a (omega arith) (omega arith)) (λ e. a (omega arith) (omega arith))
+        ∙ same i (λ x y. a (omega arith) (omega arith))
 
-  pub row-new : RowOf d at k level new
-  row-new = record {
-    known = known-row d t new level upper known (two-length first list at k ∙ two-length t′ row at k ∙ long ∙ known .long) new-other
-        (record { is = rw (new-place, new-number) (λ h. new-cursors) });
-    upper = upper;
-    place = new-place;
-    number = new-number;
-    some = some;
-  }
+    pub row-new : RowOf d at k level new
+    row-new = record {
+      known = known-row d t new level upper known (two-length first list at k ∙ two-length t′ row at k ∙ long ∙ known .long) new-other
+          (record { is = rw (new-place, new-number) (λ h. new-cursors) });
+      upper = upper;
+      inside = inside;
+      place = new-place;
+      number = new-number;
+      some = some;
+    }

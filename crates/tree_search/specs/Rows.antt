@@ -3,7 +3,7 @@ use mathlib.Core.Path.{_≡_}
 use mathlib.Core.List.{List}
 use mathlib.Core.Bool.{Bool, true}
 use Prim.Native.Nat.{ℕ, _+_, _*_, _≤_, _<_}
-use lib.ListN.{getD}
+use lib.ListN.{length, getD}
 use Rattle.tree_search.specs.declared.child.Child.the-variants as C
 use Rattle.tree_search.specs.declared.child.Answer.the-variants as A
 use Rattle.tree_search.specs.Siblings.{Cursor, Told}
@@ -14,10 +14,11 @@ pub record Moved (d : List ℕ) (at k : ℕ) (name : List ℕ) (found : Bool) (p
   pub cursor : Cursor d at k place left
   pub told : found ≡ true → Told d at k name (A.Known (C.Found place))
 
--- the row of a level is of the k siblings at a place, and there are some
+-- the row of a level is of the k siblings at a place in the data, and there are some
 pub record RowOf (d : List ℕ) (at k level : ℕ) (t : List ℕ) : Type 0 where
   pub known : Known d t
   pub upper : level < 16
+  pub inside : at ≤ length d
   pub place : getD t (4102 + level * 3) 0 ≡ at
   pub number : getD t (4102 + level * 3 + 1) 0 ≡ k
   pub some : 1 ≤ k

@@ -141,7 +141,7 @@ fn find_by_cursor(
     by_length: bool,
     t: &mut Table,
 ) -> Answer
-    requires { ⌜ (c < 32) × (length (now d) ≤ 16777216) × RowOf (now d) (getD (now t) (4102 + level * 3) 0) (getD (now t) (4102 + level * 3 + 1) 0) level (now t) × (getD (now t) (4102 + level * 3) 0 ≤ length (now d)) ⌝ }
+    requires { ⌜ (c < 32) × (length (now d) ≤ 16777216) × RowOf (now d) (getD (now t) (4102 + level * 3) 0) (getD (now t) (4102 + level * 3 + 1) 0) level (now t) ⌝ }
     ensures { λ r. ⌜ ((at k : ℕ) → RowOf (now (d .entry)) at k level (now (t .entry)) → Told (now (d .entry)) at k (now (name .entry)) r × RowOf (now (d .entry)) at k level (now (t .exit))) ⌝ }
 {
     let i = cell_of(level, c);
@@ -188,7 +188,7 @@ fn set_cursor(d: &[u8], place: usize, left: u32, level: usize, t: &mut Table)
 
 // Each cursor for lengths is at the first of the k siblings at a place that has such a length.
 fn set_cursors(d: &[u8], at: usize, k: u32, level: usize, t: &mut Table)
-    requires { ⌜ (at ≤ length (now d)) × (length (now d) ≤ 16777216) × RowOf (now d) at k level (now t) ⌝ }
+    requires { ⌜ (length (now d) ≤ 16777216) × RowOf (now d) at k level (now t) ⌝ }
     ensures { λ _. ⌜ RowOf (now (d .entry)) at k level (now (t .exit)) ⌝ }
 {
     let mut place = at;
