@@ -201,13 +201,12 @@ fn set_cursors(d: &[u8], at: usize, k: u32, level: usize, t: &mut Table)
     t[list_of(level) + 2] = 1;
 }
 
-// The one of k siblings at a place that has this name, by the row of a level: where the cursors for lengths are set by these, else by the one for the
-// index's order, and where that does not tell, those for lengths are set.
+// The one of k siblings at a place that has this name, by the row of a level, which is of them: where the cursors for lengths are set by these, else by the
+// one for the index's order, and where that does not tell, those for lengths are set.
 fn find_in_row(d: &[u8], at: usize, k: u32, name: &[u8], level: usize, t: &mut Table) -> Answer
-    requires { ⌜ (at ≤ length (now d)) × (length (now d) ≤ 16777216) × Known (now d) (now t) × (level < 16) × (1 ≤ k) ⌝ }
+    requires { ⌜ (length (now d) ≤ 16777216) × RowOf (now d) at k level (now t) ⌝ }
     ensures { λ r. ⌜ Told (now (d .entry)) at k (now (name .entry)) r × Known (now (d .entry)) (now (t .exit)) ⌝ }
 {
-    open_row(at, k, level, t);
     let c = cursor_for(name.len());
     if t[list_of(level) + 2] == 1 {
         let told = find_by_cursor(d, name, level, c, true, t);
@@ -232,8 +231,10 @@ pub fn find_in_order(d: &[u8], at: usize, k: u32, name: &[u8], level: u32, t: &m
     if k == 0 {
         return Answer::Known(Child::Missing);
     }
-    if level < LEVELS {
-        return find_in_row(d, at, k, name, level as usize, t);
+    if LEVELS <= level {
+        return Answer::Unknown;
     }
-    Answer::Unknown
+    let upper = level as usize;
+    open_row(at, k, upper, t);
+    find_in_row(d, at, k, name, upper, t)
 }

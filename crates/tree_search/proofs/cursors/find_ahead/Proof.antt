@@ -1,5 +1,4 @@
 -- The proof that `find_ahead` meets its contract. The loop keeps that a cursor from which it began has gone on to the place.
-use mathlib.Core.Path.{_≡_}
 use Prim.Native.Nat.{ℕ, _≤_}
 use native.Mathlib.Omega.{arith}
 use lib.ListN.{length}

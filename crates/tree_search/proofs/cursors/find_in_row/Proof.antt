@@ -5,9 +5,6 @@ use borrow.Author.Needs.{needs}
 use Rattle.tree_search.proofs.cursors.find_in_row.Statement.{statement}
 use Rattle.tree_search.proofs.cursors.find_in_row.Tie as tie
 
-open-row-requires : tie.Need-open-row-requires
-open-row-requires c κs = search needs
-
 cursor-for-requires : tie.Need-cursor-for-requires
 cursor-for-requires c κs = search needs
 
@@ -24,90 +21,48 @@ element-copy-out-if1 : tie.Need-element-copy-out-if1
 element-copy-out-if1 c = search needs
 
 find-by-cursor-requires : tie.Need-find-by-cursor-requires
-find-by-cursor-requires c κs =
-    let o = c .before .before .before .before .before in
-    let st = o .before .before .before .before in
-    let row = o .open-row .ensures _ (st .pre .0) (st .pre .2) in
-    (c .before .before .before .before .cursor-for .ensures, st .pre .1, row-own _ _ _ _ _ row)
+find-by-cursor-requires c κs = let p = c .before .before .before .before .before .before .before .pre in (c .before .before .before .before .cursor-for .ensures, p .0, row-own _ _ _ _ _ (p .1))
 
 enum-told : tie.Need-enum-told
 enum-told c = search needs
 
 returns : tie.Need-returns
-returns c =
-    let look = c .before .before in
-    let o = look .before .before .before .before .before .before in
-    let st = o .before .before .before .before in
-    let row = o .open-row .ensures _ (st .pre .0) (st .pre .2) in
-    let r = look .find-by-cursor .ensures _ _ row in
-    (r .0, r .1 .known)
+returns c = let r = c .before .before .find-by-cursor .ensures _ _ (c .before .before .before .before .before .before .before .before .before .before .pre .1) in (r .0, r .1 .known)
 
 enum-told-2 : tie.Need-enum-told-2
 enum-told-2 c = search needs
 
 find-by-cursor-requires-2 : tie.Need-find-by-cursor-requires-2
-find-by-cursor-requires-2 c κs =
-    let look = c .before .before .before in
-    let o = look .before .before .before .before .before .before in
-    let st = o .before .before .before .before in
-    let row = o .open-row .ensures _ (st .pre .0) (st .pre .2) in
-    let r = look .find-by-cursor .ensures _ _ row in
-    (omega arith, st .pre .1, row-own _ _ _ _ _ (r .1))
+find-by-cursor-requires-2 c κs = let p = c .before .before .before .before .before .before .before .before .before .before .before .pre in (omega arith, p .0, row-own _ _ _ _ _ (c .before .before .before .find-by-cursor .ensures _ _ (p .1) .1))
 
 returns-2 : tie.Need-returns-2
-returns-2 c =
-    let look = c .before .before .before .before in
-    let o = look .before .before .before .before .before .before in
-    let st = o .before .before .before .before in
-    let row = o .open-row .ensures _ (st .pre .0) (st .pre .2) in
-    let r = c .find-by-cursor2 .ensures _ _ (look .find-by-cursor .ensures _ _ row .1) in
-    (r .0, r .1 .known)
+returns-2 c = let r = c .find-by-cursor2 .ensures _ _ (c .before .before .before .before .find-by-cursor .ensures _ _ (c .before .before .before .before .before .before .before .before .before .before .before .before .pre .1) .1) in (r .0, r .1 .known)
 
 find-by-cursor-requires-3 : tie.Need-find-by-cursor-requires-3
-find-by-cursor-requires-3 c κs =
-    let o = c .before .before .before .before .before in
-    let st = o .before .before .before .before in
-    let row = o .open-row .ensures _ (st .pre .0) (st .pre .2) in
-    (omega arith, st .pre .1, row-own _ _ _ _ _ row)
+find-by-cursor-requires-3 c κs = let p = c .before .before .before .before .before .before .before .pre in (omega arith, p .0, row-own _ _ _ _ _ (p .1))
 
 enum-told-3 : tie.Need-enum-told-3
 enum-told-3 c = search needs
 
 returns-3 : tie.Need-returns-3
-returns-3 c =
-    let look = c .before .before in
-    let o = look .before .before .before .before .before .before in
-    let st = o .before .before .before .before in
-    let row = o .open-row .ensures _ (st .pre .0) (st .pre .2) in
-    let r = look .find-by-cursor3 .ensures _ _ row in
-    (r .0, r .1 .known)
+returns-3 c = let r = c .before .before .find-by-cursor3 .ensures _ _ (c .before .before .before .before .before .before .before .before .before .before .pre .1) in (r .0, r .1 .known)
 
 enum-told-4 : tie.Need-enum-told-4
 enum-told-4 c = search needs
 
 set-cursors-requires : tie.Need-set-cursors-requires
-set-cursors-requires c κs =
-    let look = c .before .before .before in
-    let o = look .before .before .before .before .before .before in
-    let st = o .before .before .before .before in
-    let row = o .open-row .ensures _ (st .pre .0) (st .pre .2) in
-    (st .pre .1, look .find-by-cursor3 .ensures _ _ row .1)
+set-cursors-requires c κs = let p = c .before .before .before .before .before .before .before .before .before .before .before .pre in (p .0, c .before .before .before .find-by-cursor3 .ensures _ _ (p .1) .1)
 
 find-by-cursor-requires-4 : tie.Need-find-by-cursor-requires-4
-find-by-cursor-requires-4 c κs =
-    let found = c .before .before .before .before .before .before .before .before .before .before in
-    (found .cursor-for .ensures, found .before .before .before .before .before .pre .1, row-own _ _ _ _ _ (c .before .set-cursors .ensures))
+find-by-cursor-requires-4 c κs = (c .before .before .before .before .before .before .before .before .before .before .cursor-for .ensures, c .before .before .before .before .before .before .before .before .before .before .before .before .before .pre .0, row-own _ _ _ _ _ (c .before .set-cursors .ensures))
 
 returns-4 : tie.Need-returns-4
-returns-4 c =
-    let r = c .find-by-cursor4 .ensures _ _ (c .before .before .set-cursors .ensures) in
-    (r .0, r .1 .known)
+returns-4 c = let r = c .find-by-cursor4 .ensures _ _ (c .before .before .set-cursors .ensures) in (r .0, r .1 .known)
 
 pub find-in-row-spec : {M : Type 1} → statement M
 find-in-row-spec =
     tie.close
     (tie.spec
-    open-row-requires
     cursor-for-requires
     list-of-requires
     add-if1
