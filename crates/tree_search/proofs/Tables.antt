@@ -1,24 +1,28 @@
 -- Laws of the array: what is known of it as it changes.
 use mathlib.Core.Path.{_≡_, refl, sym, ap, _∙_}
 use mathlib.Core.List.{List}
-use mathlib.Core.Bool.{true, false}
+use mathlib.Core.Bool.{true, false, not}
 use Prim.Native.Nat.{ℕ, _+_, _*_, _-_, _≤_, _<_}
 use native.Mathlib.Omega.{arith}
 use lib.ListN.{length, getD, set, drop, length-set}
 use lib.Seq.{getD-set-same, getD-set-other}
 use lib.Dec.{eqb}
-use borrow.Author.Tests.{eqb-true, eqb-false, eq-eqb, ne-eqb}
+use borrow.Author.Tests.{eqb-true, eqb-false, not-true}
+use Rattle.format.specs.Bytes.{eqList}
 use Rattle.format.specs.Records.{Forest, nil}
 use Rattle.format.specs.Layout.{distinct}
-use Rattle.format_laws.proofs.Tests.{by-test}
-use Rattle.tree_nodes.specs.Flat.{nameOf, Reads}
-use Rattle.tree_table.specs.Keys.{keyIn, SeedOnly}
+use Rattle.format_laws.proofs.Tests.{by-test, and-inv₃}
+use Rattle.tree_nodes.specs.Flat.{treesLength, nameOf, Reads}
+use Rattle.tree_table.specs.Keys.{keyIn, slotIn, isOf, SeedOnly}
 use Rattle.tree_table.proofs.Slots.{set-zero}
+use Rattle.tree_search.specs.declared.child.Child.the-variants as C
+use Rattle.tree_search.specs.declared.child.Answer.the-variants as A
 use Rattle.tree_search.specs.declared.table.Region.{Region}
 use Rattle.tree_search.specs.declared.table.Region.the-variants as R
+use Rattle.tree_search.specs.Siblings.{Told}
 use Rattle.tree_search.specs.Table.{slotFor, placeAt, withPlace, Inside, PutDown, TableKnown, RowKnown, Known, Vacant, firstSlot, slotsOf, listOf}
 use Rattle.tree_search.proofs.Frames.{slot-first, slot-last, table-stays, row-stays}
-use Rattle.tree_search.proofs.Places.{SameKeys, put-same}
+use Rattle.tree_search.proofs.Places.{SameKeys, Placing, put-same, clear-inside, place-inside, placing-start, placing-on, placing-end, told-none, told-here, told-other}
 
 -- ---- where a table is
 
@@ -168,8 +172,8 @@ module _ (region : Region) (t : List ℕ) (at k : ℕ) (long : length t ≡ 4150
       getD-set-other (set t (listOf region) at) (listOf region + 1) i k 0 (λ e. omega (arith, list-least region))
       ∙ getD-set-other t (listOf region) i at 0 (λ e. omega (arith, list-least region))
 
-  -- all of whose siblings were put down
-  pub list-known : (d : List ℕ) → Known d t → Inside (firstSlot region) (slotsOf region) d at t
+  -- all of its siblings were put down
+  list-known : (d : List ℕ) → Known d t → Inside (firstSlot region) (slotsOf region) d at t
       → ((f : Forest) (m : ℕ) → distinct f ≡ true → Reads (drop at d) f k m → PutDown (firstSlot region) (slotsOf region) d f t nil) → Known d listed
   list-known d known inside is = known-within region d t listed list-within table known
     where
@@ -188,13 +192,71 @@ module _ (region : Region) (t : List ℕ) (at k : ℕ) (long : length t ≡ 4150
         is = λ some f m differ r. put-same (firstSlot region) (slotsOf region) (region-some region) d f t listed nil keys-same number-is (is f m differ (rw (list-place, list-number) at r));
       }
 
--- of no list
+-- ---- a pass that puts down the k siblings at a place has come to another place
+
+pub record Filling (region : Region) (d : List ℕ) (at k : ℕ) (t : List ℕ) (place left : ℕ) : Type 0 where
+  pub least : at ≤ place
+  pub most : place ≤ length d
+  pub vacant : Vacant region t
+  pub known : Known d t
+  pub inside : Inside (firstSlot region) (slotsOf region) d at t
+  pub is : (f : Forest) (m : ℕ) → distinct f ≡ true → Reads (drop at d) f k m → Placing (firstSlot region) (slotsOf region) d f t place left
+
+module _ (region : Region) (d : List ℕ) (at k : ℕ) where
+  -- the numbers are cleared
+  pub filling-start : (t t′ : List ℕ) (from slots : ℕ) → at ≤ length d → Vacant region t → Known d t → from ≡ firstSlot region → slots ≡ slotsOf region
+      → length t′ ≡ length t → ((i : ℕ) → i < slots → getD t′ (from + slots + i) 0 ≡ 0) → ((i : ℕ) → (from + slots ≤ i → i < from + slots + slots → ⊥) → getD t′ i 0 ≡ getD t i 0)
+      → Filling region d at k t′ at k
+  filling-start t t′ from slots l vacant known is-from is-slots long clear same = record {
+    least = omega arith;
+    most = l;
+    vacant = vacant-stays region t t′ cells vacant;
+    known = known-stays region t t′ cells vacant d known;
+    inside = clear-inside (firstSlot region) (slotsOf region) (region-some region) d t′ empty at;
+    is = λ f m differ r. placing-start (firstSlot region) (slotsOf region) (region-some region) d t′ empty f at k m differ r;
+  }
+    where
+      cells : CellsOnly region t t′
+      cells = clear-cells region t t′ (from + slots) slots long same (omega arith) (omega arith)
+
+      empty : (i : ℕ) → firstSlot region ≤ i → i < firstSlot region + slotsOf region → placeAt (slotsOf region) t′ i ≡ 0
+      empty i a b = let e : slotsOf region + i ≡ from + slots + (i - from) = omega arith in ap (λ (j : ℕ). getD t′ j 0) e ∙ clear (i - from) (omega arith)
+
+  module _ (t : List ℕ) (place left : ℕ) (x : Filling region d at k t place left) where
+    pub filling-on : 0 < left → (next : ℕ) → next ≡ place + treesLength 1 (drop place d) → next ≤ length d → Filling region d at k (withPlace (firstSlot region) (slotsOf region) d place t) next (left - 1)
+    filling-on some-left next is l = record {
+      least = omega (arith, x .least);
+      most = l;
+      vacant = vacant-stays region t _ (place-cells region d place t) (x .vacant);
+      known = known-stays region t _ (place-cells region d place t) (x .vacant) d (x .known);
+      inside = place-inside (firstSlot region) (slotsOf region) (region-some region) t (omega (arith, region-fits region)) (x .vacant .long) d at place (x .least) (x .most) (x .inside);
+      is = λ f m differ r. placing-on (firstSlot region) (slotsOf region) (region-some region) t (omega (arith, region-fits region)) (x .vacant .long) d f place left (x .is f m differ r) some-left next is;
+    }
+
+    pub filling-end : left ≤ 0 → Known d (set (set t (listOf region) at) (listOf region + 1) k)
+    filling-end l =
+        list-known region t at k (x .vacant .long) d (x .known) (x .inside)
+        (λ f m differ r. placing-end (firstSlot region) (slotsOf region) (region-some region) d f t place left (x .is f m differ r) l)
+
+-- ---- a table is of no list
+
 module _ (region : Region) (t : List ℕ) (long : length t ≡ 4150) where
   pub unlist-vacant : Vacant region (set (set t (listOf region) 0) (listOf region + 1) 0)
   unlist-vacant = record { long = list-within region t 0 0 long .long ∙ long; none = list-number region t 0 0 long }
 
   pub unlist-known : (d : List ℕ) → Known d t → Known d (set (set t (listOf region) 0) (listOf region + 1) 0)
   unlist-known d = known-within region d t _ (list-within region t 0 0 long) (no-list _ _ _ d _ (list-number region t 0 0 long))
+
+-- of no list and without keys: u is the array before these are cleared
+pub begun : (region : Region) (d t u t′ : List ℕ) (list from n : ℕ) → list ≡ listOf region → from ≡ firstSlot region → n ≡ slotsOf region → Known d t → u ≡ set (set t list 0) (list + 1) 0
+    → length t′ ≡ length u → ((i : ℕ) → (from ≤ i → i < from + n → ⊥) → getD t′ i 0 ≡ getD u i 0) → Known d t′ × Vacant region t′
+begun region d t u t′ list from n is-list is-from is-n known is long same = (known-stays region u t′ cells vacant d (rw (is, is-list) (unlist-known region t (known .long) d known)), vacant-stays region u t′ cells vacant)
+  where
+    cells : CellsOnly region u t′
+    cells = clear-cells region u t′ from n long same (omega arith) (omega arith)
+
+    vacant : Vacant region u
+    vacant = rw (is, is-list) (unlist-vacant region t (known .long))
 
 -- ---- the seed changes, and no table is of a list
 
@@ -227,3 +289,60 @@ module _ (d t u : List ℕ) (seed : SeedOnly t u) where
         (seed-same (4102 + j * 3 + 1) (λ x y. omega arith))
         (known .rows j l);
   }
+
+-- ---- what a table tells of a name
+
+-- it is of the k siblings at a place
+module _ (t : List ℕ) (list at k : ℕ) (of : isOf t list at k ≡ true) where
+  of-parts : (eqb k 0 ≡ false) × (eqb (getD t list 0) at ≡ true) × (eqb (getD t (list + 1) 0) k ≡ true)
+  unfolding isOf
+  of-parts = let i = and-inv₃ (not (eqb k 0)) (eqb (getD t list 0) at) (eqb (getD t (list + 1) 0) k) of in (not-true _ (i .0), i .1, i .2)
+
+  pub of-place : getD t list 0 ≡ at
+  of-place = eqb-true _ _ (of-parts .1)
+
+  pub of-number : getD t (list + 1) 0 ≡ k
+  of-number = eqb-true _ _ (of-parts .2)
+
+  pub of-some : 1 ≤ getD t (list + 1) 0
+  of-some = let z : k ≡ 0 → ⊥ = eqb-false k 0 (of-parts .0) in omega (arith, of-number)
+
+-- the name's key is in slot i
+module _ (region : Region) (d t : List ℕ) (known : Known d t) (at k : ℕ) (name : List ℕ) (list from slots key i : ℕ)
+    (is-list : list ≡ listOf region) (is-from : from ≡ firstSlot region) (is-slots : slots ≡ slotsOf region)
+    (of : isOf t list at k ≡ true) (is-key : key ≡ keyIn t name) (is-slot : i ≡ slotIn from slots t key) (least : from ≤ i) (most : i < from + slots) where
+  table-is : TableKnown from slots list d t
+  table-is = rw (is-list, is-from, is-slots) (known-table region d t known)
+
+  inside-is : Inside from slots d at t
+  inside-is = let e = of-place t list at k of in let x = table-is .inside (of-some t list at k of) in rw e at x
+
+  put-is : (f : Forest) (m : ℕ) → distinct f ≡ true → Reads (drop at d) f k m → PutDown from slots d f t nil
+  put-is f m differ r = table-is .is (of-some t list at k of) f m differ (rw (of-place t list at k of, of-number t list at k of) r)
+
+  -- what is put down there lies in the data
+  pub number-most : placeAt slots t i ≤ length d + 2
+  number-most = inside-is .most i least most
+
+  module _ (there : getD t i 0 ≡ key) where
+    pub tells-none : at ≤ length d → placeAt slots t i ≡ 0 → Told d at k name (A.Known C.Missing)
+    tells-none l e = record {
+      least = l;
+      most = omega arith;
+      is = λ f m differ r. told-none from slots d t f (put-is f m differ r) name key i is-key is-slot there e;
+    }
+
+    module _ (some-place : 2 ≤ placeAt slots t i) where
+      pub tells-here : eqList name (nameOf (drop (placeAt slots t i - 2) d)) ≡ true → Told d at k name (A.Known (C.Found (placeAt slots t i - 2)))
+      tells-here e = record {
+        least = omega (arith, inside-is .least i least most some-place);
+        most = omega (arith, number-most);
+        is = λ f m differ r. told-here from slots d t f (put-is f m differ r) name key i is-key is-slot there some-place least most e;
+      }
+
+      pub tells-other : at ≤ length d → eqList name (nameOf (drop (placeAt slots t i - 2) d)) ≡ false → Told d at k name (A.Known C.Missing)
+      tells-other l e = record {
+        least = l;
+        most = omega arith;
+        is = λ f m differ r. told-other from slots d t f (put-is f m differ r) name key i is-key is-slot there some-place e;
+      }
