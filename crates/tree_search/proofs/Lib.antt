@@ -4,3 +4,4 @@ pub mod Telling
 pub mod Frames
 pub mod Places
 pub mod Tables
+pub mod Lookup

@@ -2,11 +2,10 @@
 use mathlib.Core.Path.{_≡_, refl, sym, ap, subst, _∙_}
 use mathlib.Core.List.{List}
 use mathlib.Core.Bool.{true, false}
-use mathlib.Core.Option.{none}
 use Prim.Native.Nat.{ℕ, zero, suc, _+_, _-_, _%_, _≤_, _<_}
 use native.Mathlib.Nat.{mod-lt}
 use native.Mathlib.Omega.{arith}
-use lib.ListN.{length, getD, set, drop, length-set}
+use lib.ListN.{length, getD, set, drop}
 use lib.Seq.{getD-set-same, getD-set-other}
 use lib.Dec.{eqb}
 use borrow.Author.Tests.{eqb-true, eqb-false, eq-eqb, ne-eqb}
@@ -19,9 +18,9 @@ use Rattle.format_laws.proofs.Lists.{eqList-true}
 use Rattle.tree_nodes.specs.Flat.{treesLength, nameOf, Reads}
 use Rattle.tree_nodes.proofs.Trees.{reads-empty}
 use Rattle.tree_table.specs.Keys.{keyIn, nextSlot, probe, slotIn}
-use Rattle.tree_search.specs.Siblings.{Last, FoundAt}
-use Rattle.tree_search.specs.Table.{slotFor, HasKey, placeAt, withPlace, Inside, PutDown, TableKnown}
-use Rattle.tree_search.proofs.Siblings.{child-none, last-one, last-next, last-here, last-on}
+use Rattle.tree_search.specs.Siblings.{Last}
+use Rattle.tree_search.specs.Table.{slotFor, HasKey, placeAt, withPlace, Inside, PutDown}
+use Rattle.tree_search.proofs.Siblings.{last-one, last-next, last-on}
 use Rattle.tree_search.proofs.Frames.{key-same, slot-first, slot-last}
 
 -- tables with the same keys and the same seed
@@ -240,10 +239,10 @@ module _ (from slots : ℕ) (t name : List ℕ) (key i : ℕ) (is-key : key ≡ 
   unfolding slotFor
   slot-for = is-slot ∙ ap (slotIn from slots t) is-key
 
-  has-key : getD t i 0 ≡ key → HasKey from slots t name
+  pub has-key : getD t i 0 ≡ key → HasKey from slots t name
   has-key e = ap (λ (j : ℕ). getD t j 0) (sym slot-for) ∙ e ∙ is-key
 
-  number-for : placeAt slots t i ≡ placeAt slots t (slotFor from slots t name)
+  pub number-for : placeAt slots t i ≡ placeAt slots t (slotFor from slots t name)
   number-for = ap (placeAt slots t) slot-for
 
 -- that of the sibling at a place, which is put down
@@ -270,18 +269,3 @@ module _ (from slots : ℕ) (d : List ℕ) (place : ℕ) (t : List ℕ) (key i :
         rw
         (eq-eqb (getD t (slotFor from slots t name) 0) (keyIn t name) (has-key from slots t name key i is-key is-slot there), ne-eqb (placeAt slots t (slotFor from slots t name)) 0 (λ z. e (number-for from slots t name key i is-key is-slot ∙ z)))
         (ap (λ (j : ℕ). set t (slots + j) 1) (slot-for from slots t name key i is-key is-slot))
-
--- that of a name which is asked for
-module _ (from slots : ℕ) (d t : List ℕ) (f : Forest) (put : PutDown from slots d f t nil) (name : List ℕ) (key i : ℕ) (is-key : key ≡ keyIn t name) (is-slot : i ≡ slotIn from slots t key) (there : getD t i 0 ≡ key) where
-  pub told-none : placeAt slots t i ≡ 0 → child name f ≡ none
-  told-none e = put .none name (has-key from slots t name key i is-key is-slot there) (sym (number-for from slots t name key i is-key is-slot) ∙ e) ∙ child-none name
-
-  module _ (some-place : 2 ≤ placeAt slots t i) where
-    pub told-here : from ≤ i → i < from + slots → eqList name (nameOf (drop (placeAt slots t i - 2) d)) ≡ true → FoundAt d f name (placeAt slots t i - 2)
-    told-here a b e = last-here d f (placeAt slots t i - 2) 1 (put .last i a b some-place) (omega arith) name e
-
-    pub told-other : eqList name (nameOf (drop (placeAt slots t i - 2) d)) ≡ false → child name f ≡ none
-    told-other e =
-        let n = number-for from slots t name key i is-key is-slot in
-        put .one name (has-key from slots t name key i is-key is-slot there) (subst (λ (x : ℕ). 2 ≤ x) n some-place) (subst (λ (x : ℕ). eqList name (nameOf (drop (x - 2) d)) ≡ false) n e)
-        ∙ child-none name

@@ -1,28 +1,23 @@
 -- Laws of the array: what is known of it as it changes.
-use mathlib.Core.Path.{_≡_, refl, sym, ap, _∙_}
+use mathlib.Core.Path.{_≡_, refl, ap, _∙_}
 use mathlib.Core.List.{List}
-use mathlib.Core.Bool.{true, false, not}
+use mathlib.Core.Bool.{true}
 use Prim.Native.Nat.{ℕ, _+_, _*_, _-_, _≤_, _<_}
 use native.Mathlib.Omega.{arith}
 use lib.ListN.{length, getD, set, drop, length-set}
 use lib.Seq.{getD-set-same, getD-set-other}
 use lib.Dec.{eqb}
-use borrow.Author.Tests.{eqb-true, eqb-false, not-true}
-use Rattle.format.specs.Bytes.{eqList}
 use Rattle.format.specs.Records.{Forest, nil}
 use Rattle.format.specs.Layout.{distinct}
-use Rattle.format_laws.proofs.Tests.{by-test, and-inv₃}
+use Rattle.format_laws.proofs.Tests.{by-test}
 use Rattle.tree_nodes.specs.Flat.{treesLength, nameOf, Reads}
-use Rattle.tree_table.specs.Keys.{keyIn, slotIn, isOf, SeedOnly}
+use Rattle.tree_table.specs.Keys.{keyIn, SeedOnly}
 use Rattle.tree_table.proofs.Slots.{set-zero}
-use Rattle.tree_search.specs.declared.child.Child.the-variants as C
-use Rattle.tree_search.specs.declared.child.Answer.the-variants as A
 use Rattle.tree_search.specs.declared.table.Region.{Region}
 use Rattle.tree_search.specs.declared.table.Region.the-variants as R
-use Rattle.tree_search.specs.Siblings.{Told}
-use Rattle.tree_search.specs.Table.{slotFor, placeAt, withPlace, Inside, PutDown, TableKnown, RowKnown, Known, Vacant, firstSlot, slotsOf, listOf}
+use Rattle.tree_search.specs.Table.{slotFor, placeAt, withPlace, Inside, PutDown, TableKnown, Known, Vacant, firstSlot, slotsOf, listOf}
 use Rattle.tree_search.proofs.Frames.{slot-first, slot-last, table-stays, row-stays}
-use Rattle.tree_search.proofs.Places.{SameKeys, Placing, put-same, clear-inside, place-inside, placing-start, placing-on, placing-end, told-none, told-here, told-other}
+use Rattle.tree_search.proofs.Places.{SameKeys, Placing, put-same, clear-inside, place-inside, placing-start, placing-on, placing-end}
 
 -- ---- where a table is
 
@@ -289,60 +284,3 @@ module _ (d t u : List ℕ) (seed : SeedOnly t u) where
         (seed-same (4102 + j * 3 + 1) (λ x y. omega arith))
         (known .rows j l);
   }
-
--- ---- what a table tells of a name
-
--- it is of the k siblings at a place
-module _ (t : List ℕ) (list at k : ℕ) (of : isOf t list at k ≡ true) where
-  of-parts : (eqb k 0 ≡ false) × (eqb (getD t list 0) at ≡ true) × (eqb (getD t (list + 1) 0) k ≡ true)
-  unfolding isOf
-  of-parts = let i = and-inv₃ (not (eqb k 0)) (eqb (getD t list 0) at) (eqb (getD t (list + 1) 0) k) of in (not-true _ (i .0), i .1, i .2)
-
-  pub of-place : getD t list 0 ≡ at
-  of-place = eqb-true _ _ (of-parts .1)
-
-  pub of-number : getD t (list + 1) 0 ≡ k
-  of-number = eqb-true _ _ (of-parts .2)
-
-  pub of-some : 1 ≤ getD t (list + 1) 0
-  of-some = let z : k ≡ 0 → ⊥ = eqb-false k 0 (of-parts .0) in omega (arith, of-number)
-
--- the name's key is in slot i
-module _ (region : Region) (d t : List ℕ) (known : Known d t) (at k : ℕ) (name : List ℕ) (list from slots key i : ℕ)
-    (is-list : list ≡ listOf region) (is-from : from ≡ firstSlot region) (is-slots : slots ≡ slotsOf region)
-    (of : isOf t list at k ≡ true) (is-key : key ≡ keyIn t name) (is-slot : i ≡ slotIn from slots t key) (least : from ≤ i) (most : i < from + slots) where
-  table-is : TableKnown from slots list d t
-  table-is = rw (is-list, is-from, is-slots) (known-table region d t known)
-
-  inside-is : Inside from slots d at t
-  inside-is = let e = of-place t list at k of in let x = table-is .inside (of-some t list at k of) in rw e at x
-
-  put-is : (f : Forest) (m : ℕ) → distinct f ≡ true → Reads (drop at d) f k m → PutDown from slots d f t nil
-  put-is f m differ r = table-is .is (of-some t list at k of) f m differ (rw (of-place t list at k of, of-number t list at k of) r)
-
-  -- what is put down there lies in the data
-  pub number-most : placeAt slots t i ≤ length d + 2
-  number-most = inside-is .most i least most
-
-  module _ (there : getD t i 0 ≡ key) where
-    pub tells-none : at ≤ length d → placeAt slots t i ≡ 0 → Told d at k name (A.Known C.Missing)
-    tells-none l e = record {
-      least = l;
-      most = omega arith;
-      is = λ f m differ r. told-none from slots d t f (put-is f m differ r) name key i is-key is-slot there e;
-    }
-
-    module _ (some-place : 2 ≤ placeAt slots t i) where
-      pub tells-here : eqList name (nameOf (drop (placeAt slots t i - 2) d)) ≡ true → Told d at k name (A.Known (C.Found (placeAt slots t i - 2)))
-      tells-here e = record {
-        least = omega (arith, inside-is .least i least most some-place);
-        most = omega (arith, number-most);
-        is = λ f m differ r. told-here from slots d t f (put-is f m differ r) name key i is-key is-slot there some-place least most e;
-      }
-
-      pub tells-other : at ≤ length d → eqList name (nameOf (drop (placeAt slots t i - 2) d)) ≡ false → Told d at k name (A.Known C.Missing)
-      tells-other l e = record {
-        least = l;
-        most = omega arith;
-        is = λ f m differ r. told-other from slots d t f (put-is f m differ r) name key i is-key is-slot there some-place e;
-      }

@@ -1,7 +1,10 @@
 -- The proof that `find_in_table` meets its contract.
 use mathlib.Core.Path.{sym, _∙_}
+use Prim.Native.Nat.{_+_}
+use lib.ListN.{getD}
 use native.Mathlib.Omega.{arith}
-use Rattle.tree_search.proofs.Tables.{number-most, tells-none, tells-here, tells-other}
+use borrow.Author.Tests.{not-false}
+use Rattle.tree_search.proofs.Lookup.{Tells, slot-tells, tells-none, tells-here, tells-other}
 use borrow.Author.Needs.{needs}
 use Rattle.tree_search.proofs.table.find_in_table.Statement.{statement}
 use Rattle.tree_search.proofs.table.find_in_table.Tie as tie
@@ -45,11 +48,17 @@ mul-number c = search needs
 element-copy-out-number : tie.Need-element-copy-out-number
 element-copy-out-number c = search needs
 
+number-tells : (c : tie.Else2) → Tells (c .before .before .before .before .before .before .before .before .before .before .before .args .d .now) (c .before .before .before .before .before .before .before .before .before .before .before .args .at) (c .before .before .before .before .before .before .before .before .before .before .before .args .k) (c .before .before .before .before .before .before .before .before .before .before .before .args .name .now) (getD (c .before .before .before .before .before .before .before .before .before .before .before .args .t .now) (c .before .before .before .before .slots-of .result + c .before .before .slot-of .result) 0)
+number-tells c =
+    let st = c .before .before .before .before .before .before .before .before .before .before .before in
+    let slot = c .before .before .slot-of .ensures in
+    slot-tells (st .args .region) _ _ (st .pre .2) _ _ _ _ _ _ _ _ (c .before .before .before .before .before .before .before .before .list-of .ensures .0) (c .before .before .before .first-slot .ensures .0) (c .before .before .before .before .slots-of .ensures .0)
+    (sym (c .before .before .before .before .before .before .before .is-of .ensures) ∙ not-false _ (c .before .before .before .before .before .before .if1 .left)) (c .before .before .before .before .before .key-of .ensures .0) (slot .0) (slot .1) (slot .2) (c .if2 .left)
+
 returns-3 : tie.Need-returns-3
 returns-3 c =
     let st = c .before .before .before .before .before .before .before .before .before .before .before .before .before in
-    tells-none _ _ _ (st .pre .2) _ _ _ _ _ _ _ _ (c .before .before .before .before .before .before .before .before .before .before .list-of .ensures .0) (c .before .before .before .before .before .first-slot .ensures .0) (c .before .before .before .before .before .before .slots-of .ensures .0)
-    (sym (c .before .before .before .before .before .before .before .before .before .is-of .ensures) ∙ c .before .before .before .before .before .before .before .before .if1 .left) (c .before .before .before .before .before .before .before .key-of .ensures .0) (c .before .before .before .before .slot-of .ensures .0) (c .before .before .before .before .slot-of .ensures .1) (c .before .before .before .before .slot-of .ensures .2) (c .before .before .if2 .left) (st .pre .0) (c .if3 .taken)
+    tells-none _ _ _ _ _ (number-tells (c .before .before)) (st .pre .0) (c .if3 .taken)
 
 returns-4 : tie.Need-returns-4
 returns-4 c = search needs
@@ -61,13 +70,17 @@ sub-place : tie.Need-sub-place
 sub-place c = search needs
 
 is-named-requires : tie.Need-is-named-requires
-is-named-requires c κs = ?
+is-named-requires c κs = omega (arith, c .place-of .ensures, number-tells (c .before .before .before .before) .most)
 
 returns-5 : tie.Need-returns-5
-returns-5 c = ?
+returns-5 c =
+    rw (c .before .before .place-of .ensures)
+    (tells-here _ _ _ _ _ (number-tells (c .before .before .before .before .before .before)) (omega arith) (sym (rw (c .before .before .place-of .ensures) at (c .before .is-named .ensures)) ∙ c .if5 .taken))
 
 returns-6 : tie.Need-returns-6
-returns-6 c = ?
+returns-6 c =
+    let st = c .before .before .before .before .before .before .before .before .before .before .before .before .before .before .before .before .before in
+    tells-other _ _ _ _ _ (number-tells (c .before .before .before .before .before .before)) (omega arith) (st .pre .0) (sym (rw (c .before .before .place-of .ensures) at (c .before .is-named .ensures)) ∙ c .if5 .left)
 
 pub find-in-table-spec : {M : Type 1} → statement M
 find-in-table-spec =

@@ -31,8 +31,7 @@ element-write-t c = search needs
 
 returns-2 : tie.Need-returns-2
 returns-2 c =
-    let slot = c .before .before .slot-of .ensures in
-    (
+    let slot = c .before .before .slot-of .ensures in (
       omega arith,
       vacant-stays _ _ _ (set-cell _ _ _ _ (omega arith) (omega arith)) (c .before .before .before .before .before .before .pre),
       known-stays _ _ _ (set-cell _ _ _ _ (omega arith) (omega arith)) (c .before .before .before .before .before .before .pre),

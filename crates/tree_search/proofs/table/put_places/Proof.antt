@@ -1,14 +1,4 @@
 -- The proof that `put_places` meets its contract. The loop keeps that all siblings but the last are put down.
-use mathlib.Core.Path.{_≡_, _∙_}
-use mathlib.Core.Bool.{true}
-use Prim.Native.Nat.{ℕ, _+_, _≤_}
-use native.Mathlib.Omega.{arith}
-use lib.ListN.{length, drop}
-use Rattle.format.specs.Records.{Forest}
-use Rattle.format.specs.Layout.{distinct}
-use Rattle.tree_nodes.specs.Flat.{Reads}
-use Rattle.tree_search.specs.Table.{Inside, Known, Vacant, firstSlot, slotsOf}
-use Rattle.tree_search.proofs.Places.{Placing, placing-start, placing-on, placing-end, place-inside, clear-inside}
 use Rattle.tree_search.proofs.Tables.{Filling, filling-start, filling-on, filling-end}
 use borrow.Author.Needs.{needs}
 use Rattle.tree_search.proofs.table.put_places.Statement.{statement}
