@@ -1,10 +1,10 @@
 -- The proof that `find_in_table` meets its contract.
 use mathlib.Core.Path.{sym, _∙_}
-use Prim.Native.Nat.{_+_}
+use Prim.Native.Nat.{_+_, _-_}
 use lib.ListN.{getD}
 use native.Mathlib.Omega.{arith}
 use borrow.Author.Tests.{not-false}
-use Rattle.tree_search.proofs.Lookup.{Tells, slot-tells, tells-none, tells-here, tells-other}
+use Rattle.tree_search.proofs.Lookup.{Tells, slot-tells, tells-none, place-most, tells-here, tells-other}
 use borrow.Author.Needs.{needs}
 use Rattle.tree_search.proofs.table.find_in_table.Statement.{statement}
 use Rattle.tree_search.proofs.table.find_in_table.Tie as tie
@@ -70,17 +70,18 @@ sub-place : tie.Need-sub-place
 sub-place c = search needs
 
 is-named-requires : tie.Need-is-named-requires
-is-named-requires c κs = omega (arith, c .place-of .ensures, number-tells (c .before .before .before .before) .most)
+is-named-requires c κs = place-most _ _ _ _ _ (number-tells (c .before .before .before .before)) (omega arith) _ (omega (arith, c .place-of .ensures))
 
 returns-5 : tie.Need-returns-5
 returns-5 c =
-    rw (c .before .before .place-of .ensures)
-    (tells-here _ _ _ _ _ (number-tells (c .before .before .before .before .before .before)) (omega arith) (sym (rw (c .before .before .place-of .ensures) at (c .before .is-named .ensures)) ∙ c .if5 .taken))
+    let place = c .before .before .place-of .ensures in
+    tells-here _ _ _ _ _ (number-tells (c .before .before .before .before .before .before)) (omega arith) _ (omega arith) (sym (c .before .is-named .ensures) ∙ c .if5 .taken)
 
 returns-6 : tie.Need-returns-6
 returns-6 c =
     let st = c .before .before .before .before .before .before .before .before .before .before .before .before .before .before .before .before .before in
-    tells-other _ _ _ _ _ (number-tells (c .before .before .before .before .before .before)) (omega arith) (st .pre .0) (sym (rw (c .before .before .place-of .ensures) at (c .before .is-named .ensures)) ∙ c .if5 .left)
+    let place = c .before .before .place-of .ensures in
+    tells-other _ _ _ _ _ (number-tells (c .before .before .before .before .before .before)) (omega arith) (c .before .before .place-of .result - 2) (omega arith) (st .pre .0) (sym (c .before .is-named .ensures) ∙ c .if5 .left)
 
 pub find-in-table-spec : {M : Type 1} → statement M
 find-in-table-spec =
