@@ -1,5 +1,5 @@
 -- A table and a row of cursors are known as before where only other cells of the array change.
-use mathlib.Core.Path.{_≡_, refl, sym, ap, subst, _∙_}
+use mathlib.Core.Path.{_≡_, refl, sym, ap, _∙_}
 use mathlib.Core.List.{List}
 use Prim.Native.Nat.{ℕ, zero, suc, _+_, _*_, _-_, _%_, _≤_, _<_}
 use native.Mathlib.Nat.{mod-lt}
@@ -10,7 +10,7 @@ use borrow.Author.Tests.{eqb-false}
 use Rattle.format_laws.proofs.Tests.{by-test}
 use Rattle.tree_table.specs.Keys.{keyIn, nextSlot, probe, slotIn}
 use Rattle.tree_table.proofs.Slots.{slot-most}
-use Rattle.tree_search.specs.Table.{slotFor, placeAt, Inside, PutDown, TableKnown, Cursors, RowKnown}
+use Rattle.tree_search.specs.Table.{slotFor, placeAt, TableKnown, RowKnown}
 
 -- ---- the slot of a name
 

@@ -89,11 +89,8 @@ module _ (d : List ℕ) (at k : ℕ) (name : List ℕ) (number : ℕ) (x : Tells
 
   -- the place of one
   module _ (some : 2 ≤ number) (place : ℕ) (is : place ≡ number - 2) where
-    pub place-most : place ≤ length d
-    place-most = omega (arith, x .most)
-
     pub tells-here : eqList name (nameOf (drop place d)) ≡ true → Told d at k name (A.Known (C.Found place))
-    tells-here e = record { least = omega (arith, x .least some); most = place-most; is = λ f m differ r. rw is (x .here f m differ r some (rw is at e)) }
+    tells-here e = record { least = omega (arith, x .least some); most = omega (arith, x .most); is = λ f m differ r. rw is (x .here f m differ r some (rw is at e)) }
 
     pub tells-other : at ≤ length d → eqList name (nameOf (drop place d)) ≡ false → Told d at k name (A.Known C.Missing)
     tells-other l e = record { least = l; most = omega arith; is = λ f m differ r. x .other f m differ r some (rw is at e) }

@@ -46,9 +46,9 @@ const LISTS: usize = 4098;
 const LIST_NUMBERS: usize = 52;
 
 // Where the list of each table is: its place, then its number of siblings, 0 where there is none.
-const SHORT_LIST: usize = 4098;
+const SHORT_LIST: usize = LISTS;
 
-const LONG_LIST: usize = 4100;
+const LONG_LIST: usize = LISTS + 2;
 
 fn first_slot(region: Region) -> usize
     ensures { λ r. ⌜ (r ≡ firstSlot region) × (r ≤ 1024) ⌝ }

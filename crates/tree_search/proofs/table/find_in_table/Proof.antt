@@ -4,7 +4,7 @@ use Prim.Native.Nat.{_+_, _-_}
 use lib.ListN.{getD}
 use native.Mathlib.Omega.{arith}
 use borrow.Author.Tests.{not-false}
-use Rattle.tree_search.proofs.Lookup.{Tells, slot-tells, tells-none, place-most, tells-here, tells-other}
+use Rattle.tree_search.proofs.Lookup.{Tells, slot-tells, tells-none, tells-here, tells-other}
 use borrow.Author.Needs.{needs}
 use Rattle.tree_search.proofs.table.find_in_table.Statement.{statement}
 use Rattle.tree_search.proofs.table.find_in_table.Tie as tie
@@ -70,7 +70,7 @@ sub-place : tie.Need-sub-place
 sub-place c = search needs
 
 is-named-requires : tie.Need-is-named-requires
-is-named-requires c κs = place-most _ _ _ _ _ (number-tells (c .before .before .before .before)) (omega arith) _ (omega (arith, c .place-of .ensures))
+is-named-requires c κs = omega (arith, c .place-of .ensures, number-tells (c .before .before .before .before) .most)
 
 returns-5 : tie.Need-returns-5
 returns-5 c =
