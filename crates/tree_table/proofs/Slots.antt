@@ -129,7 +129,22 @@ module _ (from slots : ℕ) where
   unfolding slotIn
   slot-most t key some = let l : probe from slots t key (slots - 1) (key % slots) < slots = probe-most t key (slots - 1) (key % slots) (mod-lt key some) in omega arith
 
+  -- only its keys decide the slot of a key
+  module _ (t u : List ℕ) (same : (i : ℕ) → from ≤ i → i < from + slots → getD t i 0 ≡ getD u i 0) where
+    probe-same : (key n i : ℕ) → i < slots → probe from slots t key n i ≡ probe from slots u key n i
+    unfolding probe
+    probe-same key zero i l = refl
+    probe-same key (suc n) i l = rw (same (from + i) (omega arith) (omega arith), probe-same key n (nextSlot slots i) (next-most i l))
+
+    pub slot-same : (key : ℕ) → 0 < slots → slotIn from slots t key ≡ slotIn from slots u key
+    unfolding slotIn
+    slot-same key some = ap (λ (i : ℕ). from + i) (probe-same key (slots - 1) (key % slots) (mod-lt key some))
+
 -- ---- the seed decides the key, and no slot is part of it
+
+pub key-same : (t u s : List ℕ) → getD t 4096 0 ≡ getD u 4096 0 → getD t 4097 0 ≡ getD u 4097 0 → keyIn t s ≡ keyIn u s
+unfolding keyIn
+key-same t u s a b = rw (a, b)
 
 key-last : (h n : ℕ) → 0 < lastKey h n
 unfolding lastKey stepKey fold
@@ -146,8 +161,7 @@ unfolding keyIn
 key-some t s = key-from _ _ 0 s
 
 pub key-stays : (t s : List ℕ) (j x : ℕ) → j < 4096 → keyIn (set t j x) s ≡ keyIn t s
-unfolding keyIn
-key-stays t s j x l = rw (getD-set-other t j 4096 x 0 (λ e. omega arith), getD-set-other t j 4097 x 0 (λ e. omega arith))
+key-stays t s j x l = key-same (set t j x) t s (getD-set-other t j 4096 x 0 (λ e. omega arith)) (getD-set-other t j 4097 x 0 (λ e. omega arith))
 
 -- ---- numbers that were set
 
