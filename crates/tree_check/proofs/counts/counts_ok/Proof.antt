@@ -31,10 +31,10 @@ enum-known-found c = search needs
 
 walk-root-requires : tie.Need-walk-root-requires
 walk-root-requires c κs =
-    let k = c .before .before .before .before .before in
+    let k = c .before .before .before .before .before .before in
     let st = k .before .before .before .before .before .before .before in
     let is = node-is (st .args .d .now) 0 (omega arith) _ (sym (k .before .read .given .1) ∙ k .before .before .before .read-node .ensures) in
-    (is .within, st .pre .0, record { least = st .pre .1 .least; most = st .pre .1 .most; room = st .pre .1 .room })
+    (is .within, st .pre .0, record { least = st .pre .1 .least; most = st .pre .1 .most; room = st .pre .1 .room }, st .pre .2)
 
 returns : tie.Need-returns
 returns c = record {
@@ -58,13 +58,13 @@ same-length c = search needs
 
 returns-3 : tie.Need-returns-3
 returns-3 c =
-    let k = c .before .before .before .before .before .before .before .before in
+    let k = c .before .before .before .before .before .before .before .before .before in
     let w = c .before .before .walk-root .ensures in
     record {
       long = w .long;
       past = w .past;
       is = λ es m t n q₁ q₂ differ.
-          told-tidy _ t n q₂ differ _ _ (sym (k .before .read .given .1) ∙ k .before .before .before .read-node .ensures) _ (c .before .before .before .before .before .before .before .survey-trees .ensures) _ (c .before .before .before .before .before .found .given .1) _ (w .is es m q₁);
+          told-tidy _ t n q₂ differ _ _ (sym (k .before .read .given .1) ∙ k .before .before .before .read-node .ensures) _ (c .before .before .before .before .before .before .before .before .survey-trees .ensures) _ (c .before .before .before .before .before .before .found .given .1) _ (w .is es m q₁);
     }
 
 pub counts-ok-spec : {M : Type 1} → statement M
