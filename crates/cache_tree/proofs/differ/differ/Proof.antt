@@ -19,7 +19,7 @@ make-seed-requires : tie.Need-make-seed-requires Inv-loop μ-loop
 make-seed-requires c κs = search needs
 
 loop-holds : tie.Need-loop-holds Inv-loop μ-loop
-loop-holds c = (c .before .before .before .pre .0, c .make-seed .ensures ∙ c .before .before .before .pre .2, refl)
+loop-holds c = (c .before .before .before .pre .0, c .make-seed .ensures .long ∙ c .before .before .before .pre .2, refl)
 
 chunk-size-requires : tie.Need-chunk-size-requires Inv-loop μ-loop
 chunk-size-requires c κs = search needs
