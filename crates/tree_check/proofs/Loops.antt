@@ -105,7 +105,7 @@ module _ (d b work₀ : List ℕ) (above : List Directory) (work : List ℕ) (le
     pub loop-entered : Looping d b work₀ (set above level dir) work′ (level + 1) under s found
     loop-entered =
         let ready = loop-ready on in
-        let is = node-is d (part .place) (part .look .most) (part .node) (part .stands) in
+        let is = node-is d (part .place) (part .look .most) (part .node) (part .read) in
         let at = ap (λ (y : Directory). y .at) (part .is) in
         record {
           levels = length-set above level dir ∙ h .levels;

@@ -238,7 +238,7 @@ module _ (d : List ℕ) (above : List Directory) (b : List ℕ) (v : ℕ) (root 
           (w .name) (standing .next) (standing .rest) (standing .ahead) (here .long)
 
       node-here : NodeAt (part .node) (part .place) (here-found .1 .stands .own) (record { node = here-found .1 .found .root; subtrees = here-found .1 .stands .subtrees })
-      node-here = node-at (part .node) (part .place) (here-found .1 .stands .own) _ _ (here-found .1 .stands .node) (part .stands)
+      node-here = node-at (part .node) (part .place) (here-found .1 .stands .own) _ _ (here-found .1 .stands .node) (part .read)
 
       deeper : (1 ≤ 127 - level) × Levels (127 - level - 1) (here-found .1 .found .subtrees)
       deeper = child-levels (127 - level) _ (w .siblings) (here-found .1 .found) (here .levels) (here-found .1 .is)

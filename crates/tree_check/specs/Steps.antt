@@ -70,7 +70,7 @@ pub record PartEntered (d : List ℕ) (dir : Directory) (b : List ℕ) (v : ℕ)
   pub same : work′ ≡ work
   pub place : ℕ
   pub node : Node
-  pub stands : R.Good node ≡ nodeAt place (readNode 20 0 (drop place d))
+  pub read : R.Good node ≡ nodeAt place (readNode 20 0 (drop place d))
   pub look : LookedUp d (dir .at) (dir .k) (nameAt v b work (s .cursor .start) (s .cursor .len)) (s .cursor .len) (dir .q) (L.Found (below .q) place)
   pub is : below ≡ entered node (below .q) s
 

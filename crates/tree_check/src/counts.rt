@@ -18,7 +18,7 @@ ghost use lib.ListN.{length};
 ghost use Rattle.entries_run.specs.Steps.{Room};
 ghost use Rattle.tree_check.specs.Answers.{RootWalked, CountsTold};
 
-// What the walk over all entries tests of the root and of what is below it, where so many nodes below it have a count of at least 1.
+// What the walk over all entries tests of the root and of what is below it. expected is the number of nodes below it with a count of at least 1.
 fn walk_root(
     d: &[u8],
     root: Node,
@@ -47,7 +47,7 @@ fn walk_root(
     walk_directories(d, dir, expected, b, v, work, front, t)
 }
 
-// Whether the counts of the cache tree d are right for the first count entries of the body b of version v. What the array t holds is of no use here, but for its seed.
+// Whether the counts of the cache tree d are right for the first count entries of the body b of version v. Of what the array t holds only its seed is used.
 pub fn counts_ok(d: &[u8], b: &[u8], v: u32, count: u32, work: &mut [u8], t: &mut Table) -> bool
     requires { ⌜ (length (now d) ≤ 16777216) × Room (now b) (now work) × (length (now t) ≡ 4150) ⌝ }
     ensures { λ r. ⌜ CountsTold (now (d .entry)) (now (b .entry)) v count (now (work .entry)) (now (work .exit)) r ⌝ }

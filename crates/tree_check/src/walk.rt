@@ -19,7 +19,7 @@ ghost use Rattle.tree_search.specs.Table.{Known};
 ghost use Rattle.tree_check.specs.Steps.{entered, Ready, Taken, Walked};
 
 // The most levels that a tree has, the root's included.
-const LEVELS: u32 = 128;
+const LEVELS: usize = 128;
 
 // A directory that was entered: the place of its node's subtrees and their number, whether the node is valid, its count, the length of the directory's
 // name with its last "/", and how many entries were ahead when it was entered. The walk holds one for each level, so numbers have 32 bits.
@@ -116,8 +116,8 @@ fn take_part(
     }
 }
 
-// All entries ahead, of which the first is in the root's directory: whether all tests hold, and so many nodes below the root with a count of at least 1
-// were found. A directory is left where the next entry is not in it; those above it are held.
+// All entries ahead, of which the first is in the root's directory: whether all tests hold, and expected is the number of nodes below the root with a
+// count of at least 1 that were found. A directory is left where the next entry is not in it; those above it are held.
 pub(crate) fn walk_directories(
     d: &[u8],
     root: Directory,
@@ -131,7 +131,7 @@ pub(crate) fn walk_directories(
     requires { ⌜ Ready (now d) root (now b) (now work) s × Known (now d) (now t) × (root .q ≡ 0) × (root .ahead ≡ s .ahead) ⌝ }
     ensures { λ r. ⌜ Walked (now (d .entry)) root expected (now (b .entry)) v (now (work .entry)) s (now (work .exit)) r ⌝ }
 {
-    let mut above = [root; 128];
+    let mut above = [root; LEVELS];
     let mut level: u32 = 0;
     let mut dir = root;
     let mut front = s;
@@ -146,8 +146,8 @@ pub(crate) fn walk_directories(
                     ok = ok & holds;
                 }
                 Part::Entered(below) => {
-                    // No tree that was read has as many levels.
-                    if level + 1 == LEVELS {
+                    // No tree that was read gets here.
+                    if level as usize + 1 == LEVELS {
                         return false;
                     }
                     above[level as usize] = dir;

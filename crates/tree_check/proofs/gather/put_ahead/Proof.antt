@@ -14,7 +14,7 @@ use Rattle.tree_check.proofs.gather.put_ahead.Tie as tie
 
 -- keys were put, and then one more
 keys-more : (region : Region) (t₀ t t′ : List ℕ) → KeysPut region t₀ t → KeysPut region t t′ → KeysPut region t₀ t′
-keys-more region t₀ t t′ put more = record { vacant = more .vacant; stays = λ d known. more .stays d (put .stays d known) }
+keys-more region t₀ t t′ put more = record { vacant = more .vacant; known = λ d known. more .known d (put .known d known) }
 
 abbrev Inv-loop : tie.InvT-loop
 Inv-loop b v names₀ q region t₀ front₀ left₀ count₀ most names t front left count =
@@ -27,7 +27,7 @@ most-keys-requires : tie.Need-most-keys-requires Inv-loop μ-loop
 most-keys-requires c κs = search needs
 
 loop-holds : tie.Need-loop-holds Inv-loop μ-loop
-loop-holds c = let st = c .before .before .before in (st .pre .0, refl, st .pre .1, st .pre .2, omega arith, record { vacant = st .pre .3; stays = λ d known. known })
+loop-holds c = let st = c .before .before .before in (st .pre .0, refl, st .pre .1, st .pre .2, omega arith, record { vacant = st .pre .3; known = λ d known. known })
 
 put-first-requires : tie.Need-put-first-requires Inv-loop μ-loop
 put-first-requires c κs = let inv = c .before .before .before .loop .inv in (inv .0, inv .2, inv .3, inv .5 .vacant)

@@ -81,7 +81,7 @@ same-length-4 c = search needs
 returns-4 : tie.Need-returns-4
 returns-4 c =
     let look = rw (c .before .before .before .before .before .before .look2 .given .1) at (c .before .before .before .before .before .before .before .before .look-up .ensures) in
-    (record { is = rw (c .enter .ensures) record { same = refl; place = _; node = _; stands = sym (c .before .before .read .given .1) ∙ c .before .before .before .before .read-node .ensures; look = look .0; is = refl } }, look .1)
+    (record { is = rw (c .enter .ensures) record { same = refl; place = _; node = _; read = sym (c .before .before .read .given .1) ∙ c .before .before .before .before .read-node .ensures; look = look .0; is = refl } }, look .1)
 
 pub take-part-spec : {M : Type 1} → statement M
 take-part-spec =

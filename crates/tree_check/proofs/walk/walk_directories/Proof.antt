@@ -67,6 +67,9 @@ loop-again c =
 enum-known-part-2 : tie.Need-enum-known-part-2 Inv-loop μ-loop
 enum-known-part-2 c = search needs
 
+cast-if2 : tie.Need-cast-if2 Inv-loop μ-loop
+cast-if2 c = search needs
+
 add-if2 : tie.Need-add-if2 Inv-loop μ-loop
 add-if2 c = omega (arith, c .before .before .before .before .before .before .before .before .before .before .loop .inv .1 .deep)
 
@@ -188,6 +191,7 @@ walk-directories-spec =
     loop-less
     loop-again
     enum-known-part-2
+    cast-if2
     add-if2
     same-length
     returns
