@@ -41,7 +41,7 @@ fn read_nodes(d: &[u8], t: &mut Table) -> ListRead
 // The whole data but for its entry counts.
 pub fn read_tree(d: &[u8], t: &mut Table) -> TreeRead
     requires { ⌜ (length (now d) ≤ 16777216) × (length (now t) ≡ 4150) ⌝ }
-    ensures { λ r. ⌜ ((p : ℕ) → r ≡ treeOf (readShape 20 p (now (d .entry)))) ⌝ }
+    ensures { λ r. ⌜ ((p : ℕ) → r ≡ treeOf (readShape 20 p (now (d .entry)))) × (length (now (t .exit)) ≡ 4150) ⌝ }
 {
     let read = read_nodes(d, t);
     let ListRead::Good { next, nodes } = read else {

@@ -3,7 +3,7 @@ use mathlib.Core.Path.{_≡_, refl, sym, ap, subst₂, _∙_}
 use mathlib.Core.List.{List, [], _∷_, _++_, append-nil}
 use mathlib.Core.Bool.{Bool, true, false, cond}
 use mathlib.Core.Option.{some}
-use Prim.Native.Nat.{ℕ, suc, _+_, _-_, _≤_, _<_}
+use Prim.Native.Nat.{ℕ, zero, suc, _+_, _-_, _≤_, _<_}
 use native.Mathlib.Nat.{zero-add}
 use native.Mathlib.Omega.{arith}
 use lib.ListN.{length, take, drop, getElem?, length-append}
@@ -13,7 +13,7 @@ use Rattle.format.specs.Records.{Entry, Key, keyOf, start}
 use Rattle.format.specs.Reading.{Read, bad, good, bind}
 use Rattle.format.specs.Reader.{entryOf, readEntry, readEntries}
 use Rattle.format.specs.Places.{entryPlace, namePlace}
-use Rattle.format_laws.proofs.Readings.{bad-good, bind-inv, inFront, front-none, front-one, front-front, front-inv}
+use Rattle.format_laws.proofs.Readings.{bad-good, good-inv, bind-inv, inFront, front-none, front-one, front-front, front-inv}
 use Rattle.spelling.proofs.Entries.{entry-named}
 use Rattle.fields.specs.Begun.{Begun}
 use Rattle.fields.proofs.Beginnings.{begun-none, begun-name}
@@ -159,6 +159,15 @@ module _ (v : ℕ) (b : List ℕ) where
             rw (← parts) (getElem?-seam es gs _)
 
 -- ---- what callers read from answers
+
+-- how many entries are read
+pub entries-length : (w v n : ℕ) (k : Key) (p : ℕ) (s : List ℕ) (es : List Entry) (m : ℕ) → readEntries w v n k p s ≡ good es m → length es ≡ n
+unfolding readEntries
+entries-length w v zero k p s es m q = good-inv _ _ _ _ q λ es-is m-is. rw (← es-is) refl
+entries-length w v (suc n) k p s es m q =
+    bind-inv _ _ _ _ q λ e i j q₁ q₂ m-is.
+    bind-inv _ _ _ _ q₂ λ fs c d q₃ q₄ j-is.
+    good-inv _ _ _ _ q₄ λ es-is d-is. rw (← es-is) (ap suc (entries-length w v n (keyOf e) (p + i) (drop i s) fs c q₃))
 
 -- where the name begins that a step found
 found-name : (v : ℕ) (b w : List ℕ) (c : Cursor) (w′ : List ℕ) (st : Step) → Found v b w c w′ st → eqb v 4 ≡ false → st .next .start ≡ namePlace 20 (c .at) b

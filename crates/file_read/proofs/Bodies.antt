@@ -1,7 +1,7 @@
 -- Laws of the reading of a body.
 use mathlib.Core.Path.{_≡_, refl, ap, _∙_}
 use mathlib.Core.List.{List}
-use Prim.Native.Nat.{ℕ, zero, suc, _+_, _-_, _≤_}
+use Prim.Native.Nat.{ℕ, _+_, _-_, _≤_}
 use native.Mathlib.Omega.{arith}
 use lib.ListN.{length, drop}
 use lib.Seq.{drop-drop}
@@ -10,24 +10,13 @@ use Rattle.format.specs.Records as F
 use Rattle.format.specs.Layout.{Extension, trees, undos, names}
 use Rattle.format.specs.Reading.{bad, good, shift, bind}
 use Rattle.format.specs.Reader.{Contents, noneSeen, readEntries, readExtensions, readBody, first}
-use Rattle.format_laws.proofs.Readings.{good-inv, bind-inv}
 use Rattle.entries_run.specs.declared.Run.the-variants as R
 use Rattle.entries_run.specs.Steps.{runOf}
-use Rattle.entries_run.proofs.Steps.{runOf-bad, runOf-good}
+use Rattle.entries_run.proofs.Steps.{entries-length, runOf-bad, runOf-good}
 use Rattle.extensions.specs.declared.Found.{Found}
 use Rattle.extensions.specs.declared.Extended.the-variants as X
 use Rattle.extensions.specs.Steps as E
 use Rattle.file_read.specs.Contents.{Contains}
-
--- ---- how many entries are read
-
-pub entries-length : (w v n : ℕ) (k : F.Key) (p : ℕ) (s : List ℕ) (es : List F.Entry) (m : ℕ) → readEntries w v n k p s ≡ good es m → length es ≡ n
-unfolding readEntries
-entries-length w v zero k p s es m q = good-inv _ _ _ _ q λ es-is m-is. rw (← es-is) refl
-entries-length w v (suc n) k p s es m q =
-    bind-inv _ _ _ _ q λ e i j q₁ q₂ m-is.
-    bind-inv _ _ _ _ q₂ λ fs c d q₃ q₄ j-is.
-    good-inv _ _ _ _ q₄ λ es-is d-is. rw (← es-is) (ap suc (entries-length w v n (F.keyOf e) (p + i) (drop i s) fs c q₃))
 
 -- ---- the body
 

@@ -30,7 +30,7 @@ pub enum Whole {
 }
 
 // The body b of version v with so many entries.
-fn read_body(b: &[u8], v: u32, count: u32, work: &mut [u8], seed: u64) -> Whole
+fn read_body(b: &[u8], v: u32, count: u32, work: &mut [u8]) -> Whole
     requires { ⌜ Room (now b) (now work) × (count ≡ be32 (now b) 8) ⌝ }
     ensures { λ r. ⌜ WholeOf (readBody 20 v (now (b .entry))) (now (b .entry)) r × (drop 8192 (now (work .exit)) ≡ drop 8192 (now (work .entry))) ⌝ }
 {
@@ -38,7 +38,7 @@ fn read_body(b: &[u8], v: u32, count: u32, work: &mut [u8], seed: u64) -> Whole
     match run {
         Run::Bad(n, p) => Whole::Bad(n, p),
         Run::Good(end) => {
-            let read = extensions::read_extensions(b, end, v, count, work, seed);
+            let read = extensions::read_extensions(b, end, v, count, work);
             match read {
                 Extended::Bad(n, p) => Whole::Bad(n, p),
                 Extended::Good(found) => Whole::Good(Parts {
@@ -62,7 +62,7 @@ pub fn read_whole(file: &[u8], work: &mut [u8]) -> Whole
         Header::Bad(n, p) => Whole::Bad(n, p),
         Header::Good(h) => {
             let n = file.len() - 20;
-            read_body(&file[..n], h.version, h.count, work, h.seed)
+            read_body(&file[..n], h.version, h.count, work)
         }
     }
 }

@@ -19,8 +19,6 @@ use Rattle.tree_counts.specs.Judge.{says, weight, child, judge, matched, Sound}
 use Rattle.tree_counts.specs.Runs.{Passed}
 use Rattle.entries_directory.specs.Names.{sortedFrom, begins, enter}
 use Rattle.tree_check.specs.declared.walk.Directory.{Directory}
-use Rattle.tree_search.specs.Siblings.{Last}
-use Rattle.tree_check.specs.Steps.{atSibling}
 
 -- ---- the levels of a tree
 
@@ -49,7 +47,6 @@ pub record Here (d : List ℕ) (level : ℕ) (dir : Directory) (f : Forest) (q :
   pub levels : Levels (127 - level) f
   pub ahead : dir .ahead ≡ length whole
   pub sorted : sortedFrom [] whole ≡ true
-  pub last : Last d f (dir .place) (dir .left)
 
 -- below the directory q, of whose names done were passed, the one of the component c, whose node is the root of the tree t
 pub record Entrance (f : Forest) (q : List ℕ) (whole done : List (List ℕ)) (c x : List ℕ) (xs : List (List ℕ)) (t : Tree) (dir : Directory) : Type 0 where
@@ -66,7 +63,7 @@ pub record Entrance (f : Forest) (q : List ℕ) (whole done : List (List ℕ)) (
 
 -- no directory
 abbrev pub nowhere : Directory
-nowhere = record { at = 0; k = 0; valid = false; count = 0; q = 0; ahead = 0; place = 0; left = 0 }
+nowhere = record { at = 0; k = 0; valid = false; count = 0; q = 0; ahead = 0 }
 
 -- the root's directory with the siblings f₀ has all names
 pub data Walking (d : List ℕ) (above : List Directory) (root : Directory) (f₀ : Forest) (all : List (List ℕ)) :
@@ -95,11 +92,6 @@ module _ (d : List ℕ) (root : Directory) (f₀ : Forest) (all : List (List ℕ
   here-of above _ dir _ _ _ done ok found (at-root here v c o s) = here
   here-of above _ dir _ _ _ done ok found (below w g e here o s) = here
 
-  here-at : (level : ℕ) (dir : Directory) (f : Forest) (q : List ℕ) (whole : List (List ℕ)) → Here d level dir f q whole → (place left : ℕ) → Last d f place left
-      → Here d level (atSibling dir place left) f q whole
-  here-at level dir f q whole h place left last =
-      record { long = h .long; sound = h .sound; taken = h .taken; reads = h .reads; levels = h .levels; ahead = h .ahead; sorted = h .sorted; last = last }
-
   -- one part more was passed
   pub walking-moved : (above : List Directory) (level : ℕ) (dir : Directory) (f : Forest) (q : List ℕ) (whole done : List (List ℕ)) (ok : Bool) (found : ℕ)
       → Walking d above root f₀ all level dir f q whole done ok found
@@ -114,16 +106,6 @@ module _ (d : List ℕ) (root : Directory) (f₀ : Forest) (all : List (List ℕ
       below w g e here
       (i ∙ ap (λ (y : Bool). y && holds) o ∙ and-assoc up-ok (judge (dir .valid) done (t .subtrees)) holds ∙ ap (λ (y : Bool). up-ok && y) (sym j))
       sum
-
-  -- the last sibling that was found is another
-  pub walking-at : (above : List Directory) (level : ℕ) (dir : Directory) (f : Forest) (q : List ℕ) (whole done : List (List ℕ)) (ok : Bool) (found : ℕ)
-      → Walking d above root f₀ all level dir f q whole done ok found
-      → (place left : ℕ) → Last d f place left → Walking d above root f₀ all level (atSibling dir place left) f q whole done ok found
-  walking-at above _ dir _ _ _ done ok found (at-root here v c o s) place left last = at-root (here-at 0 dir _ _ _ here place left last) v c o s
-  walking-at above _ dir _ _ _ done ok found (below w g e here o s) place left last =
-      below w g
-      (record { passed = e .passed; in-it = e .in-it; plain = e .plain; part = e .part; found = e .found; is-valid = e .is-valid; agrees = e .agrees; weighs = e .weighs })
-      (here-at _ dir _ _ _ here place left last) o s
 
   -- a directory is held on a level further down
   pub walking-held : (above : List Directory) (i : ℕ) (y : Directory) (level : ℕ) (dir : Directory) (f : Forest) (q : List ℕ) (whole done : List (List ℕ)) (ok : Bool) (found : ℕ)

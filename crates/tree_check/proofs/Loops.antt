@@ -14,21 +14,21 @@ use Rattle.entries_directory.specs.declared.Front.{Front}
 use Rattle.entries_directory.specs.Ahead.{Fits}
 use Rattle.entries_directory.proofs.Ahead.{stays-some, stays-long}
 use Rattle.tree_check.specs.declared.walk.Directory.{Directory}
-use Rattle.tree_check.specs.Steps.{entered, atSibling, Placed, Ready, PartPassed, PartEntered}
+use Rattle.tree_check.specs.Steps.{entered, Ready, PartPassed, PartEntered}
 use Rattle.tree_check.proofs.Levels.{nowhere}
 use Rattle.tree_check.proofs.Turns.{turns, turns-most, turns-passed, turns-entered, turns-left}
 use Rattle.tree_check.proofs.Walks.{inDirectory}
 
 -- a directory above, where so many entries are ahead, and so many were when the one below was entered
 pub record Held (d : List ℕ) (ahead entry : ℕ) (up : Directory) : Type 0 where
-  pub placed : Placed d up
+  pub inside : up .at ≤ length d
   pub most : ahead ≤ up .ahead
   pub less : ahead < entry → ahead < up .ahead
 
 pub record Looping (d b work₀ : List ℕ) (above : List Directory) (work : List ℕ) (level : ℕ) (dir : Directory) (s : Front) (found : ℕ) : Type 0 where
   pub levels : length above ≡ 128
   pub deep : level ≤ 127
-  pub placed : Placed d dir
+  pub inside : dir .at ≤ length d
   pub small : length d ≤ 16777216
   pub fits : Fits b s
   pub few : s .ahead < 4294967296
@@ -45,7 +45,7 @@ pub loop-start : (d b work : List ℕ) (above : List Directory) (root : Director
 loop-start d b work above root s ready same levels = record {
   levels = levels;
   deep = omega arith;
-  placed = ready .placed;
+  inside = ready .inside;
   small = ready .small;
   fits = ready .fits;
   few = ready .few;
@@ -65,53 +65,52 @@ module _ (d b work₀ : List ℕ) (above : List Directory) (work : List ℕ) (le
       or-inv (eqb (s .ahead) (dir .ahead)) (ltb 0 (s .ahead) && leb (dir .q) (s .common)) on
       (λ e. h .fresh (eqb-true (s .ahead) (dir .ahead) e))
       (λ e. (stays-some s (dir .q) e, stays-long b s (dir .q) (h .fits) e)) in
-      record { placed = h .placed; small = h .small; fits = h .fits; few = h .few; room = h .room; some = first .0; long = first .1 }
+      record { inside = h .inside; small = h .small; fits = h .fits; few = h .few; room = h .room; some = first .0; long = first .1 }
 
   pub loop-passed : (v : ℕ) (work′ : List ℕ) (holds : Bool) (r : Front) → PartPassed d dir b v work s work′ holds r → Looping d b work₀ above work′ level dir r found
   loop-passed v work′ holds r part = record {
     levels = h .levels;
     deep = h .deep;
-    placed = h .placed;
+    inside = h .inside;
     small = h .small;
     fits = part .fits;
     few = omega (arith, part .less, h .few);
     room = omega (arith, part .long, h .room);
     most = omega (arith, part .less, h .most);
     fresh = λ e. absurd (omega (arith, part .less, h .most));
-    held = λ j l. record { placed = h .held j l .placed; most = omega (arith, part .less, h .held j l .most); less = λ e. omega (arith, part .less, h .held j l .most) };
+    held = λ j l. record { inside = h .held j l .inside; most = omega (arith, part .less, h .held j l .most); less = λ e. omega (arith, part .less, h .held j l .most) };
     sum = omega (arith, h .sum, turns-passed (s .ahead) (r .ahead) (dir .ahead) level (part .less) (h .deep));
     long = part .long ∙ h .long;
     past = part .past ∙ h .past;
   }
 
-  module _ (v : ℕ) (work′ : List ℕ) (under : Directory) (place left : ℕ) (part : PartEntered d dir b v work s work′ under place left) (on : inDirectory dir s ≡ true) (more : level < 127) where
+  module _ (v : ℕ) (work′ : List ℕ) (under : Directory) (part : PartEntered d dir b v work s work′ under) (on : inDirectory dir s ≡ true) (more : level < 127) where
     same-ahead : under .ahead ≡ s .ahead
     same-ahead = ap (λ (y : Directory). y .ahead) (part .is)
 
     pub less-entered : turns (s .ahead) (under .ahead) (level + 1) < turns (s .ahead) (dir .ahead) level
     less-entered = rw same-ahead (turns-entered (s .ahead) (dir .ahead) level more)
 
-    held-entered : (j : ℕ) → j < level + 1 → Held d (s .ahead) (under .ahead) (getD (set above level (atSibling dir place left)) j nowhere)
+    held-entered : (j : ℕ) → j < level + 1 → Held d (s .ahead) (under .ahead) (getD (set above level dir) j nowhere)
     held-entered j l =
         by-test (eqb j level)
         (λ e.
-        rw (eqb-true j level e, getD-set-same above level (atSibling dir place left) nowhere (omega (arith, h .levels)))
-        record { placed = record { least = part .look .least; most = part .look .most }; most = h .most; less = λ x. absurd (omega (arith, same-ahead)) })
+        rw (eqb-true j level e, getD-set-same above level dir nowhere (omega (arith, h .levels)))
+        record { inside = h .inside; most = h .most; less = λ x. absurd (omega (arith, same-ahead)) })
         (λ e.
         let other = eqb-false j level e in
         let up = h .held j (omega (arith, other)) in
-        rw (getD-set-other above level j (atSibling dir place left) nowhere other) record { placed = up .placed; most = up .most; less = λ x. absurd (omega (arith, same-ahead)) })
+        rw (getD-set-other above level j dir nowhere other) record { inside = up .inside; most = up .most; less = λ x. absurd (omega (arith, same-ahead)) })
 
-    pub loop-entered : Looping d b work₀ (set above level (atSibling dir place left)) work′ (level + 1) under s found
+    pub loop-entered : Looping d b work₀ (set above level dir) work′ (level + 1) under s found
     loop-entered =
         let ready = loop-ready on in
-        let is = node-is d place (part .look .most) (part .node) (part .stands) in
+        let is = node-is d (part .place) (part .look .most) (part .node) (part .read) in
         let at = ap (λ (y : Directory). y .at) (part .is) in
-        let start = ap (λ (y : Directory). y .place) (part .is) in
         record {
-          levels = length-set above level (atSibling dir place left) ∙ h .levels;
+          levels = length-set above level dir ∙ h .levels;
           deep = omega arith;
-          placed = record { least = omega (arith, at, start); most = omega (arith, start, is .within) };
+          inside = omega (arith, at, is .within);
           small = h .small;
           fits = h .fits;
           few = h .few;
@@ -141,7 +140,7 @@ module _ (d b work₀ : List ℕ) (above : List Directory) (work : List ℕ) (le
     loop-left some n one = record {
       levels = h .levels;
       deep = omega (arith, h .deep);
-      placed = h .held (level - 1) (omega arith) .placed;
+      inside = h .held (level - 1) (omega arith) .inside;
       small = h .small;
       fits = h .fits;
       few = h .few;
@@ -150,7 +149,7 @@ module _ (d b work₀ : List ℕ) (above : List Directory) (work : List ℕ) (le
       fresh = λ e. absurd (omega (arith, above-before some));
       held = λ j l.
           let up = h .held j (omega arith) in
-          record { placed = up .placed; most = up .most; less = λ e. up .less entered-before };
+          record { inside = up .inside; most = up .most; less = λ e. up .less entered-before };
       sum = omega (arith, h .sum, less-left some);
       long = h .long;
       past = h .past;

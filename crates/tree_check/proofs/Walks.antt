@@ -2,54 +2,46 @@
 use mathlib.Core.Path.{_≡_, refl, sym, ap, ap₂, subst, _∙_}
 use mathlib.Core.List.{List, [], _∷_}
 use mathlib.Core.Bool.{Bool, true, false, cond, _&&_, _||_, and-true, and-comm}
-use Prim.Native.Nat.{ℕ, zero, suc, _+_, _-_, _≤_, _<_}
+use Prim.Native.Nat.{ℕ, suc, _+_, _-_, _≤_, _<_}
 use native.Mathlib.Omega.{arith}
-use lib.ListN.{length, drop, getD, set}
+use lib.ListN.{length, drop, getD, set, length-map}
 use lib.Seq.{getD-set-same}
 use lib.Dec.{eqb, leb, ltb}
 use borrow.Author.Tests.{eqb-true, eq-eqb}
 use Rattle.format.specs.Records as F
-use Rattle.format.specs.Layout.{bit, isValid, distinct, names}
+use Rattle.format.specs.Layout.{bit, isValid, names}
 use Rattle.format.specs.Reading.{good}
-use Rattle.format.specs.Reader.{readEntries, readForest}
+use Rattle.format.specs.Reader.{readForest}
 use Rattle.format_laws.proofs.Tests.{by-test, false-true, or-inv}
 use Rattle.format_laws.proofs.Lists.{drop-to}
-use Rattle.format_laws.proofs.Readings.{none-some, good-inv, bind-inv}
-use Rattle.tree_nodes.specs.Flat.{reads-none}
 use Rattle.tree_nodes.proofs.Flat.{Levels, forest-shape}
 use Rattle.tree_nodes.proofs.Trees.{NodeAt, node-at, reads-at}
-use Rattle.tree_counts.specs.Judge.{says, weight, child, judge, matched, Sound}
+use Rattle.tree_counts.specs.Judge.{says, weight, judge, matched, Sound}
 use Rattle.tree_counts.specs.Runs.{Passed}
 use Rattle.tree_counts.proofs.Walk.{child-sound, judge-start, matched-start}
 use Rattle.tree_counts.proofs.Runs.{passed-start, passed-end}
+use Rattle.entries_run.proofs.Steps.{entries-length}
 use Rattle.entries_directory.specs.Names.{sortedFrom, begins, leads, span, beyond, within, enter}
 use Rattle.entries_directory.specs.declared.Front.{Front}
 use Rattle.entries_directory.specs.Ahead.{Ahead, After, after-none, after-some, Left}
 use Rattle.entries_directory.proofs.Ahead.{stays-is, stays-in}
 use Rattle.entries_directory.proofs.Directory.{first-least}
 use Rattle.entries_directory.proofs.Runs.{within-top}
-use Rattle.tree_search.specs.Siblings.{Last, FoundAt}
+use Rattle.tree_search.specs.Siblings.{FoundAt}
 use Rattle.tree_check.specs.declared.look.Look.the-variants as L
 use Rattle.tree_check.specs.declared.walk.Directory.{Directory}
 use Rattle.tree_check.specs.Components.{component, Component}
-use Rattle.tree_check.specs.Steps.{entered, atSibling, PartPassed, PartEntered}
+use Rattle.tree_check.specs.Steps.{entered, PartPassed, PartEntered}
 use Rattle.tree_check.proofs.Nodes.{node-says, node-weighs}
 use Rattle.tree_check.proofs.Parts.{looked, part-lacks, part-under, part-length}
 use Rattle.tree_check.proofs.Steps.{part-in, moved-found}
-use Rattle.tree_check.proofs.Levels.{child-levels, Here, nowhere, Walking, at-root, below, here-of, walking-moved, walking-at, walking-held}
+use Rattle.tree_check.proofs.Levels.{child-levels, Here, nowhere, Walking, at-root, below, here-of, walking-moved, walking-held}
 
 -- ---- how many names are ahead
 
-entries-length : (w v n : ℕ) (k : F.Key) (p : ℕ) (s : List ℕ) (es : List F.Entry) (m : ℕ) → readEntries w v n k p s ≡ good es m → length (names es) ≡ n
-unfolding readEntries names
-entries-length w v zero k p s es m q = good-inv _ _ _ _ q λ es-is m-is. rw (← es-is) refl
-entries-length w v (suc n) k p s es m q =
-    bind-inv _ _ _ _ q λ e i j q₁ q₂ m-is.
-    bind-inv _ _ _ _ q₂ λ fs c d q₃ q₄ j-is.
-    good-inv _ _ _ _ q₄ λ es-is d-is. rw (← es-is) (ap suc (entries-length w v n (F.keyOf e) (p + i) (drop i s) fs c q₃))
-
 ahead-length : (v : ℕ) (b work : List ℕ) (s : Front) (x : List ℕ) (xs : List (List ℕ)) → Ahead v b work s x xs → s .ahead ≡ length (x ∷ xs)
-ahead-length v b work s x xs h = omega (arith, h .some, entries-length _ _ _ _ _ _ _ _ (h .reads), ap length (h .rest))
+unfolding names
+ahead-length v b work s x xs h = omega (arith, h .some, entries-length _ _ _ _ _ _ _ _ (h .reads), length-map (h .entries) (λ (e : F.Entry). e .name), ap length (h .rest))
 
 after-length : (v : ℕ) (b work : List ℕ) (s : Front) (last : List ℕ) (xs : List (List ℕ)) → After v b work s last xs → s .ahead ≡ length xs
 after-length v b work s last _ (after-none z) = z
@@ -184,10 +176,6 @@ module _ (d : List ℕ) (above : List Directory) (b : List ℕ) (v : ℕ) (root 
       ∙ ap (λ (y : Bool). cond (root .valid) (eqb (root .count) (length all)) true && (judge (root .valid) all f₀ && y)) sums
   end-at _ dir _ _ _ done ok found (below w g e h o sum) ended z agrees r expected agrees-is r-is = absurd (omega arith)
 
-last-none : (d : List ℕ) (f : F.Forest) (place left : ℕ) → left ≡ 0 → Last d f place left
-unfolding distinct child
-last-none d f place left z = rw z (record { siblings = F.nil; taken = 0; reads = reads-none; differ = refl; part = λ name t e. none-some e })
-
 sorted-all : (v : ℕ) (b work : List ℕ) (s : Front) (x : List ℕ) (xs : List (List ℕ)) → Ahead v b work s x xs → sortedFrom [] (x ∷ xs) ≡ true
 unfolding sortedFrom
 sorted-all v b work s x xs h = rw (first-least x) (h .sorted)
@@ -196,10 +184,10 @@ begins-all : (x : List ℕ) → begins [] x ≡ true
 unfolding begins
 begins-all x = refl
 
-pub walk-start : (d : List ℕ) (above : List Directory) (b : List ℕ) (v : ℕ) (work : List ℕ) (root : Directory) (s : Front) → root .q ≡ 0 → root .ahead ≡ s .ahead → root .left ≡ 0
+pub walk-start : (d : List ℕ) (above : List Directory) (b : List ℕ) (v : ℕ) (work : List ℕ) (root : Directory) (s : Front) → root .q ≡ 0 → root .ahead ≡ s .ahead
     → (f : F.Forest) (n : ℕ) → Sound f → readForest 20 0 127 (root .k) (drop (root .at) d) ≡ good f n
     → (x : List ℕ) (xs : List (List ℕ)) → Ahead v b work s x xs → Walk d above b v root f (x ∷ xs) work 0 root s true 0
-walk-start d above b v work root s z same none-left f n sound reads x xs ahead =
+walk-start d above b v work root s z same f n sound reads x xs ahead =
     let shape = forest-shape 127 (root .k) (drop (root .at) d) f n reads in
     record {
       siblings = f;
@@ -215,7 +203,6 @@ walk-start d above b v work root s z same none-left f n sound reads x xs ahead =
             levels = shape .1;
             ahead = same ∙ ahead-length v b work s x xs ahead;
             sorted = sorted-all v b work s x xs ahead;
-            last = last-none d f (root .place) (root .left) none-left;
           })
           refl refl (sym (judge-start (root .valid) f)) (sym (matched-start f));
       position = fresh (sym same) ahead (begins-all x);
@@ -233,7 +220,7 @@ module _ (d : List ℕ) (above : List Directory) (b : List ℕ) (v : ℕ) (root 
     pub walk-passed : (holds : Bool) (r : Front) → PartPassed d dir b v work s work′ holds r → s .ahead ≤ dir .ahead
         → Walk d above b v root f₀ all work′ level dir r (ok && holds) found
     walk-passed holds r part most =
-        let m = part .moved (w .siblings) (here .taken) (here .sound) (here .reads) (here .last) (w .name) (standing .next) (standing .rest) (standing .ahead) (standing .in-it) (here .long) (w .whole) (w .done) (standing .passed) in
+        let m = part .moved (w .siblings) (here .taken) (here .sound) (here .reads) (w .name) (standing .next) (standing .rest) (standing .ahead) (standing .in-it) (here .long) (w .whole) (w .done) (standing .passed) in
         let same : found ≡ found + 0 = omega arith in
         record {
           siblings = w .siblings;
@@ -244,23 +231,23 @@ module _ (d : List ℕ) (above : List Directory) (b : List ℕ) (v : ℕ) (root 
           position = later (omega (arith, part .less)) (m .passed) (m .in-it) (m .after);
         }
 
-    module _ (under : Directory) (place left : ℕ) (part : PartEntered d dir b v work s work′ under place left) where
-      here-found : Component (length (w .name)) (standing .next) (under .q) × FoundAt d (w .siblings) (component (drop (length (w .name)) (standing .next))) place left
+    module _ (under : Directory) (part : PartEntered d dir b v work s work′ under) where
+      here-found : Component (length (w .name)) (standing .next) (under .q) × FoundAt d (w .siblings) (component (drop (length (w .name)) (standing .next))) (part .place)
       here-found =
-          looked d dir b v work s (L.Found (under .q) place left) (part .look) (w .siblings) (here .taken) (here .sound) (here .reads) (here .last)
+          looked d dir b v work s (L.Found (under .q) (part .place)) (part .look) (w .siblings) (here .taken) (here .sound) (here .reads)
           (w .name) (standing .next) (standing .rest) (standing .ahead) (here .long)
 
-      node-here : NodeAt (part .node) place (here-found .1 .stands .own) (record { node = here-found .1 .found .root; subtrees = here-found .1 .stands .subtrees })
-      node-here = node-at (part .node) place (here-found .1 .stands .own) _ _ (here-found .1 .stands .node) (part .stands)
+      node-here : NodeAt (part .node) (part .place) (here-found .1 .stands .own) (record { node = here-found .1 .found .root; subtrees = here-found .1 .stands .subtrees })
+      node-here = node-at (part .node) (part .place) (here-found .1 .stands .own) _ _ (here-found .1 .stands .node) (part .read)
 
       deeper : (1 ≤ 127 - level) × Levels (127 - level - 1) (here-found .1 .found .subtrees)
       deeper = child-levels (127 - level) _ (w .siblings) (here-found .1 .found) (here .levels) (here-found .1 .is)
 
-      pub walk-full : level ≡ 127 → ⊥
+      pub walk-full : level + 1 ≡ 128 → ⊥
       walk-full deep = omega (arith, deeper .0)
 
       entered-walk : length above ≡ 128 → level < 127
-          → Walk d (set above level (atSibling dir place left)) b v root f₀ all work (suc level) (entered (part .node) (under .q) s) s ok found
+          → Walk d (set above level dir) b v root f₀ all work (suc level) (entered (part .node) (under .q) s) s ok found
       entered-walk room most =
           let c = component (drop (length (w .name)) (standing .next)) in
           let t = here-found .1 .found in
@@ -273,9 +260,8 @@ module _ (d : List ℕ) (above : List Directory) (b : List ℕ) (v : ℕ) (root 
             whole = standing .next ∷ standing .rest;
             done = [];
             walking = below
-                (walking-held d root f₀ all above level (atSibling dir place left) level (atSibling dir place left) (w .siblings) (w .name) (w .whole) (w .done) ok found
-                (walking-at d root f₀ all above level dir (w .siblings) (w .name) (w .whole) (w .done) ok found (w .walking) place left (here-found .1 .last)) (omega arith))
-                (getD-set-same above level (atSibling dir place left) nowhere (omega (arith, room)))
+                (walking-held d root f₀ all above level dir level dir (w .siblings) (w .name) (w .whole) (w .done) ok found (w .walking) (omega arith))
+                (getD-set-same above level dir nowhere (omega (arith, room)))
                 (record {
                   passed = standing .passed;
                   in-it = standing .in-it;
@@ -290,23 +276,22 @@ module _ (d : List ℕ) (above : List Directory) (b : List ℕ) (v : ℕ) (root 
                   long = part-length (w .name) (standing .next) (under .q) (here-found .0);
                   sound = child-sound c (w .siblings) t (here .sound) (here-found .1 .is);
                   taken = here-found .1 .stands .below;
-                  reads = reads-at _ _ _ _ _ _ (here-found .1 .stands .kids) (drop-to d place (here-found .1 .stands .own) (part .node .next) (node-here .next)) (sym (node-here .subtrees));
+                  reads = reads-at _ _ _ _ _ _ (here-found .1 .stands .kids) (drop-to d (part .place) (here-found .1 .stands .own) (part .node .next) (node-here .next)) (sym (node-here .subtrees));
                   levels = subst (λ (n : ℕ). Levels n (t .subtrees)) level-down (deeper .1);
                   ahead = ahead-length v b work s (standing .next) (standing .rest) (standing .ahead);
                   sorted = sorted-all v b work s (standing .next) (standing .rest) (standing .ahead);
-                  last = last-none d (t .subtrees) (part .node .next) 0 refl;
                 })
                 (sym (ap (λ (y : Bool). ok && y) (judge-start (part .node .valid) (t .subtrees)) ∙ and-true ok))
                 sum;
             position = fresh refl (standing .ahead) (part-in (w .name) c (standing .next) (standing .in-it) inner);
           }
 
-      pub walk-entered : length above ≡ 128 → level < 127 → Walk d (set above level (atSibling dir place left)) b v root f₀ all work′ (level + 1) under s ok found
+      pub walk-entered : length above ≡ 128 → level < 127 → Walk d (set above level dir) b v root f₀ all work′ (level + 1) under s ok found
       walk-entered room most =
           let up : suc level ≡ level + 1 = omega arith in
           rw (part .same)
-          (subst (λ (n : ℕ). Walk d (set above level (atSibling dir place left)) b v root f₀ all work n under s ok found) up
-          (subst (λ (y : Directory). Walk d (set above level (atSibling dir place left)) b v root f₀ all work (suc level) y s ok found) (sym (part .is)) (entered-walk room most)))
+          (subst (λ (n : ℕ). Walk d (set above level dir) b v root f₀ all work n under s ok found) up
+          (subst (λ (y : Directory). Walk d (set above level dir) b v root f₀ all work (suc level) y s ok found) (sym (part .is)) (entered-walk room most)))
 
   module _ (off : inDirectory dir s ≡ false) where
     ended : Ended v b work s dir (w .name) (w .whole) (w .done)

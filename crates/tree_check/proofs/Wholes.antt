@@ -129,8 +129,8 @@ module _ (d : List ℕ) (t : Tree) (n : ℕ) (q : readNodes 20 0 d ≡ good t n)
   parts : TreeRead d t
   parts = tree-read d t n q
 
-  pub told-none {ℓ} : {X : Type ℓ} → R.Bad ≡ nodeAt 0 (readNode 20 0 (drop 0 d)) → X
-  told-none e = absurd (no-bad 0 (parts .own) _ _ (parts .node) e)
+  pub answer-none {ℓ} : {X : Type ℓ} → R.Bad ≡ nodeAt 0 (readNode 20 0 (drop 0 d)) → X
+  answer-none e = absurd (no-bad 0 (parts .own) _ _ (parts .node) e)
 
   module _ (root : Node) (is : R.Good root ≡ nodeAt 0 (readNode 20 0 (drop 0 d))) where
     root-here : NodeAt root 0 (parts .own) (record { node = t .root; subtrees = parts .subtrees })
@@ -145,15 +145,15 @@ module _ (d : List ℕ) (t : Tree) (n : ℕ) (q : readNodes 20 0 d ≡ good t n)
       survey-here : found ≡ surveyOf (isValid (t .root .count)) (t .subtrees)
       survey-here = survey (t .subtrees) (parts .below) (forest-reads _ _ _ _ _ below-root) ∙ ap (λ (v : Bool). surveyOf v (t .subtrees)) (root-here .is-valid)
 
-      pub told-untidy : found ≡ S.Untidy → false ≡ okTreeCounts ns t
-      told-untidy e =
+      pub answer-untidy : found ≡ S.Untidy → false ≡ okTreeCounts ns t
+      answer-untidy e =
           sym (counts-parts ns t sound-tree ∙ rw (survey-untidy _ _ (sym e ∙ survey-here)) (and-false (says (t .root .count) (length ns))))
 
-      pub told-tidy : (met : ℕ) → found ≡ S.Tidy met → (r : Bool)
+      pub answer-tidy : (met : ℕ) → found ≡ S.Tidy met → (r : Bool)
           → ((f : Forest) (m : ℕ) → Sound f → readForest 20 0 127 (root .subtrees) (drop (root .next) d) ≡ good f m
           → r ≡ (cond (root .valid) (eqb (root .count) (length ns)) true && (judge (root .valid) ns f && eqb (matched ns f) met)))
           → r ≡ okTreeCounts ns t
-      told-tidy met e r walk =
+      answer-tidy met e r walk =
           let (tidily, sum) = survey-tidy _ _ met (sym e ∙ survey-here) in
           walk (t .subtrees) (parts .below) sound-tree below-root
           ∙ rw (node-says _ _ _ _ root-here (length ns), root-here .is-valid)

@@ -22,7 +22,6 @@ use Rattle.tree_check.specs.declared.look.Look.the-variants as L
 use Rattle.tree_check.specs.declared.walk.Directory.{Directory}
 use Rattle.tree_check.specs.declared.walk.Part.{Part}
 use Rattle.tree_check.specs.declared.walk.Part.the-variants as P
-use Rattle.tree_search.specs.Siblings.{Last}
 use Rattle.entries_directory.specs.Ahead.{Fits, Ahead, After}
 use Rattle.tree_check.specs.Components.{LookedUp}
 
@@ -30,20 +29,11 @@ use Rattle.tree_check.specs.Components.{LookedUp}
 
 -- the one of a node, with a name of q bytes
 abbrev pub entered : Node → ℕ → Front → Directory
-entered node q s = record { at = node .next; k = node .subtrees; valid = node .valid; count = node .count; q = q; ahead = s .ahead; place = node .next; left = 0 }
+entered node q s = record { at = node .next; k = node .subtrees; valid = node .valid; count = node .count; q = q; ahead = s .ahead }
 
--- the same where the last of its siblings, so many in number, stand at a place
-abbrev pub atSibling : Directory → ℕ → ℕ → Directory
-atSibling dir place left = record { at = dir .at; k = dir .k; valid = dir .valid; count = dir .count; q = dir .q; ahead = dir .ahead; place = place; left = left }
-
--- its places are in the data d
-pub record Placed (d : List ℕ) (dir : Directory) : Type 0 where
-  pub least : dir .at ≤ dir .place
-  pub most : dir .place ≤ length d
-
--- and the entries ahead, of which the first has as many bytes as its name
+-- its subtrees are in the data d, and the first of the entries ahead has as many bytes as its name
 pub record Ready (d : List ℕ) (dir : Directory) (b work : List ℕ) (s : Front) : Type 0 where
-  pub placed : Placed d dir
+  pub inside : dir .at ≤ length d
   pub small : length d ≤ 16777216
   pub fits : Fits b s
   pub few : s .ahead < 4294967296
@@ -70,22 +60,23 @@ pub record PartPassed (d : List ℕ) (dir : Directory) (b : List ℕ) (v : ℕ) 
   pub less : r .ahead < s .ahead
   pub long : length work′ ≡ length work
   pub past : drop 8192 work′ ≡ drop 8192 work
-  pub moved : (f : Forest) (m : ℕ) → Sound f → Reads (drop (dir .at) d) f (dir .k) m → Last d f (dir .place) (dir .left)
+  pub moved : (f : Forest) (m : ℕ) → Sound f → Reads (drop (dir .at) d) f (dir .k) m
       → (p x : List ℕ) (xs : List (List ℕ)) → Ahead v b work s x xs → begins p x ≡ true → length p ≡ dir .q
       → (whole done : List (List ℕ)) → Passed f p whole done (x ∷ xs)
       → Moved (dir .valid) f p whole done v b work′ holds 0 r
 
--- it is in the directory below of a node that stands at a place; so many siblings there are from it on
-pub record PartEntered (d : List ℕ) (dir : Directory) (b : List ℕ) (v : ℕ) (work : List ℕ) (s : Front) (work′ : List ℕ) (below : Directory) (place left : ℕ) : Type 0 where
+-- it is in the directory below, of the node at a place
+pub record PartEntered (d : List ℕ) (dir : Directory) (b : List ℕ) (v : ℕ) (work : List ℕ) (s : Front) (work′ : List ℕ) (below : Directory) : Type 0 where
   pub same : work′ ≡ work
+  pub place : ℕ
   pub node : Node
-  pub stands : R.Good node ≡ nodeAt place (readNode 20 0 (drop place d))
-  pub look : LookedUp d (dir .at) (dir .k) (dir .place) (dir .left) (nameAt v b work (s .cursor .start) (s .cursor .len)) (s .cursor .len) (dir .q) (L.Found (below .q) place left)
+  pub read : R.Good node ≡ nodeAt place (readNode 20 0 (drop place d))
+  pub look : LookedUp d (dir .at) (dir .k) (nameAt v b work (s .cursor .start) (s .cursor .len)) (s .cursor .len) (dir .q) (L.Found (below .q) place)
   pub is : below ≡ entered node (below .q) s
 
 abbrev pub takenBy : List ℕ → Directory → List ℕ → ℕ → List ℕ → Front → List ℕ → Part → Type 0
 takenBy d dir b v work s work′ (P.Passed holds r) = PartPassed d dir b v work s work′ holds r
-takenBy d dir b v work s work′ (P.Entered below place left) = PartEntered d dir b v work s work′ below place left
+takenBy d dir b v work s work′ (P.Entered below) = PartEntered d dir b v work s work′ below
 
 pub record Taken (d : List ℕ) (dir : Directory) (b : List ℕ) (v : ℕ) (work : List ℕ) (s : Front) (work′ : List ℕ) (part : Part) : Type 0 where
   pub is : takenBy d dir b v work s work′ part

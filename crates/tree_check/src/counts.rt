@@ -1,7 +1,6 @@
 // Whether the counts of a cache tree are right: refusal 16.
 use crate::survey::Survey;
 use crate::survey::survey_trees;
-use crate::walk::Directory;
 use crate::walk::agrees;
 use crate::walk::enter;
 use crate::walk::walk_directories;
@@ -12,36 +11,14 @@ use tree_nodes::node::Node;
 use tree_nodes::node::NodeRead;
 use tree_nodes::node::read_node;
 use tree_search::table::reset;
+use tree_table::Table;
 ghost use mathlib.Core.Path.{_≡_};
 ghost use Prim.Native.Nat.{_≤_};
 ghost use lib.ListN.{length};
 ghost use Rattle.entries_run.specs.Steps.{Room};
 ghost use Rattle.tree_check.specs.Answers.{RootWalked, CountsTold};
-ghost use Rattle.tree_check.specs.Steps.{Ready, Walked};
 
-// The walk over all entries, with the tables for it. The seed is any number.
-fn walk_all(
-    d: &[u8],
-    root: Directory,
-    expected: u32,
-    b: &[u8],
-    v: u32,
-    work: &mut [u8],
-    s: Front,
-    seed: u64,
-) -> bool
-    requires { ⌜ Ready (now d) root (now b) (now work) s × (root .q ≡ 0) × (root .ahead ≡ s .ahead) × (root .left ≡ 0) ⌝ }
-    ensures { λ r. ⌜ Walked (now (d .entry)) root expected (now (b .entry)) v (now (work .entry)) s (now (work .exit)) r ⌝ }
-{
-    let mut near = [0u32; 2053];
-    let mut far = [0u32; 2053];
-    let m = (seed % 4294967296) as u32;
-    reset(&mut near, m);
-    reset(&mut far, m);
-    walk_directories(d, root, expected, b, v, work, s, &mut near, &mut far)
-}
-
-// What the walk over all entries tests of the root and of what is below it, where so many nodes below it have a count of at least 1.
+// What the walk over all entries tests of the root and of what is below it. expected is the number of nodes below it with a count of at least 1.
 fn walk_root(
     d: &[u8],
     root: Node,
@@ -50,9 +27,9 @@ fn walk_root(
     v: u32,
     count: u32,
     work: &mut [u8],
-    seed: u64,
+    t: &mut Table,
 ) -> bool
-    requires { ⌜ (root .next ≤ length (now d)) × (length (now d) ≤ 16777216) × Room (now b) (now work) ⌝ }
+    requires { ⌜ (root .next ≤ length (now d)) × (length (now d) ≤ 16777216) × Room (now b) (now work) × (length (now t) ≡ 4150) ⌝ }
     ensures { λ r. ⌜ RootWalked (now (d .entry)) root expected (now (b .entry)) v count (now (work .entry)) (now (work .exit)) r ⌝ }
 {
     let c = first();
@@ -66,12 +43,13 @@ fn walk_root(
     if front.ahead == 0 {
         return agrees(dir, front) & (expected == 0);
     }
-    walk_all(d, dir, expected, b, v, work, front, seed)
+    reset(t);
+    walk_directories(d, dir, expected, b, v, work, front, t)
 }
 
-// Whether the counts of the cache tree d are right for the first count entries of the body b of version v. The seed is any number.
-pub fn counts_ok(d: &[u8], b: &[u8], v: u32, count: u32, work: &mut [u8], seed: u64) -> bool
-    requires { ⌜ (length (now d) ≤ 16777216) × Room (now b) (now work) ⌝ }
+// Whether the counts of the cache tree d are right for the first count entries of the body b of version v. Of what the array t holds only its seed is used.
+pub fn counts_ok(d: &[u8], b: &[u8], v: u32, count: u32, work: &mut [u8], t: &mut Table) -> bool
+    requires { ⌜ (length (now d) ≤ 16777216) × Room (now b) (now work) × (length (now t) ≡ 4150) ⌝ }
     ensures { λ r. ⌜ CountsTold (now (d .entry)) (now (b .entry)) v count (now (work .entry)) (now (work .exit)) r ⌝ }
 {
     let read = read_node(d, 0);
@@ -81,7 +59,7 @@ pub fn counts_ok(d: &[u8], b: &[u8], v: u32, count: u32, work: &mut [u8], seed: 
             let found = survey_trees(d, root.next, root.subtrees, root.valid);
             match found {
                 Survey::Untidy => false,
-                Survey::Tidy(expected) => walk_root(d, root, expected, b, v, count, work, seed),
+                Survey::Tidy(expected) => walk_root(d, root, expected, b, v, count, work, t),
             }
         }
     }

@@ -9,18 +9,20 @@ use entries_directory::stays;
 use tree_nodes::node::Node;
 use tree_nodes::node::NodeRead;
 use tree_nodes::node::read_node;
-use tree_search::keys::Table;
+use tree_table::Table;
 ghost use mathlib.Core.Path.{_≡_};
 ghost use mathlib.Core.Bool.{true, cond, _&&_, _||_};
 ghost use Prim.Native.Nat.{_-_, _≤_, _<_};
 ghost use lib.ListN.{length};
 ghost use lib.Dec.{eqb, leb, ltb};
 ghost use Rattle.tree_search.specs.Table.{Known};
-ghost use Rattle.tree_check.specs.Steps.{entered, atSibling, Ready, Taken, Walked};
+ghost use Rattle.tree_check.specs.Steps.{entered, Ready, Taken, Walked};
+
+// The most levels that a tree has, the root's included.
+const LEVELS: usize = 128;
 
 // A directory that was entered: the place of its node's subtrees and their number, whether the node is valid, its count, the length of the directory's
-// name with its last "/", how many entries were ahead when it was entered, and a hint to look_up: the last so many of the subtrees stand at another
-// place. The walk holds one for each level, so numbers have 32 bits.
+// name with its last "/", and how many entries were ahead when it was entered. The walk holds one for each level, so numbers have 32 bits.
 pub struct Directory {
     pub at: u32,
     pub k: u32,
@@ -28,15 +30,12 @@ pub struct Directory {
     pub count: u32,
     pub q: u32,
     pub ahead: u32,
-    pub place: u32,
-    pub left: u32,
 }
 
-// A part of a directory's entries: it was passed, whether its test holds, and what is ahead of it; or it is in a directory that is entered, where the
-// node of that stands, and how many siblings there are from it on.
+// A part of a directory's entries: it was passed, whether its test holds, and what is ahead of it; or it is in a directory that is entered.
 pub enum Part {
     Passed(bool, Front),
-    Entered(Directory, u32, u32),
+    Entered(Directory),
 }
 
 // The directory of a node, with a name of q bytes. Its entries are ahead.
@@ -51,24 +50,6 @@ pub(crate) fn enter(node: Node, q: usize, s: Front) -> Directory
         count: node.count,
         q: q as u32,
         ahead: s.ahead as u32,
-        place: node.next as u32,
-        left: 0,
-    }
-}
-
-// The same directory, where the last sibling that was found stands at a place.
-fn at_sibling(dir: Directory, place: u32, left: u32) -> Directory
-    ensures { λ r. ⌜ r ≡ atSibling dir place left ⌝ }
-{
-    Directory {
-        at: dir.at,
-        k: dir.k,
-        valid: dir.valid,
-        count: dir.count,
-        q: dir.q,
-        ahead: dir.ahead,
-        place: place,
-        left: left,
     }
 }
 
@@ -110,46 +91,33 @@ fn ended(s: Front) -> Front
 fn take_part(
     d: &[u8],
     dir: Directory,
+    level: u32,
     b: &[u8],
     v: u32,
     work: &mut [u8],
     s: Front,
-    near: &mut Table,
-    far: &mut Table,
+    t: &mut Table,
 ) -> Part
-    requires { ⌜ Ready (now d) dir (now b) (now work) s × Known (now d) (now near) × Known (now d) (now far) ⌝ }
-    ensures { λ r. ⌜ Taken (now (d .entry)) dir (now (b .entry)) v (now (work .entry)) s (now (work .exit)) r × Known (now (d .entry)) (now (near .exit)) × Known (now (d .entry)) (now (far .exit)) ⌝ }
+    requires { ⌜ Ready (now d) dir (now b) (now work) s × Known (now d) (now t) ⌝ }
+    ensures { λ r. ⌜ Taken (now (d .entry)) dir (now (b .entry)) v (now (work .entry)) s (now (work .exit)) r × Known (now (d .entry)) (now (t .exit)) ⌝ }
 {
     let q = dir.q as usize;
-    let look = look_up(
-        d,
-        dir.at as usize,
-        dir.k,
-        dir.place as usize,
-        dir.left,
-        b,
-        v,
-        &work[..],
-        q,
-        s,
-        near,
-        far,
-    );
+    let look = look_up(d, dir.at as usize, dir.k, level, b, v, &work[..], q, s, t);
     match look {
         Look::File => Part::Passed(true, pass_files(b, v, work, s, q)),
         Look::Missing(e) => Part::Passed(!dir.valid, pass(b, v, work, s, e)),
-        Look::Found(e, p, l) => {
+        Look::Found(e, p) => {
             let read = read_node(d, p);
             match read {
                 NodeRead::Bad => Part::Passed(false, ended(s)),
-                NodeRead::Good(node) => Part::Entered(enter(node, e, s), p as u32, l),
+                NodeRead::Good(node) => Part::Entered(enter(node, e, s)),
             }
         }
     }
 }
 
-// All entries ahead, of which the first is in the root's directory: whether all tests hold, and so many nodes below the root with a count of at least 1
-// were found. A directory is left where the next entry is not in it; those above it are held.
+// All entries ahead, of which the first is in the root's directory: whether all tests hold, and expected is the number of nodes below the root with a
+// count of at least 1 that were found. A directory is left where the next entry is not in it; those above it are held.
 pub(crate) fn walk_directories(
     d: &[u8],
     root: Directory,
@@ -158,13 +126,12 @@ pub(crate) fn walk_directories(
     v: u32,
     work: &mut [u8],
     s: Front,
-    near: &mut Table,
-    far: &mut Table,
+    t: &mut Table,
 ) -> bool
-    requires { ⌜ Ready (now d) root (now b) (now work) s × Known (now d) (now near) × Known (now d) (now far) × (root .q ≡ 0) × (root .ahead ≡ s .ahead) × (root .left ≡ 0) ⌝ }
+    requires { ⌜ Ready (now d) root (now b) (now work) s × Known (now d) (now t) × (root .q ≡ 0) × (root .ahead ≡ s .ahead) ⌝ }
     ensures { λ r. ⌜ Walked (now (d .entry)) root expected (now (b .entry)) v (now (work .entry)) s (now (work .exit)) r ⌝ }
 {
-    let mut above = [root; 128];
+    let mut above = [root; LEVELS];
     let mut level: u32 = 0;
     let mut dir = root;
     let mut front = s;
@@ -172,17 +139,18 @@ pub(crate) fn walk_directories(
     let mut found: u64 = 0;
     loop {
         if is_in(dir, front) {
-            let part = take_part(d, dir, b, v, &mut *work, front, &mut *near, &mut *far);
+            let part = take_part(d, dir, level, b, v, &mut *work, front, &mut *t);
             match part {
                 Part::Passed(holds, next) => {
                     front = next;
                     ok = ok & holds;
                 }
-                Part::Entered(below, place, left) => {
-                    if level == 127 {
+                Part::Entered(below) => {
+                    // No tree that was read gets here.
+                    if level as usize + 1 == LEVELS {
                         return false;
                     }
-                    above[level as usize] = at_sibling(dir, place, left);
+                    above[level as usize] = dir;
                     level += 1;
                     dir = below;
                 }

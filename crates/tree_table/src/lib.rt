@@ -7,9 +7,12 @@ ghost use Prim.Native.Nat.{ℕ, _+_, _*_, _%_, _≤_, _<_};
 ghost use lib.ListN.{length, getD, set};
 ghost use Rattle.tree_table.specs.Keys.{stepKey, lastKey, keyIn, nextSlot, slotIn, SeedOnly, isOf};
 
+// How many numbers the array of a table has.
+pub const NUMBERS: usize = 4150;
+
 // While a tree is read: KEYS slots. While entries are walked over: two smaller tables and rows of cursors in their stead (tree_search says where). After
 // them the seed, then the lists of siblings that these tables and rows are of.
-pub type Table = [u32; 4150];
+pub type Table = [u32; NUMBERS];
 
 // The slots: 16 KiB, which fit the first cache of a processor.
 pub const KEYS: usize = 4096;

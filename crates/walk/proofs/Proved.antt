@@ -17,7 +17,7 @@ use Rattle.hash.specs.Sha1.{sha1}
 use Rattle.answers.specs.Answers.{tooSmall, pick, given, entryAnswer}
 use Rattle.answers.proofs.Laws.{item-none}
 use Rattle.file_read.proofs.Files.{file-says}
-use Rattle.file_read.proofs.Bodies.{entries-length}
+use Rattle.entries_run.proofs.Steps.{entries-length}
 use Rattle.walk.specs.declared.Started.the-variants.{Refused, Ready}
 use Rattle.walk.specs.Walks.{startedOf, startAnswer, walkable}
 use Rattle.walk.proofs.Steps.{steps-show, steps-named, steps-show-all}

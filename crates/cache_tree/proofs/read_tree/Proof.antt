@@ -19,13 +19,13 @@ enum-told : tie.Need-enum-told
 enum-told c = search needs
 
 returns : tie.Need-returns
-returns c = answered _ _ (tree-no-nodes _ (sym (c .enum-told .given .1) ∙ c .before .before .read-nodes .ensures .0))
+returns c = (answered _ _ (tree-no-nodes _ (sym (c .enum-told .given .1) ∙ c .before .before .read-nodes .ensures .0)), c .before .before .read-nodes .ensures .1)
 
 returns-2 : tie.Need-returns-2
-returns-2 c = answered _ _ (tree-longer _ _ _ (nodes-of (c .before)) (c .if1 .taken))
+returns-2 c = (answered _ _ (tree-longer _ _ _ (nodes-of (c .before)) (c .if1 .taken)), c .before .before .before .before .read-nodes .ensures .1)
 
 returns-3 : tie.Need-returns-3
-returns-3 c = answered _ _ (tree-shaped _ _ _ (nodes-of (c .before)) (omega arith))
+returns-3 c = (answered _ _ (tree-shaped _ _ _ (nodes-of (c .before)) (omega arith)), c .before .before .before .before .read-nodes .ensures .1)
 
 pub read-tree-spec : {M : Type 1} → statement M
 read-tree-spec =

@@ -47,19 +47,19 @@ same-length c = search needs
 
 returns-2 : tie.Need-returns-2
 returns-2 c =
-    let k = c .before .before .before in
-    let st = c .before .before .before .before .before .before .before .before .before .before .before .before .before .before .before .before in
+    let k = c .before .before .before .counts-ok .ensures in
+    let st = c .before .before .before .before .before .before .before .before .before .before .before .before .before .before .before .before .before in
     let a = st .args in
     record {
       answered =
           λ es n q.
-          tree-added (a .b .now) (a .at) (a .end) (st .pre .0) (a .found) (c .before .before .before .before .before .before .before .before .before .before .before .before .before .if1 .left) _ _ _
-          (λ p. sym (c .before .before .before .before .before .before .before .read .given .1) ∙ c .before .before .before .before .before .before .before .before .before .read-tree .ensures p)
-          (λ t i nodes differ. k .counts-ok .ensures .is es n t i q nodes differ)
+          tree-added (a .b .now) (a .at) (a .end) (st .pre .0) (a .found) (c .before .before .before .before .before .before .before .before .before .before .before .before .before .before .if1 .left) _ _ _
+          (λ p. sym (c .before .before .before .before .before .before .before .before .read .given .1) ∙ c .before .before .before .before .before .before .before .before .before .before .read-tree .ensures .0 p)
+          (λ t i nodes differ. k .is es n t i q nodes differ)
           (c .if2 .taken);
       inside = st .pre .0;
       long = omega arith;
-      past = k .counts-ok .ensures .past;
+      past = k .past;
     }
 
 returns-3 : tie.Need-returns-3
@@ -70,7 +70,7 @@ returns-3 c =
       answered =
           λ es n q.
           tree-refused (a .b .now) (a .at) (a .end) (st .pre .0) (a .found) (c .before .before .before .before .before .before .if1 .left) _
-          (λ p. sym (c .enum-told .given .1) ∙ c .before .before .read-tree .ensures p);
+          (λ p. sym (c .enum-told .given .1) ∙ c .before .before .read-tree .ensures .0 p);
       inside = tt;
       long = refl;
       past = refl;
@@ -81,19 +81,19 @@ same-length-2 c = search needs
 
 returns-4 : tie.Need-returns-4
 returns-4 c =
-    let k = c .before .before .before in
-    let st = c .before .before .before .before .before .before .before .before .before .before .before .before .before .before .before .before in
+    let k = c .before .before .before .counts-ok .ensures in
+    let st = c .before .before .before .before .before .before .before .before .before .before .before .before .before .before .before .before .before in
     let a = st .args in
     record {
       answered =
           λ es n q.
-          tree-miscounted (a .b .now) (a .at) (a .end) (st .pre .0) (a .found) (c .before .before .before .before .before .before .before .before .before .before .before .before .before .if1 .left) _ _ _
-          (λ p. sym (c .before .before .before .before .before .before .before .read .given .1) ∙ c .before .before .before .before .before .before .before .before .before .read-tree .ensures p)
-          (λ t i nodes differ. k .counts-ok .ensures .is es n t i q nodes differ)
+          tree-miscounted (a .b .now) (a .at) (a .end) (st .pre .0) (a .found) (c .before .before .before .before .before .before .before .before .before .before .before .before .before .before .if1 .left) _ _ _
+          (λ p. sym (c .before .before .before .before .before .before .before .before .read .given .1) ∙ c .before .before .before .before .before .before .before .before .before .before .read-tree .ensures .0 p)
+          (λ t i nodes differ. k .is es n t i q nodes differ)
           (c .if2 .left);
       inside = tt;
       long = omega arith;
-      past = k .counts-ok .ensures .past;
+      past = k .past;
     }
 
 pub add-tree-spec : {M : Type 1} → statement M

@@ -16,12 +16,12 @@ use Rattle.extensions.proofs.read_extensions.Statement.{statement}
 use Rattle.extensions.proofs.read_extensions.Tie as tie
 
 abbrev Inv-loop : tie.InvT-loop
-Inv-loop b at v count work₀ seed place₀ found₀ work place found =
+Inv-loop b at v count work₀ place₀ found₀ work place found =
     (place ≤ length b) × (length work ≡ length work₀) × (drop 8192 work ≡ drop 8192 work₀)
     × ((es : List Entry) (m : ℕ) → readEntries 20 v count start 12 (drop 12 b) ≡ good es m → Behind b (names es) at place found)
 
 abbrev μ-loop : tie.MeasureT-loop
-μ-loop b at v count work₀ seed place₀ found₀ work place found = length b - place
+μ-loop b at v count work₀ place₀ found₀ work place found = length b - place
 
 none-found-requires : tie.Need-none-found-requires Inv-loop μ-loop
 none-found-requires c κs = search needs

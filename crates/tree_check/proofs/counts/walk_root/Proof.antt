@@ -7,7 +7,6 @@ use Rattle.tree_check.proofs.Wholes.{fits-first, ahead-first, root-none
 use borrow.Author.Needs.{needs}
 use Rattle.tree_check.proofs.counts.walk_root.Statement.{statement}
 use Rattle.tree_check.proofs.counts.walk_root.Tie as tie
-use Rattle.tree_check.proofs.counts.walk_root.Reads as reads
 
 first-requires : tie.Need-first-requires
 first-requires c κs = search needs
@@ -43,14 +42,17 @@ returns c =
           root-none (x .d .now) (x .root) (x .expected) _ _ _ f _ _ _ (step .after [] _ h) (c .before .if1 .taken) _ (rw (c .before .before .before .enter .ensures) at (c .agrees .ensures)) refl;
     }
 
-walk-all-requires : tie.Need-walk-all-requires
-walk-all-requires c κs =
-    let st = c .before .before .before .before .before .before .before .before .before .before .before .before in
-    let step = rw (c .before .before .before .before .before .before .before .before .first .ensures) at (c .before .before .before .before .before .before .advance .ensures) in
-    let some = c .before .if1 .left in
-    rw (c .before .before .before .enter .ensures) (
+reset-requires : tie.Need-reset-requires
+reset-requires c κs = search needs
+
+walk-directories-requires : tie.Need-walk-directories-requires
+walk-directories-requires c κs =
+    let st = c .before .before .before .before .before .before .before .before .before .before .before .before .before .before .before in
+    let step = rw (c .before .before .before .before .before .before .before .before .before .before .before .first .ensures) at (c .before .before .before .before .before .before .before .before .before .advance .ensures) in
+    let some = c .before .before .before .before .if1 .left in
+    rw (c .before .before .before .before .before .before .enter .ensures) (
       record {
-        placed = record { least = omega arith; most = st .pre .0 };
+        inside = st .pre .0;
         small = st .pre .1;
         fits = step .fits;
         few = omega (arith, step .fewer, st .fits .count);
@@ -58,7 +60,7 @@ walk-all-requires c κs =
         some = omega (arith, some);
         long = omega arith;
       },
-      refl,
+      c .before .before .reset .ensures .0 _,
       refl,
       refl,
     )
@@ -69,17 +71,17 @@ same-length-2 c = search needs
 returns-2 : tie.Need-returns-2
 returns-2 c =
     let w = c .before .before in
-    let a = w .before .before .before .before .before .before .before in
+    let a = w .before .before .before .before .before .before .before .before .before .before in
     let x = a .before .before .before .before .before .before .args in
     let step = rw (a .before .before .first .ensures) at (a .advance .ensures) in
-    let walked = rw (w .before .before .before .before .enter .ensures) at (w .walk-all .ensures) in
+    let walked = rw (w .before .before .before .before .before .before .before .enter .ensures) at (w .walk-directories .ensures) in
     record {
       long = walked .long ∙ step .long;
       past = walked .past ∙ step .past;
       is = λ es m q f n sound reads.
           let bytes : Bytes (x .b .now) = λ i. omega (arith, a .before .before .before .before .shared-slice-known2 .given i) in
           let h = ahead-first _ _ _ _ es m bytes q in
-          root-some (x .d .now) (x .root) (x .expected) _ _ _ f _ _ _ (step .after [] _ h) (w .before .before .if1 .left) n sound reads _ walked;
+          root-some (x .d .now) (x .root) (x .expected) _ _ _ f _ _ _ (step .after [] _ h) (w .before .before .before .before .before .if1 .left) n sound reads _ walked;
     }
 
 pub walk-root-spec : {M : Type 1} → statement M
@@ -93,6 +95,7 @@ walk-root-spec =
     agrees-requires
     same-length
     returns
-    walk-all-requires
+    reset-requires
+    walk-directories-requires
     same-length-2
     returns-2)

@@ -13,9 +13,6 @@ cast-q c = search needs
 cast-look-up : tie.Need-cast-look-up
 cast-look-up c = search needs
 
-cast-look-up-2 : tie.Need-cast-look-up-2
-cast-look-up-2 c = search needs
-
 look-up-requires : tie.Need-look-up-requires
 look-up-requires c κs = search needs
 
@@ -48,15 +45,10 @@ enum-known-read c = search needs
 
 enter-requires : tie.Need-enter-requires
 enter-requires c κs =
-    let st = c .before .before .before .before .before .before .before .before .before .before .before .before .before .before .before .before .before in
+    let st = c .before .before .before .before .before .before .before .before .before .before .before .before .before .before .before in
     let look = rw (c .before .before .before .before .before .look2 .given .1) at (c .before .before .before .before .before .before .before .look-up .ensures) in
     let is = node-is _ _ (look .0 .most) _ (sym (c .before .read .given .1) ∙ c .before .before .before .read-node .ensures) in
     (omega (arith, is .within, st .pre .0 .small), omega (arith, look .0 .within, st .pre .0 .fits .inside .short), st .pre .0 .few)
-
-cast-t34 : tie.Need-cast-t34
-cast-t34 c =
-    let look = rw (c .before .before .before .before .before .before .look2 .given .1) at (c .before .before .before .before .before .before .before .before .look-up .ensures) in
-    omega (arith, look .0 .most, c .before .before .before .before .before .before .before .before .before .before .before .before .before .before .before .before .before .before .pre .0 .small)
 
 same-length : tie.Need-same-length
 same-length c = search needs
@@ -64,7 +56,7 @@ same-length c = search needs
 returns : tie.Need-returns
 returns c =
     let look = rw (c .before .before .before .before .enum-told .given .1) at (c .before .before .before .before .before .before .look-up .ensures) in
-    (record { is = part-files _ _ _ _ _ _ _ (c .before .before .before .before .before .before .before .before .before .before .before .before .before .before .before .before .pre .0) (look .0) _ (c .before .before .pass-files .ensures) }, look .1, look .2)
+    (record { is = part-files _ _ _ _ _ _ _ (c .before .before .before .before .before .before .before .before .before .before .before .before .before .before .pre .0) (look .0) _ (c .before .before .pass-files .ensures) }, look .1)
 
 same-length-2 : tie.Need-same-length-2
 same-length-2 c = search needs
@@ -72,15 +64,16 @@ same-length-2 c = search needs
 returns-2 : tie.Need-returns-2
 returns-2 c =
     let look = rw (c .before .before .before .before .before .before .look .given .1) at (c .before .before .before .before .before .before .before .before .look-up .ensures) in
-    (record { is = part-missing _ _ _ _ _ _ _ (c .before .before .before .before .before .before .before .before .before .before .before .before .before .before .before .before .before .before .pre .0) _ (look .0) _ (c .before .before .pass .ensures) }, look .1, look .2)
+    (record { is = part-missing _ _ _ _ _ _ _ (c .before .before .before .before .before .before .before .before .before .before .before .before .before .before .before .before .pre .0) _ (look .0) _ (c .before .before .pass .ensures) }, look .1)
 
 same-length-3 : tie.Need-same-length-3
 same-length-3 c = search needs
 
 returns-3 : tie.Need-returns-3
 returns-3 c =
+    let st = c .before .before .before .before .before .before .before .before .before .before .before .before .before .before .before in
     let look = rw (c .before .before .before .before .before .look2 .given .1) at (c .before .before .before .before .before .before .before .look-up .ensures) in
-    (record { is = rw (c .ended .ensures) (part-lost _ _ _ _ _ _ (c .before .before .before .before .before .before .before .before .before .before .before .before .before .before .before .before .before .args .work .now) (c .before .before .before .before .before .before .before .before .before .before .before .before .before .before .before .before .before .pre .0) _ _ _ (look .0) (sym (c .before .enum-told2 .given .1) ∙ c .before .before .before .read-node .ensures)) }, look .1, look .2)
+    (record { is = rw (c .ended .ensures) (part-lost _ _ _ _ _ _ (st .args .work .now) (st .pre .0) _ _ (look .0) (sym (c .before .enum-told2 .given .1) ∙ c .before .before .before .read-node .ensures)) }, look .1)
 
 same-length-4 : tie.Need-same-length-4
 same-length-4 c = search needs
@@ -88,7 +81,7 @@ same-length-4 c = search needs
 returns-4 : tie.Need-returns-4
 returns-4 c =
     let look = rw (c .before .before .before .before .before .before .look2 .given .1) at (c .before .before .before .before .before .before .before .before .look-up .ensures) in
-    (record { is = rw (c .enter .ensures) record { same = refl; node = _; stands = sym (c .before .before .read .given .1) ∙ c .before .before .before .before .read-node .ensures; look = look .0; is = refl } }, look .1, look .2)
+    (record { is = rw (c .enter .ensures) record { same = refl; place = _; node = _; read = sym (c .before .before .read .given .1) ∙ c .before .before .before .before .read-node .ensures; look = look .0; is = refl } }, look .1)
 
 pub take-part-spec : {M : Type 1} → statement M
 take-part-spec =
@@ -96,7 +89,6 @@ take-part-spec =
     (tie.spec
     cast-q
     cast-look-up
-    cast-look-up-2
     look-up-requires
     enum-told
     pass-files-requires
@@ -108,7 +100,6 @@ take-part-spec =
     ended-requires
     enum-known-read
     enter-requires
-    cast-t34
     same-length
     returns
     same-length-2

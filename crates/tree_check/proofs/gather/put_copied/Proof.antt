@@ -1,12 +1,12 @@
--- The proof that `gather_in` meets its contract.
+-- The proof that `put_copied` meets its contract.
 use mathlib.Core.Path.{sym}
 use Prim.Native.Nat.{_≤_}
 use native.Mathlib.Omega.{arith}
 use lib.ListN.{length}
 use lib.Seq.{length-take-le}
 use borrow.Author.Needs.{needs}
-use Rattle.tree_check.proofs.gather.gather_in.Statement.{statement}
-use Rattle.tree_check.proofs.gather.gather_in.Tie as tie
+use Rattle.tree_check.proofs.gather.put_copied.Statement.{statement}
+use Rattle.tree_check.proofs.gather.put_copied.Tie as tie
 
 slice-aggregate-copy-to : tie.Need-slice-aggregate-copy-to
 slice-aggregate-copy-to c =
@@ -22,12 +22,12 @@ copy-to-requires c κs =
     let l : st .args .s .cursor .len ≤ length (st .args .work .now) = omega (arith, i .short, st .pre .1) in
     omega (arith, length-take-le (st .args .s .cursor .len) (st .args .work .now) l, i .short, c .before .copy-to-arg .given .0 .1)
 
-want-ahead-requires : tie.Need-want-ahead-requires
-want-ahead-requires c κs = search needs
+put-ahead-requires : tie.Need-put-ahead-requires
+put-ahead-requires c κs = search needs
 
 returns : tie.Need-returns
 returns c = search needs
 
-pub gather-in-spec : {M : Type 1} → statement M
-gather-in-spec =
-    tie.close (tie.spec slice-aggregate-copy-to copy-to-requires want-ahead-requires returns)
+pub put-copied-spec : {M : Type 1} → statement M
+put-copied-spec =
+    tie.close (tie.spec slice-aggregate-copy-to copy-to-requires put-ahead-requires returns)

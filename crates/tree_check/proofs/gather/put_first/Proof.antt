@@ -1,21 +1,21 @@
--- The proof that `want_first` meets its contract.
+-- The proof that `put_first` meets its contract.
 use native.Mathlib.Omega.{arith}
 use Rattle.entries_directory.proofs.First.{fits-length}
 use borrow.Author.Needs.{needs}
-use Rattle.tree_check.proofs.gather.want_first.Statement.{statement}
-use Rattle.tree_check.proofs.gather.want_first.Tie as tie
+use Rattle.tree_check.proofs.gather.put_first.Statement.{statement}
+use Rattle.tree_check.proofs.gather.put_first.Tie as tie
 
 name-at-requires : tie.Need-name-at-requires
 name-at-requires c κs = search needs
 
-want-component-requires : tie.Need-want-component-requires
-want-component-requires c κs =
+put-component-requires : tie.Need-put-component-requires
+put-component-requires c κs =
     let st = c .before .before .before .before .before in
     let n = fits-length (st .args .v) (st .args .b .now) (st .args .work .now) (st .args .s) (st .pre .0) (st .pre .1) _ (c .before .name-at .ensures) in
-    omega (arith, n, st .pre .2)
+    (omega (arith, n, st .pre .2), st .pre .3)
 
 returns : tie.Need-returns
 returns c = search needs
 
-pub want-first-spec : {M : Type 1} → statement M
-want-first-spec = tie.close (tie.spec name-at-requires want-component-requires returns)
+pub put-first-spec : {M : Type 1} → statement M
+put-first-spec = tie.close (tie.spec name-at-requires put-component-requires returns)
