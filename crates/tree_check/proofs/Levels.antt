@@ -69,13 +69,11 @@ nowhere = record { at = 0; k = 0; valid = false; count = 0; q = 0; ahead = 0 }
 pub data Walking (d : List ℕ) (above : List Directory) (root : Directory) (f₀ : Forest) (all : List (List ℕ)) :
     ℕ → Directory → Forest → List ℕ → List (List ℕ) → List (List ℕ) → Bool → ℕ → Type 0 where
   at-root :
-      {dir : Directory} {done : List (List ℕ)} {ok : Bool} {found : ℕ} →
-      Here d 0 dir f₀ [] all →
-      dir .valid ≡ root .valid →
-      dir .count ≡ root .count →
-      ok ≡ judge (dir .valid) done f₀ →
+      {done : List (List ℕ)} {ok : Bool} {found : ℕ} →
+      Here d 0 root f₀ [] all →
+      ok ≡ judge (root .valid) done f₀ →
       found ≡ matched done f₀ →
-      Walking d above root f₀ all 0 dir f₀ [] all done ok found
+      Walking d above root f₀ all 0 root f₀ [] all done ok found
   below :
       {level : ℕ} {up dir : Directory} {f : Forest} {q c x : List ℕ} {xs whole done now-done : List (List ℕ)} {t : Tree} {ok now-ok : Bool} {found now-found : ℕ} →
       Walking d above root f₀ all level up f q whole done ok found →
@@ -89,7 +87,7 @@ pub data Walking (d : List ℕ) (above : List Directory) (root : Directory) (f�
 module _ (d : List ℕ) (root : Directory) (f₀ : Forest) (all : List (List ℕ)) where
   pub here-of : (above : List Directory) (level : ℕ) (dir : Directory) (f : Forest) (q : List ℕ) (whole done : List (List ℕ)) (ok : Bool) (found : ℕ)
       → Walking d above root f₀ all level dir f q whole done ok found → Here d level dir f q whole
-  here-of above _ dir _ _ _ done ok found (at-root here v c o s) = here
+  here-of above _ _ _ _ _ done ok found (at-root here o s) = here
   here-of above _ dir _ _ _ done ok found (below w g e here o s) = here
 
   -- one part more was passed
@@ -98,9 +96,9 @@ module _ (d : List ℕ) (root : Directory) (f₀ : Forest) (all : List (List ℕ
       → (now-done : List (List ℕ)) (holds now-ok : Bool) (n now-found : ℕ) → judge (dir .valid) now-done f ≡ (judge (dir .valid) done f && holds)
       → matched now-done f ≡ matched done f + n → now-ok ≡ (ok && holds) → now-found ≡ found + n
       → Walking d above root f₀ all level dir f q whole now-done now-ok now-found
-  walking-moved above _ dir _ _ _ done ok found (at-root here v c o s) now-done holds now-ok n now-found j m i l =
+  walking-moved above _ _ _ _ _ done ok found (at-root here o s) now-done holds now-ok n now-found j m i l =
       let sum : now-found ≡ matched now-done f₀ = omega (arith, s, m, l) in
-      at-root here v c (i ∙ ap (λ (y : Bool). y && holds) o ∙ sym j) sum
+      at-root here (i ∙ ap (λ (y : Bool). y && holds) o ∙ sym j) sum
   walking-moved above _ dir _ _ _ done ok found (below {t = t} {ok = up-ok} {found = up-found} w g e here o s) now-done holds now-ok n now-found j m i l =
       let sum : now-found ≡ up-found + matched now-done (t .subtrees) = omega (arith, s, m, l) in
       below w g e here
@@ -111,6 +109,6 @@ module _ (d : List ℕ) (root : Directory) (f₀ : Forest) (all : List (List ℕ
   pub walking-held : (above : List Directory) (i : ℕ) (y : Directory) (level : ℕ) (dir : Directory) (f : Forest) (q : List ℕ) (whole done : List (List ℕ)) (ok : Bool) (found : ℕ)
       → Walking d above root f₀ all level dir f q whole done ok found
       → level ≤ i → Walking d (set above i y) root f₀ all level dir f q whole done ok found
-  walking-held above i y _ dir _ _ _ done ok found (at-root here v c o s) most = at-root here v c o s
+  walking-held above i y _ _ _ _ _ done ok found (at-root here o s) most = at-root here o s
   walking-held above i y _ dir _ _ _ done ok found (below {level = level} w g e here o s) most =
       below (walking-held above i y _ _ _ _ _ _ _ _ w (omega arith)) (getD-set-other above i level y nowhere (λ eq. omega arith) ∙ g) e here o s

@@ -136,7 +136,7 @@ module _ (d : List ℕ) (above : List Directory) (b : List ℕ) (v : ℕ) (root 
       → (agrees : Bool) (n : ℕ) → agrees ≡ cond (dir .valid) (eqb (dir .count) (dir .ahead - s .ahead)) true → n ≡ cond (dir .valid) (bit (leb 1 (dir .count))) 0
       → s .ahead < getD above (level - 1) nowhere .ahead
       → Walk d above b v root f₀ all work (level - 1) (getD above (level - 1) nowhere) s (ok && agrees) (found + n)
-  left-at _ dir _ _ _ done ok found (at-root h v c o sum) ended some agrees n agrees-is n-is = absurd (omega arith)
+  left-at _ _ _ _ _ done ok found (at-root h o sum) ended some agrees n agrees-is n-is = absurd (omega arith)
   left-at _ dir _ _ _ done ok found (below {level = j} {up = up} {f = f} {q = q} {c = c} {x = x} {xs = xs} {whole = whole} {done = up-done} {t = t} {ok = up-ok} {found = up-found} w g e h o sum) ended some agrees n agrees-is n-is =
       let up-here = here-of d root f₀ all above j up f q whole up-done up-ok up-found w in
       let m = moved-found (up .valid) f q x xs whole up-done v b work s (e .in-it) (e .passed) (up-here .sound) c (e .plain) (e .part) (ended .left) t (e .found) [] (up-here .sorted) in
@@ -165,10 +165,10 @@ module _ (d : List ℕ) (above : List Directory) (b : List ℕ) (v : ℕ) (root 
       → Walking d above root f₀ all level dir f q whole done ok found → Ended v b work s dir q whole done → level ≡ 0
       → (agrees r : Bool) (expected : ℕ) → agrees ≡ cond (dir .valid) (eqb (dir .count) (dir .ahead - s .ahead)) true → r ≡ ((ok && agrees) && eqb found expected)
       → r ≡ (cond (root .valid) (eqb (root .count) (length all)) true && (judge (root .valid) all f₀ && eqb (matched all f₀) expected))
-  end-at _ dir _ _ _ done ok found (at-root h is-valid count o sum) ended z agrees r expected agrees-is r-is =
+  end-at _ _ _ _ _ done ok found (at-root h o sum) ended z agrees r expected agrees-is r-is =
       let top = ended .all ∙ within-top all in
-      let judged : ok ≡ judge (root .valid) all f₀ = o ∙ ap (λ (y : Bool). judge y done f₀) is-valid ∙ ap (λ (l : List (List ℕ)). judge (root .valid) l f₀) top in
-      let counted : agrees ≡ cond (root .valid) (eqb (root .count) (length all)) true = agrees-is ∙ rw (ended .count, within-top all, is-valid, count) refl in
+      let judged : ok ≡ judge (root .valid) all f₀ = o ∙ ap (λ (l : List (List ℕ)). judge (root .valid) l f₀) top in
+      let counted : agrees ≡ cond (root .valid) (eqb (root .count) (length all)) true = agrees-is ∙ rw (ended .count, within-top all) refl in
       let sums : eqb found expected ≡ eqb (matched all f₀) expected = ap (λ (i : ℕ). eqb i expected) (sum ∙ ap (λ (l : List (List ℕ)). matched l f₀) top) in
       r-is
       ∙ ap₂ (λ (y z : Bool). (y && z) && eqb found expected) judged counted
@@ -204,7 +204,7 @@ walk-start d above b v work root s z same f n sound reads x xs ahead =
             ahead = same ∙ ahead-length v b work s x xs ahead;
             sorted = sorted-all v b work s x xs ahead;
           })
-          refl refl (sym (judge-start (root .valid) f)) (sym (matched-start f));
+          (sym (judge-start (root .valid) f)) (sym (matched-start f));
       position = fresh (sym same) ahead (begins-all x);
     }
 
