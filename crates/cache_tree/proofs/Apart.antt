@@ -79,10 +79,10 @@ taken : (t x : List ℕ) → (getD t (slotFor t x) 0 ≡ 0 → ⊥) → isFree t
 unfolding isFree
 taken t x e = ne-eqb _ _ e
 
-module _ (t : List ℕ) (room : 4096 ≤ length t) (x : List ℕ) where
-  slot-in : slotFor t x < 4096
+module _ (t : List ℕ) (room : 3072 ≤ length t) (x : List ℕ) where
+  slot-in : slotFor t x < 3072
   unfolding slotFor
-  slot-in = let l : slotIn 0 4096 t (keyIn t x) < 0 + 4096 = slot-most 0 4096 t (keyIn t x) (omega arith) in omega arith
+  slot-in = let l : slotIn 0 3072 t (keyIn t x) < 0 + 3072 = slot-most 0 3072 t (keyIn t x) (omega arith) in omega arith
 
   abbrev more : List ℕ
   more = set t (slotFor t x) (keyIn t x)
@@ -94,14 +94,14 @@ module _ (t : List ℕ) (room : 4096 ≤ length t) (x : List ℕ) where
     more-own : isFree more x ≡ false
     unfolding isFree slotFor
     more-own =
-        let l : slotFor t x < 4096 = slot-in in
-        let i : slotIn 0 4096 t (keyIn t x) < length t = omega arith in
+        let l : slotFor t x < 3072 = slot-in in
+        let i : slotIn 0 3072 t (keyIn t x) < length t = omega arith in
         let k : 0 < keyIn t x = key-some t x in
-        rw (same-key x, slot-own 0 4096 t (keyIn t x) free k i) (ne-eqb (keyIn t x) 0 (λ e. omega arith))
+        rw (same-key x, slot-own 0 3072 t (keyIn t x) free k i) (ne-eqb (keyIn t x) 0 (λ e. omega arith))
 
     more-stays : (y : List ℕ) → isFree t y ≡ false → isFree more y ≡ false
     unfolding isFree slotFor
-    more-stays y e = rw (same-key y) (ne-eqb _ _ (slot-stays 0 4096 t (keyIn t x) free (keyIn t x) (keyIn t y) (eqb-false _ _ e)))
+    more-stays y e = rw (same-key y) (ne-eqb _ _ (slot-stays 0 3072 t (keyIn t x) free (keyIn t x) (keyIn t y) (eqb-false _ _ e)))
 
   put-by : (b : Bool) → isFree t x ≡ b → (isFree (cond b more t) x ≡ false) × ((y : List ℕ) → isFree t y ≡ false → isFree (cond b more t) y ≡ false)
   put-by true e = let z = free-is t x true e .0 refl in (more-own z, more-stays z)
@@ -144,10 +144,10 @@ module _ (t x : List ℕ) where
       rw (other-by y (eqList x y) refl (i .0) n) (not-held c (i .1) n)
 
 -- what the code does to the slot of a name
-module _ (t x : List ℕ) (key slot : ℕ) (is-key : key ≡ keyIn t x) (is-slot : slot ≡ slotIn 0 4096 t key) where
+module _ (t x : List ℕ) (key slot : ℕ) (is-key : key ≡ keyIn t x) (is-slot : slot ≡ slotIn 0 3072 t key) where
   slot-for : slot ≡ slotFor t x
   unfolding slotFor
-  slot-for = is-slot ∙ ap (slotIn 0 4096 t) is-key
+  slot-for = is-slot ∙ ap (slotIn 0 3072 t) is-key
 
   slot-free : (b : Bool) → eqb (getD t slot 0) 0 ≡ b → isFree t x ≡ b
   unfolding isFree
@@ -227,7 +227,7 @@ module _ (n : ℕ) (t u : List ℕ) (at : u ≡ restAfter n t) where
   pub fill-rest : (d : List ℕ) (a r : ℕ) → u ≡ drop a d → r ≡ a + treesLength 1 (drop a d) → drop r d ≡ restAfter (n + 1) t
   fill-rest d a r e is = rest-at d a r is ∙ ap restOf (sym e ∙ at) ∙ sym (after-one n t)
 
-  pub fill-held : (w v : List ℕ) → 4096 ≤ length w → v ≡ putIn w (nameOf u) → allHeld w (namesOf n t) ≡ true → allHeld v (namesOf (n + 1) t) ≡ true
+  pub fill-held : (w v : List ℕ) → 3072 ≤ length w → v ≡ putIn w (nameOf u) → allHeld w (namesOf n t) ≡ true → allHeld v (namesOf (n + 1) t) ≡ true
   fill-held w v room is a = rw is (ap (allHeld (putIn w (nameOf u))) one-more ∙ all-more w room (nameOf u) (namesOf n t) a)
 
   -- the chunk and the siblings after it

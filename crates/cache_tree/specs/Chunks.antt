@@ -12,7 +12,7 @@ use Rattle.cache_tree.specs.declared.differ.Chunk.the-variants as C
 
 -- the slot of a name among all
 unfoldable pub slotFor : List ℕ → List ℕ → ℕ
-slotFor t x = slotIn 0 4096 t (keyIn t x)
+slotFor t x = slotIn 0 3072 t (keyIn t x)
 
 -- whether it is empty: the name's key is not in the table
 unfoldable pub isFree : List ℕ → List ℕ → Bool

@@ -18,7 +18,7 @@ ghost use Rattle.tree_table.specs.Keys.{keyIn};
 ghost use Rattle.cache_tree.specs.Chunks.{putIn, allHeld, apart, Filled};
 
 // Names of a chunk: three quarters of the slots, so that a search for a slot ends after some eight of them.
-const CHUNK: u32 = 3072;
+const CHUNK: u32 = 2304;
 
 // Two names of a chunk are equal; or they differ, and this is the place after them.
 enum Chunk {
@@ -91,8 +91,8 @@ fn put(d: &[u8], y: usize, a: usize, n: u32, t: &mut Table) -> bool
 
 // The keys of the k names from a on are put in the table, unless two of these names are equal.
 fn fill(d: &[u8], a: usize, k: u32, t: &mut Table) -> Chunk
-    requires { ⌜ (a ≤ length (now d)) × (length (now d) ≤ 16777216) × (length (now t) ≡ 4150) ⌝ }
-    ensures { λ r. ⌜ (length (now (t .exit)) ≡ 4150) × Filled (now (d .entry)) a k (now (t .exit)) r ⌝ }
+    requires { ⌜ (a ≤ length (now d)) × (length (now d) ≤ 16777216) × (length (now t) ≡ 3126) ⌝ }
+    ensures { λ r. ⌜ (length (now (t .exit)) ≡ 3126) × Filled (now (d .entry)) a k (now (t .exit)) r ⌝ }
 {
     let mut y = a;
     let mut n: u32 = 0;
@@ -135,8 +135,8 @@ fn chunk_size(left: u32) -> u32
 
 // Whether the k names from a on differ.
 pub fn differ(d: &[u8], a: usize, k: u32, t: &mut Table) -> bool
-    requires { ⌜ (a ≤ length (now d)) × (length (now d) ≤ 16777216) × (length (now t) ≡ 4150) ⌝ }
-    ensures { λ r. ⌜ (r ≡ namesDiffer (namesOf k (drop a (now (d .entry))))) × (length (now (t .exit)) ≡ 4150) ⌝ }
+    requires { ⌜ (a ≤ length (now d)) × (length (now d) ≤ 16777216) × (length (now t) ≡ 3126) ⌝ }
+    ensures { λ r. ⌜ (r ≡ namesDiffer (namesOf k (drop a (now (d .entry))))) × (length (now (t .exit)) ≡ 3126) ⌝ }
 {
     make_seed(d, t);
     let mut x = a;

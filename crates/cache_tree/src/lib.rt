@@ -22,8 +22,8 @@ pub enum TreeRead {
 
 // The root, whose name is empty, and all below it.
 fn read_nodes(d: &[u8], t: &mut Table) -> ListRead
-    requires { ⌜ (length (now d) ≤ 16777216) × (length (now t) ≡ 4150) ⌝ }
-    ensures { λ r. ⌜ (r ≡ nodesAt (readDistinct (now (d .entry)))) × (length (now (t .exit)) ≡ 4150) ⌝ }
+    requires { ⌜ (length (now d) ≤ 16777216) × (length (now t) ≡ 3126) ⌝ }
+    ensures { λ r. ⌜ (r ≡ nodesAt (readDistinct (now (d .entry)))) × (length (now (t .exit)) ≡ 3126) ⌝ }
 {
     let read = read_node(d, 0);
     match read {
@@ -40,8 +40,8 @@ fn read_nodes(d: &[u8], t: &mut Table) -> ListRead
 
 // The whole data but for its entry counts.
 pub fn read_tree(d: &[u8], t: &mut Table) -> TreeRead
-    requires { ⌜ (length (now d) ≤ 16777216) × (length (now t) ≡ 4150) ⌝ }
-    ensures { λ r. ⌜ ((p : ℕ) → r ≡ treeOf (readShape 20 p (now (d .entry)))) × (length (now (t .exit)) ≡ 4150) ⌝ }
+    requires { ⌜ (length (now d) ≤ 16777216) × (length (now t) ≡ 3126) ⌝ }
+    ensures { λ r. ⌜ ((p : ℕ) → r ≡ treeOf (readShape 20 p (now (d .entry)))) × (length (now (t .exit)) ≡ 3126) ⌝ }
 {
     let read = read_nodes(d, t);
     let ListRead::Good { next, nodes } = read else {

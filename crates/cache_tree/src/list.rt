@@ -46,8 +46,8 @@ pub(crate) fn with_root(listed: ListRead) -> ListRead
 
 // The node at a place and all below it, with at most so many levels.
 pub fn read_subtree(d: &[u8], at: usize, levels: u32, t: &mut Table) -> ListRead
-    requires { ⌜ (at ≤ length (now d)) × (length (now d) ≤ 16777216) × (levels ≤ 127) × (length (now t) ≡ 4150) ⌝ }
-    ensures { λ r. ⌜ (r ≡ listAt at (tested distinctBelow (readOne levels (drop at (now (d .entry)))))) × (length (now (t .exit)) ≡ 4150) ⌝ }
+    requires { ⌜ (at ≤ length (now d)) × (length (now d) ≤ 16777216) × (levels ≤ 127) × (length (now t) ≡ 3126) ⌝ }
+    ensures { λ r. ⌜ (r ≡ listAt at (tested distinctBelow (readOne levels (drop at (now (d .entry)))))) × (length (now (t .exit)) ≡ 3126) ⌝ }
 {
     if levels == 0 {
         return ListRead::Bad;
@@ -68,8 +68,8 @@ pub fn read_subtree(d: &[u8], at: usize, levels: u32, t: &mut Table) -> ListRead
 
 // k siblings at a place and all below them, with at most so many levels. Names that rise in one of two orders differ; others are looked at again.
 pub fn read_list(d: &[u8], at: usize, levels: u32, k: u32, t: &mut Table) -> ListRead
-    requires { ⌜ (at ≤ length (now d)) × (length (now d) ≤ 16777216) × (levels ≤ 127) × (length (now t) ≡ 4150) ⌝ }
-    ensures { λ r. ⌜ (r ≡ listAt at (tested distinct (readForest 20 0 levels k (drop at (now (d .entry)))))) × (length (now (t .exit)) ≡ 4150) ⌝ }
+    requires { ⌜ (at ≤ length (now d)) × (length (now d) ≤ 16777216) × (levels ≤ 127) × (length (now t) ≡ 3126) ⌝ }
+    ensures { λ r. ⌜ (r ≡ listAt at (tested distinct (readForest 20 0 levels k (drop at (now (d .entry)))))) × (length (now (t .exit)) ≡ 3126) ⌝ }
 {
     let mut place = at;
     let mut previous = at;

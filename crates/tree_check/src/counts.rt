@@ -29,7 +29,7 @@ fn walk_root(
     work: &mut [u8],
     t: &mut Table,
 ) -> bool
-    requires { ⌜ (root .next ≤ length (now d)) × (length (now d) ≤ 16777216) × Room (now b) (now work) × (length (now t) ≡ 4150) ⌝ }
+    requires { ⌜ (root .next ≤ length (now d)) × (length (now d) ≤ 16777216) × Room (now b) (now work) × (length (now t) ≡ 3126) ⌝ }
     ensures { λ r. ⌜ RootWalked (now (d .entry)) root expected (now (b .entry)) v count (now (work .entry)) (now (work .exit)) r ⌝ }
 {
     let c = first();
@@ -49,7 +49,7 @@ fn walk_root(
 
 // Whether the counts of the cache tree d are right for the first count entries of the body b of version v. Of what the array t holds only its seed is used.
 pub fn counts_ok(d: &[u8], b: &[u8], v: u32, count: u32, work: &mut [u8], t: &mut Table) -> bool
-    requires { ⌜ (length (now d) ≤ 16777216) × Room (now b) (now work) × (length (now t) ≡ 4150) ⌝ }
+    requires { ⌜ (length (now d) ≤ 16777216) × Room (now b) (now work) × (length (now t) ≡ 3126) ⌝ }
     ensures { λ r. ⌜ CountsTold (now (d .entry)) (now (b .entry)) v count (now (work .entry)) (now (work .exit)) r ⌝ }
 {
     let read = read_node(d, 0);

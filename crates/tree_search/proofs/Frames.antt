@@ -12,8 +12,8 @@ use Rattle.tree_search.proofs.Places.{SameKeys, put-same}
 
 module _ (from slots list : ℕ) (d t t′ : List ℕ)
     (cells : (i : ℕ) → from ≤ i → i < from + slots + slots → getD t′ i 0 ≡ getD t i 0)
-    (seed : getD t′ 4096 0 ≡ getD t 4096 0)
-    (seed₁ : getD t′ 4097 0 ≡ getD t 4097 0)
+    (seed : getD t′ 3072 0 ≡ getD t 3072 0)
+    (seed₁ : getD t′ 3073 0 ≡ getD t 3073 0)
     (place : getD t′ list 0 ≡ getD t list 0)
     (number : getD t′ (list + 1) 0 ≡ getD t (list + 1) 0)
     (some : 0 < slots)
@@ -35,7 +35,7 @@ module _ (from slots list : ℕ) (d t t′ : List ℕ)
 -- ---- a row of cursors
 
 module _ (row list : ℕ) (d t t′ : List ℕ)
-    (cells : (i : ℕ) → row ≤ i → i < row + 64 → getD t′ i 0 ≡ getD t i 0)
+    (cells : (i : ℕ) → row ≤ i → i < row + 32 → getD t′ i 0 ≡ getD t i 0)
     (place : getD t′ list 0 ≡ getD t list 0)
     (number : getD t′ (list + 1) 0 ≡ getD t (list + 1) 0)
   where

@@ -25,8 +25,8 @@ use Rattle.tree_search.proofs.Siblings.{last-one, last-next, last-on}
 -- tables with the same keys and the same seed
 pub record SameKeys (from slots : ℕ) (t u : List ℕ) : Type 0 where
   pub keys : (j : ℕ) → from ≤ j → j < from + slots → getD t j 0 ≡ getD u j 0
-  pub first : getD t 4096 0 ≡ getD u 4096 0
-  pub second : getD t 4097 0 ≡ getD u 4097 0
+  pub first : getD t 3072 0 ≡ getD u 3072 0
+  pub second : getD t 3073 0 ≡ getD u 3073 0
 
 -- a pass over siblings that has come to a place: those before it were put down
 pub record Placing (from slots : ℕ) (d : List ℕ) (f : Forest) (t : List ℕ) (place left : ℕ) : Type 0 where
@@ -91,7 +91,7 @@ module _ (from slots : ℕ) (some-slots : 0 < slots) where
 
   -- ---- the table t fits an array
 
-  module _ (t : List ℕ) (fits : from + slots + slots ≤ 4096) (long : length t ≡ 4150) where
+  module _ (t : List ℕ) (fits : from + slots + slots ≤ 3072) (long : length t ≡ 3126) where
     -- the sibling at a place is put down
     module _ (d : List ℕ) (f : Forest) (place left : ℕ) (rest : Last d f place left) (some-left : 0 < left)
         (next : ℕ) (is : next ≡ place + treesLength 1 (drop place d)) (h : PutDown from slots d f t (rest .siblings)) where
@@ -132,8 +132,8 @@ module _ (from slots : ℕ) (some-slots : 0 < slots) where
         with-keys : SameKeys from slots with-it t
         with-keys = record {
           keys = λ j a b. getD-set-other t (slots + here) j v 0 (λ e. omega (arith, here-least));
-          first = getD-set-other t (slots + here) 4096 v 0 (λ e. omega (arith, here-most));
-          second = getD-set-other t (slots + here) 4097 v 0 (λ e. omega (arith, here-most));
+          first = getD-set-other t (slots + here) 3072 v 0 (λ e. omega (arith, here-most));
+          second = getD-set-other t (slots + here) 3073 v 0 (λ e. omega (arith, here-most));
         }
 
         number-here : placeAt slots with-it here ≡ v

@@ -25,15 +25,15 @@ pub region-some : (region : Region) → 0 < slotsOf region
 region-some R.Short = omega arith
 region-some R.Long = omega arith
 
-pub region-fits : (region : Region) → firstSlot region + slotsOf region + slotsOf region ≤ 3072
+pub region-fits : (region : Region) → firstSlot region + slotsOf region + slotsOf region ≤ 2560
 region-fits R.Short = omega arith
 region-fits R.Long = omega arith
 
-pub list-least : (region : Region) → 4098 ≤ listOf region
+pub list-least : (region : Region) → 3074 ≤ listOf region
 list-least R.Short = omega arith
 list-least R.Long = omega arith
 
-pub list-most : (region : Region) → listOf region ≤ 4100
+pub list-most : (region : Region) → listOf region ≤ 3076
 list-most R.Short = omega arith
 list-most R.Long = omega arith
 
@@ -49,21 +49,21 @@ known-table R.Long d t known = known .long-lists
 -- ---- the array is of no list
 
 -- a number of a list is 0
-module _ (t : List ℕ) (clear : (i : ℕ) → i < 52 → getD t (4098 + i) 0 ≡ 0) where
-  list-none : (list : ℕ) → 4098 ≤ list → list < 4150 → getD t list 0 ≡ 0
-  list-none list a b = let e : 4098 + (list - 4098) ≡ list = omega arith in ap (λ (i : ℕ). getD t i 0) (omega (arith, e)) ∙ clear (list - 4098) (omega arith)
+module _ (t : List ℕ) (clear : (i : ℕ) → i < 52 → getD t (3074 + i) 0 ≡ 0) where
+  list-none : (list : ℕ) → 3074 ≤ list → list < 3126 → getD t list 0 ≡ 0
+  list-none list a b = let e : 3074 + (list - 3074) ≡ list = omega arith in ap (λ (i : ℕ). getD t i 0) (omega (arith, e)) ∙ clear (list - 3074) (omega arith)
 
-  pub reset-known : length t ≡ 4150 → (d : List ℕ) → Known d t
+  pub reset-known : length t ≡ 3126 → (d : List ℕ) → Known d t
   reset-known long d = record {
     long = long;
-    short-lists = no-list 0 512 4098 d t (list-none 4099 (omega arith) (omega arith));
-    long-lists = no-list 1024 1024 4100 d t (list-none 4101 (omega arith) (omega arith));
-    rows = λ j l. record { is = λ some. absurd (omega (arith, list-none (4102 + j * 3 + 1) (omega arith) (omega arith))) };
+    short-lists = no-list 0 512 3074 d t (list-none 3075 (omega arith) (omega arith));
+    long-lists = no-list 1024 768 3076 d t (list-none 3077 (omega arith) (omega arith));
+    rows = λ j l. record { is = λ some. absurd (omega (arith, list-none (3078 + j * 3 + 1) (omega arith) (omega arith))) };
   }
 
-  pub reset-vacant : length t ≡ 4150 → (region : Region) → Vacant region t
-  reset-vacant long R.Short = record { long = long; none = list-none 4099 (omega arith) (omega arith) }
-  reset-vacant long R.Long = record { long = long; none = list-none 4101 (omega arith) (omega arith) }
+  pub reset-vacant : length t ≡ 3126 → (region : Region) → Vacant region t
+  reset-vacant long R.Short = record { long = long; none = list-none 3075 (omega arith) (omega arith) }
+  reset-vacant long R.Long = record { long = long; none = list-none 3077 (omega arith) (omega arith) }
 
 -- ---- only cells of one table and of its list change
 
@@ -77,32 +77,32 @@ known-within R.Short d t t′ w table known = record {
   long = w .long ∙ known .long;
   short-lists = table;
   long-lists =
-      table-stays 1024 1024 4100 d t t′ (λ i a b. w .same i (λ x y. omega arith) (λ e. omega arith) (λ e. omega arith))
-      (w .same 4096 (λ x y. omega arith) (λ e. omega arith) (λ e. omega arith))
-      (w .same 4097 (λ x y. omega arith) (λ e. omega arith) (λ e. omega arith))
-      (w .same 4100 (λ x y. omega arith) (λ e. omega arith) (λ e. omega arith))
-      (w .same 4101 (λ x y. omega arith) (λ e. omega arith) (λ e. omega arith))
+      table-stays 1024 768 3076 d t t′ (λ i a b. w .same i (λ x y. omega arith) (λ e. omega arith) (λ e. omega arith))
+      (w .same 3072 (λ x y. omega arith) (λ e. omega arith) (λ e. omega arith))
+      (w .same 3073 (λ x y. omega arith) (λ e. omega arith) (λ e. omega arith))
+      (w .same 3076 (λ x y. omega arith) (λ e. omega arith) (λ e. omega arith))
+      (w .same 3077 (λ x y. omega arith) (λ e. omega arith) (λ e. omega arith))
       (omega arith) (known .long-lists);
   rows = λ j l.
-      row-stays (3072 + j * 64) (4102 + j * 3) d t t′ (λ i a b. w .same i (λ x y. omega arith) (λ e. omega arith) (λ e. omega arith))
-      (w .same (4102 + j * 3) (λ x y. omega arith) (λ e. omega arith) (λ e. omega arith))
-      (w .same (4102 + j * 3 + 1) (λ x y. omega arith) (λ e. omega arith) (λ e. omega arith))
+      row-stays (2560 + j * 32) (3078 + j * 3) d t t′ (λ i a b. w .same i (λ x y. omega arith) (λ e. omega arith) (λ e. omega arith))
+      (w .same (3078 + j * 3) (λ x y. omega arith) (λ e. omega arith) (λ e. omega arith))
+      (w .same (3078 + j * 3 + 1) (λ x y. omega arith) (λ e. omega arith) (λ e. omega arith))
       (known .rows j l);
 }
 known-within R.Long d t t′ w table known = record {
   long = w .long ∙ known .long;
   short-lists =
-      table-stays 0 512 4098 d t t′ (λ i a b. w .same i (λ x y. omega arith) (λ e. omega arith) (λ e. omega arith))
-      (w .same 4096 (λ x y. omega arith) (λ e. omega arith) (λ e. omega arith))
-      (w .same 4097 (λ x y. omega arith) (λ e. omega arith) (λ e. omega arith))
-      (w .same 4098 (λ x y. omega arith) (λ e. omega arith) (λ e. omega arith))
-      (w .same 4099 (λ x y. omega arith) (λ e. omega arith) (λ e. omega arith))
+      table-stays 0 512 3074 d t t′ (λ i a b. w .same i (λ x y. omega arith) (λ e. omega arith) (λ e. omega arith))
+      (w .same 3072 (λ x y. omega arith) (λ e. omega arith) (λ e. omega arith))
+      (w .same 3073 (λ x y. omega arith) (λ e. omega arith) (λ e. omega arith))
+      (w .same 3074 (λ x y. omega arith) (λ e. omega arith) (λ e. omega arith))
+      (w .same 3075 (λ x y. omega arith) (λ e. omega arith) (λ e. omega arith))
       (omega arith) (known .short-lists);
   long-lists = table;
   rows = λ j l.
-      row-stays (3072 + j * 64) (4102 + j * 3) d t t′ (λ i a b. w .same i (λ x y. omega arith) (λ e. omega arith) (λ e. omega arith))
-      (w .same (4102 + j * 3) (λ x y. omega arith) (λ e. omega arith) (λ e. omega arith))
-      (w .same (4102 + j * 3 + 1) (λ x y. omega arith) (λ e. omega arith) (λ e. omega arith))
+      row-stays (2560 + j * 32) (3078 + j * 3) d t t′ (λ i a b. w .same i (λ x y. omega arith) (λ e. omega arith) (λ e. omega arith))
+      (w .same (3078 + j * 3) (λ x y. omega arith) (λ e. omega arith) (λ e. omega arith))
+      (w .same (3078 + j * 3 + 1) (λ x y. omega arith) (λ e. omega arith) (λ e. omega arith))
       (known .rows j l);
 }
 
@@ -144,7 +144,7 @@ place-cells region d place t =
 
 -- ---- a table is of a list
 
-module _ (region : Region) (t : List ℕ) (at k : ℕ) (long : length t ≡ 4150) where
+module _ (region : Region) (t : List ℕ) (at k : ℕ) (long : length t ≡ 3126) where
   abbrev listed : List ℕ
   listed = set (set t (listOf region) at) (listOf region + 1) k
 
@@ -162,7 +162,7 @@ module _ (region : Region) (t : List ℕ) (at k : ℕ) (long : length t ≡ 4150
   list-number : getD listed (listOf region + 1) 0 ≡ k
   list-number = getD-set-same (set t (listOf region) at) (listOf region + 1) k 0 (simp length-set (omega (arith, list-most region)))
 
-  cell-same : (i : ℕ) → i < 4098 → getD listed i 0 ≡ getD t i 0
+  cell-same : (i : ℕ) → i < 3074 → getD listed i 0 ≡ getD t i 0
   cell-same i l =
       getD-set-other (set t (listOf region) at) (listOf region + 1) i k 0 (λ e. omega (arith, list-least region))
       ∙ getD-set-other t (listOf region) i at 0 (λ e. omega (arith, list-least region))
@@ -176,7 +176,7 @@ module _ (region : Region) (t : List ℕ) (at k : ℕ) (long : length t ≡ 4150
       number-is i a b = cell-same (slotsOf region + i) (omega (arith, region-fits region))
 
       keys-same : SameKeys (firstSlot region) (slotsOf region) listed t
-      keys-same = record { keys = λ j a b. cell-same j (omega (arith, region-fits region)); first = cell-same 4096 (omega arith); second = cell-same 4097 (omega arith) }
+      keys-same = record { keys = λ j a b. cell-same j (omega (arith, region-fits region)); first = cell-same 3072 (omega arith); second = cell-same 3073 (omega arith) }
 
       table : TableKnown (firstSlot region) (slotsOf region) (listOf region) d listed
       table = record {
@@ -235,7 +235,7 @@ module _ (region : Region) (d : List ℕ) (at k : ℕ) where
 
 -- ---- a table is of no list
 
-module _ (region : Region) (t : List ℕ) (long : length t ≡ 4150) where
+module _ (region : Region) (t : List ℕ) (long : length t ≡ 3126) where
   pub unlist-vacant : Vacant region (set (set t (listOf region) 0) (listOf region + 1) 0)
   unlist-vacant = record { long = list-within region t 0 0 long .long ∙ long; none = list-number region t 0 0 long }
 
@@ -257,30 +257,30 @@ begun region d t u t′ list from n is-list is-from is-n known is long same = (k
 
 module _ (d t u : List ℕ) (seed : SeedOnly t u) where
   abbrev seeded : List ℕ
-  seeded = set (set (set (set u 4098 0) 4099 0) 4100 0) 4101 0
+  seeded = set (set (set (set u 3074 0) 3075 0) 3076 0) 3077 0
 
-  seed-same : (i : ℕ) → (4096 ≤ i → i < 4102 → ⊥) → getD seeded i 0 ≡ getD t i 0
+  seed-same : (i : ℕ) → (3072 ≤ i → i < 3078 → ⊥) → getD seeded i 0 ≡ getD t i 0
   seed-same i h =
-      getD-set-other (set (set (set u 4098 0) 4099 0) 4100 0) 4101 i 0 0 (λ e. h (omega arith) (omega arith))
-      ∙ getD-set-other (set (set u 4098 0) 4099 0) 4100 i 0 0 (λ e. h (omega arith) (omega arith))
-      ∙ getD-set-other (set u 4098 0) 4099 i 0 0 (λ e. h (omega arith) (omega arith))
-      ∙ getD-set-other u 4098 i 0 0 (λ e. h (omega arith) (omega arith))
+      getD-set-other (set (set (set u 3074 0) 3075 0) 3076 0) 3077 i 0 0 (λ e. h (omega arith) (omega arith))
+      ∙ getD-set-other (set (set u 3074 0) 3075 0) 3076 i 0 0 (λ e. h (omega arith) (omega arith))
+      ∙ getD-set-other (set u 3074 0) 3075 i 0 0 (λ e. h (omega arith) (omega arith))
+      ∙ getD-set-other u 3074 i 0 0 (λ e. h (omega arith) (omega arith))
       ∙ seed .same i (λ e. h (omega arith) (omega arith)) (λ e. h (omega arith) (omega arith))
 
-  short-none : getD seeded 4099 0 ≡ 0
+  short-none : getD seeded 3075 0 ≡ 0
   short-none =
-      getD-set-other (set (set (set u 4098 0) 4099 0) 4100 0) 4101 4099 0 0 (λ e. omega arith)
-      ∙ getD-set-other (set (set u 4098 0) 4099 0) 4100 4099 0 0 (λ e. omega arith)
-      ∙ set-zero (set u 4098 0) 4099
+      getD-set-other (set (set (set u 3074 0) 3075 0) 3076 0) 3077 3075 0 0 (λ e. omega arith)
+      ∙ getD-set-other (set (set u 3074 0) 3075 0) 3076 3075 0 0 (λ e. omega arith)
+      ∙ set-zero (set u 3074 0) 3075
 
   pub seed-known : Known d t → Known d seeded
   seed-known known = record {
     long = simp length-set (seed .long ∙ known .long);
-    short-lists = no-list 0 512 4098 d seeded short-none;
-    long-lists = no-list 1024 1024 4100 d seeded (set-zero (set (set (set u 4098 0) 4099 0) 4100 0) 4101);
+    short-lists = no-list 0 512 3074 d seeded short-none;
+    long-lists = no-list 1024 768 3076 d seeded (set-zero (set (set (set u 3074 0) 3075 0) 3076 0) 3077);
     rows = λ j l.
-        row-stays (3072 + j * 64) (4102 + j * 3) d t seeded (λ i a b. seed-same i (λ x y. omega arith))
-        (seed-same (4102 + j * 3) (λ x y. omega arith))
-        (seed-same (4102 + j * 3 + 1) (λ x y. omega arith))
+        row-stays (2560 + j * 32) (3078 + j * 3) d t seeded (λ i a b. seed-same i (λ x y. omega arith))
+        (seed-same (3078 + j * 3) (λ x y. omega arith))
+        (seed-same (3078 + j * 3 + 1) (λ x y. omega arith))
         (known .rows j l);
   }

@@ -19,6 +19,6 @@ pub record RowOf (d : List ℕ) (at k level : ℕ) (t : List ℕ) : Type 0 where
   pub known : Known d t
   pub upper : level < 16
   pub inside : at ≤ length d
-  pub place : getD t (4102 + level * 3) 0 ≡ at
-  pub number : getD t (4102 + level * 3 + 1) 0 ≡ k
+  pub place : getD t (3078 + level * 3) 0 ≡ at
+  pub number : getD t (3078 + level * 3 + 1) 0 ≡ k
   pub some : 1 ≤ k

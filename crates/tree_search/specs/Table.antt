@@ -1,5 +1,5 @@
 -- What the array holds while entries are walked over. Two tables: keys from a slot on, 0 where there is none, and after them for each slot the number 0
--- for no sibling, 1 for several, else 2 more than the place of one. Sixteen rows of 32 cursors, one row a level: two numbers for each cursor, its place and
+-- for no sibling, 1 for several, else 2 more than the place of one. Sixteen rows of 16 cursors, one row a level: two numbers for each cursor, its place and
 -- how many siblings are from it on, 0 where it is not set. For each table and each row the list that it is of: its place and its number of siblings, 0 where
 -- there is none.
 use mathlib.Core.Path.{_≡_}
@@ -58,7 +58,7 @@ pub record TableKnown (from slots list : ℕ) (d t : List ℕ) : Type 0 where
 
 -- those that are set are cursors over the k siblings at a place
 pub record Cursors (row : ℕ) (d : List ℕ) (at k : ℕ) (t : List ℕ) : Type 0 where
-  pub is : (c : ℕ) → c < 32 → 1 ≤ getD t (row + c * 2 + 1) 0 → Cursor d at k (getD t (row + c * 2) 0) (getD t (row + c * 2 + 1) 0)
+  pub is : (c : ℕ) → c < 16 → 1 ≤ getD t (row + c * 2 + 1) 0 → Cursor d at k (getD t (row + c * 2) 0) (getD t (row + c * 2 + 1) 0)
 
 -- over those of the list that the row is of
 pub record RowKnown (row list : ℕ) (d t : List ℕ) : Type 0 where
@@ -67,10 +67,10 @@ pub record RowKnown (row list : ℕ) (d t : List ℕ) : Type 0 where
 -- ---- the array
 
 pub record Known (d t : List ℕ) : Type 0 where
-  pub long : length t ≡ 4150
-  pub short-lists : TableKnown 0 512 4098 d t
-  pub long-lists : TableKnown 1024 1024 4100 d t
-  pub rows : (j : ℕ) → j < 16 → RowKnown (3072 + j * 64) (4102 + j * 3) d t
+  pub long : length t ≡ 3126
+  pub short-lists : TableKnown 0 512 3074 d t
+  pub long-lists : TableKnown 1024 768 3076 d t
+  pub rows : (j : ℕ) → j < 16 → RowKnown (2560 + j * 32) (3078 + j * 3) d t
 
 -- where the keys of a table begin, how many slots it has, and where its list is
 abbrev pub firstSlot : Region → ℕ
@@ -79,13 +79,13 @@ firstSlot R.Long = 1024
 
 abbrev pub slotsOf : Region → ℕ
 slotsOf R.Short = 512
-slotsOf R.Long = 1024
+slotsOf R.Long = 768
 
 abbrev pub listOf : Region → ℕ
-listOf R.Short = 4098
-listOf R.Long = 4100
+listOf R.Short = 3074
+listOf R.Long = 3076
 
 -- a table is of no list
 pub record Vacant (region : Region) (t : List ℕ) : Type 0 where
-  pub long : length t ≡ 4150
+  pub long : length t ≡ 3126
   pub none : getD t (listOf region + 1) 0 ≡ 0

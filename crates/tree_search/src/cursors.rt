@@ -28,16 +28,16 @@ ghost use Rattle.tree_search.specs.Rows.{Moved, RowOf};
 // Levels that have a row: few paths have more. Deeper lists are searched by a scan or a table.
 const LEVELS: u32 = 16;
 
-// Where the rows begin in the array, and how many numbers one has: two for each of its 32 cursors.
-const CURSORS: usize = 3072;
+// Where the rows begin in the array, and how many numbers one has: two for each of its 16 cursors.
+const CURSORS: usize = 2560;
 
-const ROW: usize = 64;
+const ROW: usize = 32;
 
 // The cursors for lengths of names: all of a row but the first, which is for the index's order. Lengths with the same remainder share one.
-const LENGTHS: usize = 31;
+const LENGTHS: usize = 15;
 
 // Where the rows' lists begin in the array: for each row the place of its list, the number of siblings, and 1 where the cursors for lengths are set.
-const ROW_LISTS: usize = 4102;
+const ROW_LISTS: usize = 3078;
 
 // The order of two names, each followed by "/". Below and Above only choose how to search: nothing rests on them.
 fn order_of(s: &[u8], t: &[u8]) -> Order
@@ -111,8 +111,8 @@ fn find_ahead(d: &[u8], name: &[u8], from: usize, count: u32, by_length: bool) -
 
 // Where cursor number c of a level's row is in the array.
 fn cell_of(level: usize, c: usize) -> usize
-    requires { ⌜ (level < 16) × (c < 32) ⌝ }
-    ensures { λ r. ⌜ r ≡ 3072 + level * 64 + c * 2 ⌝ }
+    requires { ⌜ (level < 16) × (c < 16) ⌝ }
+    ensures { λ r. ⌜ r ≡ 2560 + level * 32 + c * 2 ⌝ }
 {
     CURSORS + level * ROW + c * 2
 }
@@ -120,14 +120,14 @@ fn cell_of(level: usize, c: usize) -> usize
 // Where the list of a level's row is in the array.
 fn list_of(level: usize) -> usize
     requires { ⌜ level < 16 ⌝ }
-    ensures { λ r. ⌜ r ≡ 4102 + level * 3 ⌝ }
+    ensures { λ r. ⌜ r ≡ 3078 + level * 3 ⌝ }
 {
     ROW_LISTS + level * 3
 }
 
 // The number of the cursor for names of a length.
 fn cursor_for(len: usize) -> usize
-    ensures { λ r. ⌜ r < 32 ⌝ }
+    ensures { λ r. ⌜ r < 16 ⌝ }
 {
     1 + len % LENGTHS
 }
@@ -141,7 +141,7 @@ fn find_by_cursor(
     by_length: bool,
     t: &mut Table,
 ) -> Answer
-    requires { ⌜ (c < 32) × (length (now d) ≤ 16777216) × RowOf (now d) (getD (now t) (4102 + level * 3) 0) (getD (now t) (4102 + level * 3 + 1) 0) level (now t) ⌝ }
+    requires { ⌜ (c < 16) × (length (now d) ≤ 16777216) × RowOf (now d) (getD (now t) (3078 + level * 3) 0) (getD (now t) (3078 + level * 3 + 1) 0) level (now t) ⌝ }
     ensures { λ r. ⌜ ((at k : ℕ) → RowOf (now (d .entry)) at k level (now (t .entry)) → Told (now (d .entry)) at k (now (name .entry)) r × RowOf (now (d .entry)) at k level (now (t .exit))) ⌝ }
 {
     let i = cell_of(level, c);

@@ -38,10 +38,10 @@ const LONG_KEYS: usize = 1024;
 // How many slots each table has. A pass over a long list costs more, so its table takes more keys.
 const SHORT_SLOTS: usize = 512;
 
-const LONG_SLOTS: usize = 1024;
+const LONG_SLOTS: usize = 768;
 
 // The first of the numbers that say which lists the tables and the rows of cursors are of, and how many these are.
-const LISTS: usize = 4098;
+const LISTS: usize = 3074;
 
 const LIST_NUMBERS: usize = 52;
 
@@ -69,7 +69,7 @@ fn slots_of(region: Region) -> usize
 }
 
 fn list_of(region: Region) -> usize
-    ensures { λ r. ⌜ (r ≡ listOf region) × (r ≤ 4100) ⌝ }
+    ensures { λ r. ⌜ (r ≡ listOf region) × (r ≤ 3076) ⌝ }
 {
     match region {
         Region::Short => SHORT_LIST,
@@ -79,7 +79,7 @@ fn list_of(region: Region) -> usize
 
 // The tables and the rows are of no list.
 pub fn reset(t: &mut Table)
-    requires { ⌜ length (now t) ≡ 4150 ⌝ }
+    requires { ⌜ length (now t) ≡ 3126 ⌝ }
     ensures { λ _. ⌜ ((d : List ℕ) → Known d (now (t .exit))) × ((region : Region) → Vacant region (now (t .exit))) ⌝ }
 {
     clear(t, LISTS, LIST_NUMBERS);
@@ -89,7 +89,7 @@ pub fn reset(t: &mut Table)
 pub fn most_keys(region: Region) -> u32 {
     match region {
         Region::Short => 384,
-        Region::Long => 768,
+        Region::Long => 576,
     }
 }
 

@@ -142,7 +142,7 @@ module _ (from slots : ℕ) where
 
 -- ---- the seed decides the key, and no slot is part of it
 
-pub key-same : (t u s : List ℕ) → getD t 4096 0 ≡ getD u 4096 0 → getD t 4097 0 ≡ getD u 4097 0 → keyIn t s ≡ keyIn u s
+pub key-same : (t u s : List ℕ) → getD t 3072 0 ≡ getD u 3072 0 → getD t 3073 0 ≡ getD u 3073 0 → keyIn t s ≡ keyIn u s
 unfolding keyIn
 key-same t u s a b = rw (a, b)
 
@@ -160,8 +160,8 @@ pub key-some : (t s : List ℕ) → 0 < keyIn t s
 unfolding keyIn
 key-some t s = key-from _ _ 0 s
 
-pub key-stays : (t s : List ℕ) (j x : ℕ) → j < 4096 → keyIn (set t j x) s ≡ keyIn t s
-key-stays t s j x l = key-same (set t j x) t s (getD-set-other t j 4096 x 0 (λ e. omega arith)) (getD-set-other t j 4097 x 0 (λ e. omega arith))
+pub key-stays : (t s : List ℕ) (j x : ℕ) → j < 3072 → keyIn (set t j x) s ≡ keyIn t s
+key-stays t s j x l = key-same (set t j x) t s (getD-set-other t j 3072 x 0 (λ e. omega arith)) (getD-set-other t j 3073 x 0 (λ e. omega arith))
 
 -- ---- numbers that were set
 
@@ -171,8 +171,8 @@ set-zero (x ∷ t) zero = refl
 set-zero (x ∷ t) (suc i) = set-zero t i
 
 -- the seed is set, or is as it was
-pub seed-set : (t : List ℕ) (x y : ℕ) → SeedOnly t (set (set t 4096 x) 4097 y)
-seed-set t x y = record { long = simp length-set; same = λ i p q. getD-set-other (set t 4096 x) 4097 i y 0 q ∙ getD-set-other t 4096 i x 0 p }
+pub seed-set : (t : List ℕ) (x y : ℕ) → SeedOnly t (set (set t 3072 x) 3073 y)
+seed-set t x y = record { long = simp length-set; same = λ i p q. getD-set-other (set t 3072 x) 3073 i y 0 q ∙ getD-set-other t 3072 i x 0 p }
 
 pub seed-same : (t : List ℕ) → SeedOnly t t
 seed-same t = record { long = refl; same = λ i p q. refl }

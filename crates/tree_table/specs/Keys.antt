@@ -25,12 +25,12 @@ keyFrom m n h (x ∷ y ∷ s) = keyFrom n m (stepKey m h (x + y * 256)) s
 
 -- the key of a name by the seed of a table
 unfoldable pub keyIn : List ℕ → List ℕ → ℕ
-keyIn t s = keyFrom (getD t 4096 0 % 1073741824) (getD t 4097 0 % 1073741824) 0 s
+keyIn t s = keyFrom (getD t 3072 0 % 1073741824) (getD t 3073 0 % 1073741824) 0 s
 
 -- nothing but the seed changes
 pub record SeedOnly (t t′ : List ℕ) : Type 0 where
   pub long : length t′ ≡ length t
-  pub same : (i : ℕ) → (i ≡ 4096 → ⊥) → (i ≡ 4097 → ⊥) → getD t′ i 0 ≡ getD t i 0
+  pub same : (i : ℕ) → (i ≡ 3072 → ⊥) → (i ≡ 3073 → ⊥) → getD t′ i 0 ≡ getD t i 0
 
 -- ---- the slot of a key among so many from a place on
 

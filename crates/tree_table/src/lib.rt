@@ -8,17 +8,17 @@ ghost use lib.ListN.{length, getD, set};
 ghost use Rattle.tree_table.specs.Keys.{stepKey, lastKey, keyIn, nextSlot, slotIn, SeedOnly, isOf};
 
 // How many numbers the array of a table has. A contract cannot name a constant of the code, so contracts say 4150.
-pub const NUMBERS: usize = 4150;
+pub const NUMBERS: usize = 3126;
 
 // While a tree is read: KEYS slots. While entries are walked over: two smaller tables and rows of cursors in their stead (tree_search says where). After
 // them the seed, then the lists of siblings that these tables and rows are of.
 pub type Table = [u32; NUMBERS];
 
-// The slots: 16 KiB, which fit the first cache of a processor.
-pub const KEYS: usize = 4096;
+// The slots: 12 KiB. More would make the search in lists of a million siblings in no order faster, and take stack from every call.
+pub const KEYS: usize = 3072;
 
 // The two numbers that keys are made with; 0 where they were not made yet.
-const SEED: usize = 4096;
+const SEED: usize = 3072;
 
 // One more digit of a key: a polynomial modulo 2^31 - 1, but for multiples of that which are left in.
 fn step_key(m: u64, h: u64, x: u64) -> u64
@@ -84,7 +84,7 @@ pub fn make_seed(d: &[u8], t: &mut Table)
 
 // The slot after another; the first one after the last.
 fn next_slot(i: usize, slots: usize) -> usize
-    requires { ⌜ (i < slots) × (slots ≤ 4096) ⌝ }
+    requires { ⌜ (i < slots) × (slots ≤ 3072) ⌝ }
     ensures { λ r. ⌜ (r ≡ nextSlot slots i) × (r < slots) ⌝ }
 {
     if i + 1 == slots {
@@ -96,7 +96,7 @@ fn next_slot(i: usize, slots: usize) -> usize
 // The slot of a key among those from a place on, so many: that of the key itself or an empty one, from the key's own on; the last tried where there is
 // neither.
 pub fn slot_of(t: &Table, from: usize, slots: usize, key: u32) -> usize
-    requires { ⌜ (0 < slots) × (from + slots ≤ 4096) ⌝ }
+    requires { ⌜ (0 < slots) × (from + slots ≤ 3072) ⌝ }
     ensures { λ r. ⌜ (r ≡ slotIn from slots (now (t .entry)) key) × (from ≤ r) × (r < from + slots) ⌝ }
 {
     let mut i = key as usize % slots;
@@ -116,7 +116,7 @@ pub fn slot_of(t: &Table, from: usize, slots: usize, key: u32) -> usize
 
 // The n numbers from a place on are 0.
 pub fn clear(t: &mut Table, from: usize, n: usize)
-    requires { ⌜ from + n ≤ 4150 ⌝ }
+    requires { ⌜ from + n ≤ 3126 ⌝ }
     ensures { λ _. ⌜ (length (now (t .exit)) ≡ length (now (t .entry))) × ((i : ℕ) → i < n → getD (now (t .exit)) (from + i) 0 ≡ 0) × ((i : ℕ) → (from ≤ i → i < from + n → ⊥) → getD (now (t .exit)) i 0 ≡ getD (now (t .entry)) i 0) ⌝ }
 {
     let mut i = 0;
@@ -135,7 +135,7 @@ pub fn place_of(x: u32) -> usize
 
 // Whether a table has at i the place of k siblings and their number, and there are some.
 pub fn is_of(t: &Table, i: usize, at: usize, k: u32) -> bool
-    requires { ⌜ i + 1 < 4150 ⌝ }
+    requires { ⌜ i + 1 < 3126 ⌝ }
     ensures { λ r. ⌜ r ≡ isOf (now (t .entry)) i at k ⌝ }
 {
     if k == 0 {
@@ -149,7 +149,7 @@ pub fn is_of(t: &Table, i: usize, at: usize, k: u32) -> bool
 
 // It has them there.
 pub fn set_list(t: &mut Table, i: usize, at: usize, k: u32)
-    requires { ⌜ (i + 1 < 4150) × (at < 4294967296) ⌝ }
+    requires { ⌜ (i + 1 < 3126) × (at < 4294967296) ⌝ }
     ensures { λ _. ⌜ now (t .exit) ≡ set (set (now (t .entry)) i at) (i + 1) k ⌝ }
 {
     t[i] = at as u32;

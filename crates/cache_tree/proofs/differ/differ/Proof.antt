@@ -10,7 +10,7 @@ use Rattle.cache_tree.proofs.differ.differ.Statement.{statement}
 use Rattle.cache_tree.proofs.differ.differ.Tie as tie
 
 abbrev Inv-loop : tie.InvT-loop
-Inv-loop d a k t₀ x₀ left₀ t x left = (x ≤ length d) × (length t ≡ 4150) × (namesDiffer (namesOf k (drop a d)) ≡ namesDiffer (namesOf left (drop x d)))
+Inv-loop d a k t₀ x₀ left₀ t x left = (x ≤ length d) × (length t ≡ 3126) × (namesDiffer (namesOf k (drop a d)) ≡ namesDiffer (namesOf left (drop x d)))
 
 abbrev μ-loop : tie.MeasureT-loop
 μ-loop d a k t₀ x₀ left₀ t x left = left

@@ -16,7 +16,7 @@ Inv-loop d a k t₀ y₀ n₀ t y n =
     × (drop y d ≡ restAfter n (drop a d))
     × (namesDiffer (namesOf n (drop a d)) ≡ true)
     × (allHeld t (namesOf n (drop a d)) ≡ true)
-    × (length t ≡ 4150)
+    × (length t ≡ 3126)
 
 abbrev μ-loop : tie.MeasureT-loop
 μ-loop d a k t₀ y₀ n₀ t y n = k - n
@@ -47,7 +47,7 @@ loop-again c =
     let d = c .before .before .before .before .before .before .before .args .d .now in
     let at = l .loop .inv .2 in
     let same = l .loop .inv .5 in
-    let room : 4096 ≤ length (l .loop .t) = omega arith in (
+    let room : 3072 ≤ length (l .loop .t) = omega arith in (
       c .after-tree .ensures .1,
       omega arith,
       fill-rest (l .loop .n) _ _ at d (l .loop .y) _ refl (c .after-tree .ensures .0),

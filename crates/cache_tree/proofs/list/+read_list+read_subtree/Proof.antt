@@ -60,7 +60,7 @@ read-list-Inv-loop d at levels k t₀ place₀ previous₀ left₀ nodes₀ rise
     (at + nodes ≤ place)
     × (place ≤ length d)
     × (previous ≤ place)
-    × (length t ≡ 4150)
+    × (length t ≡ 3126)
     × (listAt at (tested distinctBelow (readForest 20 0 levels k (drop at d))) ≡ plus nodes (listAt place (tested distinctBelow (readForest 20 0 levels left (drop place d)))))
     × Rises false d at k previous place left (rises .«by_slash»)
     × Rises true d at k previous place left (rises .«by_length»)

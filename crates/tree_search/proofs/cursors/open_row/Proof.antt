@@ -47,7 +47,7 @@ returns-2 c = λ d inside known.
     let list = row .before .before .before .before in
     let st = list .before in
     let e = list .list-of .ensures in
-    let mark : list .list-of .result + 2 ≡ 4102 + st .args .level * 3 + 2 = omega arith in
+    let mark : list .list-of .result + 2 ≡ 3078 + st .args .level * 3 + 2 = omega arith in
     let new = row-new d _ _ _ _ (cleared .clear .last .0) inside known (st .pre .0) (st .pre .1) _ (row .cell-of .ensures) _ (list .list-of .ensures) (cleared .clear .ensures .0) (cleared .clear .ensures .1) (cleared .clear .ensures .2) in
     rw (c .set-list2 .ensures, put .set-list .ensures) (mark-set d _ _ _ _ new _ mark 0)
 
