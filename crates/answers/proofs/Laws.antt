@@ -8,9 +8,12 @@ use native.Mathlib.Omega.{arith}
 use lib.ListN.{length, take, drop, replicate, getElem?, length-append, length-replicate, length-drop}
 use lib.Seq.{length-take-le, take-take, take-at}
 use borrow.Author.Tests.{lt-ltb, le-ltb, le-leb, lt-leb}
+use Rattle.format.specs.Reading.{Read, bad, good}
+use Rattle.format_laws.proofs.Tests.{cond-inv}
+use Rattle.format_laws.proofs.Readings.{bad-good}
 use Rattle.format_laws.proofs.Lists.{past-zeros}
 use Rattle.answers.specs.declared.Shown.the-variants.{InWorkspace}
-use Rattle.answers.specs.Answers.{tooSmall, View, refused, cleared, holding, partIn, nameIn}
+use Rattle.answers.specs.Answers.{tooSmall, inRoom, View, refused, cleared, holding, partIn, nameIn}
 
 -- ---- the workspace
 
@@ -22,6 +25,20 @@ module _ (work : List ℕ) where
   pub large : 8192 ≤ length work → tooSmall work ≡ false
   unfolding tooSmall
   large h = le-ltb (length work) 8192 h
+
+  -- the reading of a file with it
+  module _ {A : Type 0} (x : Read A) where
+    pub room-small : tooSmall work ≡ true → inRoom work x ≡ bad 19 0
+    unfolding inRoom
+    room-small t = rw t
+
+    pub room-large : tooSmall work ≡ false → inRoom work x ≡ x
+    unfolding inRoom
+    room-large t = rw t
+
+    pub room-inv {ℓ} : {X : Type ℓ} (a : A) (m : ℕ) → inRoom work x ≡ good a m → (tooSmall work ≡ false → x ≡ good a m → X) → X
+    unfolding inRoom
+    room-inv a m e g = cond-inv (tooSmall work) (bad 19 0) x (good a m) e (λ t q. bad-good _ _ _ _ q) g
 
   -- one that is too small stays as it is; of any other, cleared is what fields::clear leaves
   pub cleared-small : length work < 8192 → cleared work ≡ work

@@ -23,11 +23,15 @@ use Rattle.entries.specs.Record.{entryWith, noFields, fieldsOf}
 
 -- ---- the workspace
 
--- shorter than 8,192 bytes: refusal 19, and nothing is written
+-- shorter than 8,192 bytes
 unfoldable pub tooSmall : List ℕ → Bool
 tooSmall work = ltb (length work) 8192
 
--- the first 8,192 bytes are zero
+-- the reading of a file with a workspace: 19 where that is too small
+unfoldable pub inRoom : {A : Type 0} → List ℕ → Read A → Read A
+inRoom work x = cond (tooSmall work) (bad 19 0) x
+
+-- the first 8,192 bytes are zero; nothing is written where it is too small
 unfoldable pub cleared : List ℕ → List ℕ
 cleared work = cond (tooSmall work) work (replicate 8192 0 ++ drop 8192 work)
 
@@ -60,7 +64,7 @@ checkedOf (good c m) = K.Accepted (summaryOf c)
 
 -- the answer of check
 unfoldable pub checkAnswer : List ℕ → Read Contents → Checked
-checkAnswer work r = cond (tooSmall work) (K.Refused 19 0) (checkedOf r)
+checkAnswer work r = checkedOf (inRoom work r)
 
 -- ---- what is shown: a refusal's number and place, or an item whose name is a part of the file or of the workspace
 
@@ -95,19 +99,15 @@ abbrev pub undoOf : ℕ → Read Contents → View F.Undo
 undoOf k (bad n p) = refused n p
 undoOf k (good c m) = listed (c .records .resolveUndo) k
 
--- with a workspace that may be too small
-unfoldable pub given : {A : Type 0} → List ℕ → View A → View A
-given work v = cond (tooSmall work) (refused 19 0) v
-
 -- the answers of entry k, tree node k and resolve-undo record k
 unfoldable pub entryAnswer : List ℕ → ℕ → Read Contents → View F.Entry
-entryAnswer work k r = given work (entryOf k r)
+entryAnswer work k r = entryOf k (inRoom work r)
 
 unfoldable pub nodeAnswer : List ℕ → ℕ → Read Contents → View F.Item
-nodeAnswer work k r = given work (nodeOf k r)
+nodeAnswer work k r = nodeOf k (inRoom work r)
 
 unfoldable pub undoAnswer : List ℕ → ℕ → Read Contents → View F.Undo
-undoAnswer work k r = given work (undoOf k r)
+undoAnswer work k r = undoOf k (inRoom work r)
 
 -- the workspace after an entry was shown
 abbrev pub workAfter : View F.Entry → List ℕ → List ℕ

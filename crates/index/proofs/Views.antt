@@ -13,10 +13,10 @@ use Rattle.answers.specs.declared.Checked.the-variants as K
 use Rattle.answers.specs.declared.EntryAnswer.{EntryAnswer}
 use Rattle.answers.specs.declared.NodeAnswer.{NodeAnswer}
 use Rattle.answers.specs.declared.UndoAnswer.{UndoAnswer}
-use Rattle.answers.specs.Answers.{tooSmall, View, refused, inFile, inWorkspace, pick, given, cleared, checkedOf, checkAnswer, entryOf, entryAnswer, nodeOf, nodeAnswer, undoOf, undoAnswer, entrySaid, nodeSaid, undoSaid, refusedEntry, refusedNode, refusedUndo}
+use Rattle.answers.specs.Answers.{inRoom, View, refused, inFile, inWorkspace, pick, cleared, checkedOf, checkAnswer, entryOf, entryAnswer, nodeOf, nodeAnswer, undoOf, undoAnswer, entrySaid, nodeSaid, undoSaid, refusedEntry, refusedNode, refusedUndo}
 use Rattle.answers.proofs.Laws.{part-within}
 use Rattle.extensions.specs.Heads.{part}
-use Rattle.file_read.specs.Contents.{bodyOf, inRoom}
+use Rattle.file_read.specs.Contents.{bodyOf}
 use Rattle.index.specs.Calls.{EntryShows, NodeShows, UndoShows}
 
 -- ---- lists
@@ -48,29 +48,21 @@ module _ {A : Type 0} where
 
 -- the answers, from the reading with a workspace that may be too small
 module _ (work : List ℕ) (k : ℕ) (x y : Read Contents) (e : inRoom work x ≡ y) where
-  check-by : (t : Bool) → cond t (K.Refused 19 0) (checkedOf x) ≡ checkedOf (cond t (bad 19 0) x)
-  check-by true = refl
-  check-by false = refl
-
-  given-by : {A : Type 0} (view : Read Contents → View A) (t : Bool) → view (bad 19 0) ≡ refused 19 0 → cond t (refused 19 0) (view x) ≡ view (cond t (bad 19 0) x)
-  given-by view true q = sym q
-  given-by view false q = refl
-
   pub check-is : checkAnswer work x ≡ checkedOf y
-  unfolding checkAnswer inRoom
-  check-is = check-by (tooSmall work) ∙ ap checkedOf e
+  unfolding checkAnswer
+  check-is = ap checkedOf e
 
   pub entry-is : entryAnswer work k x ≡ entryOf k y
-  unfolding entryAnswer given inRoom
-  entry-is = given-by (entryOf k) (tooSmall work) refl ∙ ap (entryOf k) e
+  unfolding entryAnswer
+  entry-is = ap (entryOf k) e
 
   pub node-is : nodeAnswer work k x ≡ nodeOf k y
-  unfolding nodeAnswer given inRoom
-  node-is = given-by (nodeOf k) (tooSmall work) refl ∙ ap (nodeOf k) e
+  unfolding nodeAnswer
+  node-is = ap (nodeOf k) e
 
   pub undo-is : undoAnswer work k x ≡ undoOf k y
-  unfolding undoAnswer given inRoom
-  undo-is = given-by (undoOf k) (tooSmall work) refl ∙ ap (undoOf k) e
+  unfolding undoAnswer
+  undo-is = ap (undoOf k) e
 
 -- ---- refusals
 

@@ -12,7 +12,7 @@ use Rattle.format.specs.Reading.{Read, bad, good, need}
 use Rattle.format.specs.Reader.{Contents, readEntry}
 use Rattle.format.specs.Places.{bodyIn, taken}
 use Rattle.answers.specs.declared.EntryAnswer.{EntryAnswer}
-use Rattle.answers.specs.Answers.{View, refused, inFile, inWorkspace, tooSmall, entrySaid, entryShown, Inside}
+use Rattle.answers.specs.Answers.{View, refused, inFile, inWorkspace, inRoom, entrySaid, entryShown, Inside}
 use Rattle.walk.specs.declared.Started.{Started}
 use Rattle.walk.specs.declared.Started.the-variants.{Refused, Ready}
 use Rattle.walk.specs.declared.Place.{Place}
@@ -24,7 +24,7 @@ startedOf (bad n p) = Refused n p
 startedOf (good c m) = cond (eqb (c .version) 4) (Refused 4 0) (Ready (length (c .records .entries)))
 
 unfoldable pub startAnswer : List ℕ → Read Contents → Started
-startAnswer work x = cond (tooSmall work) (Refused 19 0) (startedOf x)
+startAnswer work x = startedOf (inRoom work x)
 
 abbrev pub placeAt : ℕ → ℕ → Place
 placeAt at left = record { at = at; left = left }

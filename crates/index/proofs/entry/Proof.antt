@@ -4,7 +4,8 @@ use native.Mathlib.Omega.{arith}
 use Rattle.format.specs.Reader.{readFile}
 use Rattle.format.specs.Places.{entryPlace, namePlace, entryNamePlace}
 use Rattle.hash.specs.Sha1.{sha1}
-use Rattle.file_read.specs.Contents.{bodyOf, inRoom, Contains}
+use Rattle.answers.specs.Answers.{inRoom}
+use Rattle.file_read.specs.Contents.{bodyOf, Contains}
 use Rattle.file_read.proofs.Room.{room-of}
 use Rattle.answers.proofs.Laws.{item-none}
 use Rattle.index.proofs.Views.{pick-none, entry-is, entry-refused}

@@ -10,7 +10,8 @@ use Rattle.hash.proofs.Bytes.{length-sha1}
 use Rattle.writing.specs.OneFile.{WritesBack}
 use Rattle.entries.specs.Record.{entryWith}
 use Rattle.answers.specs.Writing.{putAnswer}
-use Rattle.file_read.specs.Contents.{bodyOf, inRoom, Contains}
+use Rattle.answers.specs.Answers.{inRoom}
+use Rattle.file_read.specs.Contents.{bodyOf, Contains}
 use Rattle.index_write.proofs.Answers.{call-refused, call-opened, call-answered}
 use Rattle.demands.proofs.Written.{put-in}
 use borrow.Author.Needs.{needs}
