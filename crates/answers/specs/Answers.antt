@@ -1,4 +1,5 @@
 -- What each call answers, from the file's reading and the workspace: numbers, places, values, and the workspace afterwards.
+use mathlib.Core.Path.{_≡_}
 use mathlib.Core.List.{List, [], _++_}
 use mathlib.Core.Bool.{Bool, true, false, cond}
 use mathlib.Core.Option.{Option, none, some}
@@ -232,3 +233,19 @@ abbrev pub Inside : Shown → (file work : List ℕ) → Type 0
 Inside (S.Refused n p) file work = Unit
 Inside (S.InFile at n) file work = at + n ≤ length file
 Inside (S.InWorkspace n) file work = n ≤ length work
+
+-- an answer shows v: it is the one that does, the bytes that it points at are the name, and they lie in their buffer, the file or the workspace. One
+-- record for entries, nodes, resolve-undo records and steps: shown is the answer of a view, says the view of an answer, part where it points
+pub record Shows {A R : Type 0} (shown : ℕ → View A → R) (says : R → List ℕ → List ℕ → View A) (part : R → Shown) (at : ℕ) (v : View A) (file work : List ℕ) (r : R) : Type 0 where
+  pub whole : r ≡ shown at v
+  pub said : says r file work ≡ v
+  pub inside : Inside (part r) file work
+
+abbrev pub EntryShown : ℕ → View F.Entry → List ℕ → List ℕ → EntryAnswer → Type 0
+EntryShown at v file work r = Shows entryShown entrySaid (λ a. a .shown) at v file work r
+
+abbrev pub NodeShown : ℕ → View F.Item → List ℕ → List ℕ → NodeAnswer → Type 0
+NodeShown at v file work r = Shows nodeShown nodeSaid (λ a. a .shown) at v file work r
+
+abbrev pub UndoShown : ℕ → View F.Undo → List ℕ → List ℕ → UndoAnswer → Type 0
+UndoShown at v file work r = Shows undoShown undoSaid (λ a. a .shown) at v file work r

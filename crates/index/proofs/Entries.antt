@@ -58,9 +58,7 @@ module _ (v : ℕ) (f written : List ℕ) (at : ℕ) (st : Step) (o : Option F.E
       let size : st .next .len ≡ length (entry .name) = sym (ap length (entry-name ∙ there) ∙ long) in
       let own : x ≡ fieldsOf entry = fields-are x _ entry (entry-with _ name) in
       record {
-        whole = rw (is, ← placed, ← size, ← own) refl;
-        said = ap inFile (entry-with _ name) ∙ sym is;
-        inside = fits;
+        shows = record { whole = rw (is, ← placed, ← size, ← own) refl; said = ap inFile (entry-with _ name) ∙ sym is; inside = fits };
         after = rw is after;
       }
 
@@ -80,9 +78,11 @@ module _ (v : ℕ) (f written : List ℕ) (at : ℕ) (st : Step) (o : Option F.E
       let size : st .next .len ≡ length (entry .name) = sym (ap length (entry-name ∙ own) ∙ long) in
       let fields-own : x ≡ fieldsOf entry = fields-are x _ entry (entry-with _ (named ∙ sym own)) in
       record {
-        whole = rw (is, ← size, ← fields-own) refl;
-        said = ap inWorkspace (entry-with _ (named ∙ sym own)) ∙ sym is;
-        inside = rw holds (rw long at (held-inside name work));
+        shows = record {
+          whole = rw (is, ← size, ← fields-own) refl;
+          said = ap inWorkspace (entry-with _ (named ∙ sym own)) ∙ sym is;
+          inside = rw holds (rw long at (held-inside name work));
+        };
         after = rw is (holds ∙ ap (λ (s : List ℕ). holding s work) (sym (entry-name ∙ own)));
       }
 
@@ -99,4 +99,4 @@ pub shown-again : (v u : View F.Entry) (f work written work′ : List ℕ) (at :
     → written ≡ cleared work → 8192 ≤ length work → 8192 ≤ length written → EntryShows at v f work work′ r
 shown-again v u f work written work′ at r e h clean room same =
     let rest : drop 8192 written ≡ drop 8192 work = ap (drop 8192) clean ∙ cleared-past work room in
-    rw e (record { whole = h .whole; said = h .said; inside = h .inside; after = h .after ∙ after-same u work written rest room same })
+    rw e (record { shows = h .shows; after = h .after ∙ after-same u work written rest room same })

@@ -212,8 +212,10 @@ node-shows k f tree node at v i is h placed n p object o =
     let own : tree .at + node .place ≡ at = sym (h .place) ∙ placed in
     let same : object ≡ i .node .object = o ∙ sym (p .object) in
     record {
-      whole = rw (is, own, p .size, same, p .valid, p .count, p .subtrees, ← (h .level)) refl;
-      said = λ work. rw (name, same, p .valid, p .count, with-count (i .node .count), p .subtrees, ← (h .level), is) refl;
-      inside = λ work. fits;
+      shows = λ work. record {
+        whole = rw (is, own, p .size, same, p .valid, p .count, p .subtrees, ← (h .level)) refl;
+        said = rw (name, same, p .valid, p .count, with-count (i .node .count), p .subtrees, ← (h .level), is) refl;
+        inside = fits;
+      };
       zeros = λ e. o ∙ rw e;
     }

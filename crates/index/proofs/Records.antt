@@ -104,8 +104,6 @@ module _ (k : ℕ) (f : List ℕ) (undo : UndoPlace) (found place : ℕ) (v : Vi
       ∙ rw (at, size) (shown-path 20 0 (drop found d) u (lit≤ tt) (h .reads)) in
       let own : undo .at + s .path ≡ place = ap (λ n. undo .at + n) at ∙ sym (h .found) ∙ placed in
       record {
-        whole = rw (is, own, q) refl;
-        said = λ work. rw (name, q, is) refl;
-        inside = λ work. fits;
+        shows = λ work. record { whole = rw (is, own, q) refl; said = rw (name, q, is) refl; inside = fits };
         zeros = rw q (missing-zeros 20 0 (drop found d) u (lit≤ tt) (h .reads));
       }

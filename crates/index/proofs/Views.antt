@@ -72,14 +72,14 @@ module _ (n p : ℕ) (f : List ℕ) (at : ℕ) where
       ((file work : List ℕ) → entrySaid r file work ≡ refused n p) × (r ≡ refusedEntry n p) → work′ ≡ cleared work →
       EntryShows at v f work work′ r
   entry-refused v work work′ r e (said, is) after =
-      record { whole = rw e is; said = said f work′ ∙ sym e; inside = rw is tt; after = rw e after }
+      record { shows = record { whole = rw e is; said = said f work′ ∙ sym e; inside = rw is tt }; after = rw e after }
 
   pub node-refused :
       (v : View F.Item) (r : NodeAnswer) → v ≡ refused n p → ((file work : List ℕ) → nodeSaid r file work ≡ refused n p) × (r ≡ refusedNode n p) →
       NodeShows at v f r
-  node-refused v r e (said, is) = record { whole = rw e is; said = λ work. said f work ∙ sym e; inside = λ work. rw is tt; zeros = λ _. rw is refl }
+  node-refused v r e (said, is) = record { shows = λ work. record { whole = rw e is; said = said f work ∙ sym e; inside = rw is tt }; zeros = λ _. rw is refl }
 
   pub undo-refused :
       (v : View F.Undo) (r : UndoAnswer) → v ≡ refused n p → ((file work : List ℕ) → undoSaid r file work ≡ refused n p) × (r ≡ refusedUndo n p) →
       UndoShows at v f r
-  undo-refused v r e (said, is) = record { whole = rw e is; said = λ work. said f work ∙ sym e; inside = λ work. rw is tt; zeros = (λ _. rw is refl, λ _. rw is refl, λ _. rw is refl) }
+  undo-refused v r e (said, is) = record { shows = λ work. record { whole = rw e is; said = said f work ∙ sym e; inside = rw is tt }; zeros = (λ _. rw is refl, λ _. rw is refl, λ _. rw is refl) }

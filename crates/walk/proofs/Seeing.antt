@@ -143,7 +143,7 @@ module _ (f : List ℕ) (at left : ℕ) where
       → StepShows (namePlace 20 at (bodyIn 20 f)) (walkAnswer 20 f at left) f r
   step-refused r s (said, is) =
       let v : walkAnswer 20 f at left ≡ refused 18 0 = view-is 20 f at left _ (s .same) in
-      record { whole = is ∙ sym (ap (entryShown _) v); said = λ work. said f work ∙ sym v; inside = λ work. rw is tt }
+      record { shows = λ work. record { whole = is ∙ sym (ap (entryShown _) v); said = said f work ∙ sym v; inside = rw is tt } }
 
   pub place-stays : (less : ℕ) → Sees (walkRead 20 f at left) (bodyIn 20 f) at Nothing → less ≡ left - 1
       → placeAt at less ≡ placeAfter 20 f at left
@@ -171,9 +171,11 @@ module _ (f : List ℕ) (at left : ℕ) where
         let name : partIn (at + h .length) n f ≡ bytes = part-in _ _ f (omega arith) ∙ sym (part-within (length f - 20) (at + h .length) n f within) in
         let size : length bytes ≡ n = length-take-le n (drop (at + h .length) (bodyIn 20 f)) (rw length-drop (omega arith)) in
         record {
-          whole = rw (v, size, ← (t .start)) (ap (λ (y : Fields). record { shown = S.InFile (at + h .length) n; fields = y }) (fields-are x bytes _ (fields bytes)));
-          said = λ work. ap inFile (fields (partIn (at + h .length) n f) ∙ rw name) ∙ sym v;
-          inside = λ work. omega arith;
+          shows = λ work. record {
+            whole = rw (v, size, ← (t .start)) (ap (λ (y : Fields). record { shown = S.InFile (at + h .length) n; fields = y }) (fields-are x bytes _ (fields bytes)));
+            said = ap inFile (fields (partIn (at + h .length) n f) ∙ rw name) ∙ sym v;
+            inside = omega arith;
+          };
         }
 
 -- the name that an answer points at is the one of what it shows
@@ -184,4 +186,4 @@ said-name x (S.InFile at n) f work = refl
 said-name x (S.InWorkspace n) f work = refl
 
 pub shown-name : (at : ℕ) (v : View Entry) (f : List ℕ) (r : EntryAnswer) → StepShows at v f r → nameIn (r .shown) f [] ≡ nameShown v
-shown-name at v f r h = said-name (r .fields) (r .shown) f [] ∙ ap nameShown (h .said [])
+shown-name at v f r h = said-name (r .fields) (r .shown) f [] ∙ ap nameShown (h .shows [] .said)
