@@ -3,7 +3,7 @@ use mathlib.Core.Path.{_≡_, refl, sym, ap, subst₂, _∙_}
 use mathlib.Core.List.{List, [], _∷_, _++_, append-nil}
 use mathlib.Core.Bool.{Bool, true, false, cond}
 use mathlib.Core.Option.{some}
-use Prim.Native.Nat.{ℕ, suc, _+_, _-_, _≤_, _<_}
+use Prim.Native.Nat.{ℕ, suc, _+_, _-_, _≤_, _<_, zero-le}
 use native.Mathlib.Nat.{zero-add}
 use native.Mathlib.Omega.{arith}
 use lib.ListN.{length, take, drop, getElem?, length-append}
@@ -16,14 +16,16 @@ use Rattle.format.specs.Places.{entryPlace, namePlace}
 use Rattle.format_laws.proofs.Readings.{bad-good, bind-inv, inFront, front-none, front-one, front-front, front-inv}
 use Rattle.spelling.proofs.Entries.{entry-named}
 use Rattle.fields.specs.Begun.{Begun}
+use Rattle.fields.specs.Workspace.{Frame}
 use Rattle.fields.proofs.Beginnings.{begun-none, begun-name}
+use Rattle.fields.proofs.Workspace.{frame-same, frame-then}
 use Rattle.entries_run.specs.declared.Cursor.{Cursor}
 use Rattle.entries_run.specs.declared.Step.{Step}
 use Rattle.entries_run.specs.declared.Next.{Next}
 use Rattle.entries_run.specs.declared.Next.the-variants as N
 use Rattle.entries_run.specs.declared.Run.the-variants as R
 use Rattle.entries_run.specs.declared.Sought.the-variants as S
-use Rattle.entries_run.specs.Steps.{nameAt, entryAt, Inside, Room, Found, Stepped, Passed, firstCursor, runFrom, runOf, Placed, Reaches}
+use Rattle.entries_run.specs.Steps.{nameAt, entryAt, Inside, Room, StepFound, EntryStepped, EntryPassed, firstCursor, runFrom, RunRead, EntriesRead, runOf, RunAnswered, EntryPlaced, SeekAnswered}
 
 -- ---- one entry more
 
@@ -53,19 +55,19 @@ module _ (v n : ℕ) (k : Key) (p : ℕ) (s : List ℕ) (more : 0 < n) where
 
 -- a step from the cursor c, of which n entries are left
 module _ (v : ℕ) (b w : List ℕ) (c : Cursor) (w′ : List ℕ) (n : ℕ) (more : 0 < n) where
-  pub entries-bad : (m : ℕ) → Stepped v b w c w′ (N.Bad m) → runFrom v n b w c ≡ bad m (c .at)
+  pub entries-bad : (m : ℕ) → EntryStepped v b w c w′ (N.Bad m) → runFrom v n b w c ≡ bad m (c .at)
   entries-bad m t = run-refused v n _ (c .at) _ more m (t .same (c .at))
 
-  pub entries-good : (st : Step) → Stepped v b w c w′ (N.Good st)
+  pub entries-good : (st : Step) → EntryStepped v b w c w′ (N.Good st)
       → runFrom v n b w c ≡ inFront (entryAt v b w′ (c .at) st ∷ []) (st .next .at - c .at) (runFrom v (n - 1) b w′ (st .next))
   unfolding entryOf
   entries-good st t =
-      let f : Found v b w c w′ st = t .found st refl in
+      let f : StepFound v b w c w′ st = t .found st refl in
       let here : c .at + (st .next .at - c .at) ≡ st .next .at = omega arith in
       run-on v n _ (c .at) _ more _ _ (t .same (c .at)) ∙ rw (drop-drop (st .next .at - c .at) (c .at) b, here, ← (f .stage))
 
   -- where the run was read, a step without tests is one with them
-  pub entries-again {ℓ} : {X : Type ℓ} (es : List Entry) (m : ℕ) (r : Next) → runFrom v n b w c ≡ good es m → Passed v b w c w′ r → (Stepped v b w c w′ r → X) → X
+  pub entries-again {ℓ} : {X : Type ℓ} (es : List Entry) (m : ℕ) (r : Next) → RunRead v n b w c es m → EntryPassed v b w c w′ r → (EntryStepped v b w c w′ r → X) → X
   entries-again es m r q t f = run-first-entry v n _ (c .at) _ more es m q (λ e j is. f (t .same (c .at) e j is))
 
 -- the run from the start
@@ -82,7 +84,7 @@ pub begun-first : (v : ℕ) (b w : List ℕ) → Begun (nameAt v b w 0 0)
 unfolding nameAt
 begun-first v b w = rw (nameAt-none v b w (eqb v 4)) begun-none
 
-pub begun-next : (v : ℕ) (b w : List ℕ) (c : Cursor) (w′ : List ℕ) (st : Step) → Stepped v b w c w′ (N.Good st) → Begun (nameAt v b w′ (st .next .start) (st .next .len))
+pub begun-next : (v : ℕ) (b w : List ℕ) (c : Cursor) (w′ : List ℕ) (st : Step) → EntryStepped v b w c w′ (N.Good st) → Begun (nameAt v b w′ (st .next .start) (st .next .len))
 unfolding entryOf
 begun-next v b w c w′ st t = begun-name _ (entry-named 20 v _ (c .at) _ _ _ (t .same (c .at)))
 
@@ -109,8 +111,8 @@ module _ (v : ℕ) (b : List ℕ) where
   walked-first w = record { after = omega arith; whole = λ n. rw zero-add (sym (front-none _ ∙ run-first v n b w)) }
 
   module _ (es : List Entry) (w : List ℕ) (c : Cursor) (h : Walked v b es w c) where
-    -- the run of so many entries, and of more
-    pub walked-end : readEntries 20 v (length es) start 12 (drop 12 b) ≡ good es (c .at - 12)
+    -- the run of es, and of more entries
+    pub walked-end : EntriesRead v (length es) b es (c .at - 12)
     unfolding inFront
     walked-end =
         let none-more : length es + 0 ≡ length es = omega arith in
@@ -126,22 +128,22 @@ module _ (v : ℕ) (b : List ℕ) where
     walked-on count few = let sum : length es + (count - length es) ≡ count = omega arith in rw sum at (h .whole (count - length es))
 
     -- where all entries are read, es are the first of them
-    pub walked-take : (count : ℕ) (all : List Entry) (m : ℕ) → readEntries 20 v count start 12 (drop 12 b) ≡ good all m → length es ≤ count
+    pub walked-take : (count : ℕ) (all : List Entry) (m : ℕ) → EntriesRead v count b all m → length es ≤ count
         → es ≡ take (length es) all
     walked-take count all m e few = front-inv _ _ _ _ _ (sym (walked-on count few) ∙ e) (λ gs l q parts sum. rw (← parts) (sym (take-append-seam es gs)))
 
     module _ (w′ : List ℕ) where
       -- a step that refuses
-      pub walked-bad : (m : ℕ) → Stepped v b w c w′ (N.Bad m) → (count : ℕ) → length es < count
+      pub walked-bad : (m : ℕ) → EntryStepped v b w c w′ (N.Bad m) → (count : ℕ) → length es < count
           → readEntries 20 v count start 12 (drop 12 b) ≡ bad m (c .at)
       unfolding inFront
       walked-bad m t count more = walked-on count (omega arith) ∙ rw (entries-bad v b w c w′ (count - length es) (omega arith) m t)
 
       -- a step over one entry more
-      module _ (st : Step) (t : Stepped v b w c w′ (N.Good st)) where
+      module _ (st : Step) (t : EntryStepped v b w c w′ (N.Good st)) where
         pub walked-more : Walked v b (es ++ (entryAt v b w′ (c .at) st ∷ [])) w′ (st .next)
         walked-more =
-            let f : Found v b w c w′ st = t .found st refl in
+            let f : StepFound v b w c w′ st = t .found st refl in
             record {
               after = omega (arith, h .after);
               whole = λ n.
@@ -151,17 +153,55 @@ module _ (v : ℕ) (b : List ℕ) where
                   rw (count, h .whole (n + 1), entries-good v b w c w′ (n + 1) (omega arith) st t, left) (front-front es _ _ _ _ ∙ rw taken);
             }
 
-        pub walked-entry : (count : ℕ) (all : List Entry) (m : ℕ) → readEntries 20 v count start 12 (drop 12 b) ≡ good all m → length es < count
+        pub walked-entry : (count : ℕ) (all : List Entry) (m : ℕ) → EntriesRead v count b all m → length es < count
             → getElem? all (length es) ≡ some (entryAt v b w′ (c .at) st)
         walked-entry count all m e more =
             let sum : length (es ++ (entryAt v b w′ (c .at) st ∷ [])) + (count - length es - 1) ≡ count = rw length-append (omega arith) in
             front-inv _ _ _ _ _ (sym (rw sum at (walked-more .whole (count - length es - 1))) ∙ e) λ gs l q parts rest.
             rw (← parts) (getElem?-seam es gs _)
 
+-- ---- a walk over count entries, from the start on
+
+-- left of them are ahead of the cursor
+pub record Walking (v : ℕ) (b w₀ : List ℕ) (count left : ℕ) (w : List ℕ) (c : Cursor) : Type 0 where
+  pub inside : Inside b c
+  pub frame : Frame w₀ w
+  pub entries : List Entry
+  pub walked : Walked v b entries w c
+  pub many : length entries + left ≡ count
+
+pub walking-first : (v : ℕ) (b w : List ℕ) (count : ℕ) → Room b w → Walking v b w count count w firstCursor
+walking-first v b w count room = record { inside = inside-first b w room; frame = frame-same w; entries = []; walked = walked-first v b w; many = omega arith }
+
+module _ {v : ℕ} {b w₀ : List ℕ} {count left : ℕ} {w : List ℕ} {c : Cursor} (h : Walking v b w₀ count left w c) where
+  pub walking-more : {w′ : List ℕ} {st : Step} → 0 < left → EntryStepped v b w c w′ (N.Good st) → Walking v b w₀ count (left - 1) w′ (st .next)
+  walking-more {w′} {st} more t =
+      record {
+        inside = t .found st refl .next;
+        frame = frame-then (h .frame) (t .frame);
+        entries = _;
+        walked = walked-more v b _ w c (h .walked) w′ st t;
+        many = rw length-append (omega (arith, h .many));
+      }
+
+  pub ran-bad : {w′ : List ℕ} {n : ℕ} → 0 < left → EntryStepped v b w c w′ (N.Bad n) → RunAnswered v b w₀ count w′ (R.Bad n (c .at))
+  ran-bad {w′} {n} more t =
+      record {
+        same = sym (ap runOf (walked-bad v b _ w c (h .walked) w′ n t count (omega (arith, h .many))));
+        inside = zero-le;
+        frame = frame-then (h .frame) (t .frame);
+      }
+
+  pub ran-good : left ≤ 0 → RunAnswered v b w₀ count w (R.Good (c .at))
+  ran-good none =
+      let all : length (h .entries) ≡ count = omega (arith, h .many) in
+      let end : 12 + (c .at - 12) ≡ c .at = omega (arith, h .walked .after) in
+      record { same = sym (ap runOf (rw all at (walked-end v b _ w c (h .walked))) ∙ ap R.Good end); inside = h .inside .inside; frame = h .frame }
+
 -- ---- what callers read from answers
 
 -- where the name begins that a step found
-found-name : (v : ℕ) (b w : List ℕ) (c : Cursor) (w′ : List ℕ) (st : Step) → Found v b w c w′ st → eqb v 4 ≡ false → st .next .start ≡ namePlace 20 (c .at) b
+found-name : (v : ℕ) (b w : List ℕ) (c : Cursor) (w′ : List ℕ) (st : Step) → StepFound v b w c w′ st → eqb v 4 ≡ false → st .next .start ≡ namePlace 20 (c .at) b
 unfolding namePlace
 found-name v b w c w′ st f old = f .begins old ∙ rw (f .head, f .flags)
 
@@ -188,28 +228,26 @@ good-sought P at at′ st st′ q =
     let there : at ≡ at′ = cc in
     let same : st ≡ st′ = cc in subst₂ P there same
 
-module _ (v : ℕ) (b : List ℕ) (k : ℕ) (es : List Entry) (w : List ℕ) (c : Cursor) (h : Walked v b es w c)
-    (w′ w₀ : List ℕ) (long : length w′ ≡ length w₀) (past : drop 8192 w′ ≡ drop 8192 w₀) where
-  pub sought-bad : (n p : ℕ) → length es ≤ k → Stepped v b w c w′ (N.Bad n) → Reaches v b w₀ k w′ (S.Bad n p)
-  sought-bad n p few t =
+module _ {v : ℕ} {b w₀ : List ℕ} {k left : ℕ} {w : List ℕ} {c : Cursor} (h : Walking v b w₀ k left w c) {w′ : List ℕ} where
+  pub sought-bad : {n p : ℕ} → EntryStepped v b w c w′ (N.Bad n) → SeekAnswered v b w₀ k w′ (S.Bad n p)
+  sought-bad t =
       record {
-        entry = λ count all m e more. bad-good _ _ _ _ (sym (walked-bad v b es w c h w′ n t count (omega arith)) ∙ e);
+        entry = λ count all m e more. bad-good _ _ _ _ (sym (walked-bad v b _ w c (h .walked) w′ _ t count (omega (arith, h .many))) ∙ e);
         placed = λ at st q. bad-sought q;
         place = λ at st q. bad-sought q;
         name = λ at st q. bad-sought q;
-        long = long;
-        past = past;
+        frame = frame-then (h .frame) (t .frame);
       }
 
-  pub sought-good : (st : Step) → length es ≡ k → Stepped v b w c w′ (N.Good st) → Reaches v b w₀ k w′ (S.Good (c .at) st)
-  sought-good st all-of t =
-      let f : Found v b w c w′ st = t .found st refl in
-      let parts : Placed b (c .at) st = record { fixed = omega arith; name = omega arith; short = f .next .short; stage = f .stage } in
+  pub sought-good : {st : Step} → left ≤ 0 → EntryStepped v b w c w′ (N.Good st) → SeekAnswered v b w₀ k w′ (S.Good (c .at) st)
+  sought-good {st} none t =
+      let f : StepFound v b w c w′ st = t .found st refl in
+      let all-of : length (h .entries) ≡ k = omega (arith, h .many) in
+      let parts : EntryPlaced b (c .at) st = record { fixed = omega arith; name = omega arith; short = f .next .short; stage = f .stage } in
       record {
-        entry = λ count all m e more. rw all-of at (walked-entry v b es w c h w′ st t count all m e (omega arith));
-        placed = λ at other q. good-sought (Placed b) _ at _ other q parts;
-        place = λ at other q. good-sought (λ a s. a ≡ entryPlace 20 v k b) _ at _ other q (rw all-of at (walked-place v b es w c h));
+        entry = λ count all m e more. rw all-of at (walked-entry v b _ w c (h .walked) w′ st t count all m e (omega arith));
+        placed = λ at other q. good-sought (EntryPlaced b) _ at _ other q parts;
+        place = λ at other q. good-sought (λ a s. a ≡ entryPlace 20 v k b) _ at _ other q (rw all-of at (walked-place v b _ w c (h .walked)));
         name = λ at other q. good-sought (λ a s. eqb v 4 ≡ false → s .next .start ≡ namePlace 20 a b) _ at _ other q (found-name v b w c w′ st f);
-        long = long;
-        past = past;
+        frame = frame-then (h .frame) (t .frame);
       }
