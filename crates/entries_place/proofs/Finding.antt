@@ -1,5 +1,5 @@
 -- Laws of the search for the place of a key, entry after entry.
-use mathlib.Core.Path.{_≡_, refl, sym, ap, subst, _∙_}
+use mathlib.Core.Path.{_≡_, refl, sym, ap, _∙_}
 use mathlib.Core.List.{List, [], _∷_, _++_, append-assoc}
 use mathlib.Core.Bool.{true, false}
 use Prim.Native.Nat.{ℕ, _+_, _-_, _≤_, _<_}
@@ -66,50 +66,48 @@ module _ (k : Key) (es : List Entry) (x : Entry) (all-before : rank k es ≡ len
 
 -- ---- the search
 
--- n of count entries have been passed, and all of them stand before the key k
-pub record Searching (v : ℕ) (b w₀ : List ℕ) (count : ℕ) (k : Key) (n : ℕ) (w : List ℕ) (c : Cursor) : Type 0 where
-  pub walking : Walking v b w₀ count (count - n) w c
-  pub few : n ≤ count
-  pub before : rank k (walking .entries) ≡ n
+-- n entries have been passed, and all of them stand before the key k
+pub record Searching (v : ℕ) (b work₀ : List ℕ) (k : Key) (n : ℕ) (w : List ℕ) (c : Cursor) : Type 0 where
+  pub entries : List Entry
+  pub walking : Walking v b work₀ entries w c
+  pub many : length entries ≡ n
+  pub before : rank k entries ≡ n
 
-pub search-first : (v : ℕ) (b w : List ℕ) (count : ℕ) (k : Key) → Room b w → Searching v b w count k 0 w firstCursor
+pub search-first : (v : ℕ) (b w : List ℕ) (k : Key) → Room b w → Searching v b w k 0 w firstCursor
 unfolding rank
-search-first v b w count k room = record { walking = walking-first v b w count room; few = omega arith; before = refl }
+search-first v b w k room = record { entries = []; walking = walking-first v b w room; many = refl; before = refl }
 
-module _ {v : ℕ} {b w₀ : List ℕ} {count : ℕ} {k : Key} {n : ℕ} {w : List ℕ} {c : Cursor} (h : Searching v b w₀ count k n w c) where
+module _ {v : ℕ} {b work₀ : List ℕ} {k : Key} {n : ℕ} {w : List ℕ} {c : Cursor} (h : Searching v b work₀ k n w c) where
   abbrev es : List Entry
-  es = h .walking .entries
-
-  many : length es ≡ n
-  many = omega (arith, h .walking .many, h .few)
+  es = h .entries
 
   -- no entry is left
-  pub search-end : n ≡ count → PlaceFound v b w₀ count k w (record { before = n; there = false })
+  pub search-end : {count : ℕ} → n ≡ count → PlaceFound v b work₀ count k w (record { before = n; there = false })
   unfolding startsWith
-  search-end all-of =
+  search-end {count} all-of =
       record {
         is = λ all m q.
-            let read = ap (λ (i : ℕ). readEntries 20 v i start 12 (drop 12 b)) (many ∙ all-of) in
+            let read = ap (λ (i : ℕ). readEntries 20 v i start 12 (drop 12 b)) (h .many ∙ all-of) in
             good-inv _ _ _ _ (sym (walked-end v b es w c (h .walking .walked)) ∙ read ∙ q) λ is l.
-            let at : rank k all ≡ length all = ap (rank k) (sym is) ∙ h .before ∙ sym many ∙ ap length is in
+            let at : rank k all ≡ length all = ap (rank k) (sym is) ∙ h .before ∙ sym (h .many) ∙ ap length is in
             (sym (h .before) ∙ ap (rank k) is, rw (at, drop-length all));
         few = omega arith;
         frame = h .walking .frame;
       }
 
-  module _ {w′ : List ℕ} (more : n < count) where
+  module _ {count : ℕ} {w′ : List ℕ} (more : n < count) where
     -- where all entries were read, a step without tests is one with them
-    pub search-again : AllRead v count b → {r : Next} → EntryPassed v b w c w′ r → EntryStepped v b w c w′ r
-    search-again (all, m, q) {r} t =
-        let left : length es + (count - length es) ≡ count = omega (arith, many) in
+    pub search-again : AllRead v count b → (r : Next) → EntryPassed v b w c w′ r → EntryStepped v b w c w′ r
+    search-again (all, m, q) r t =
+        let left : length es + (count - length es) ≡ count = omega (arith, h .many) in
         front-inv _ _ _ _ _ (sym (rw left at (h .walking .walked .whole (count - length es))) ∙ q) λ gs l rest parts sum.
-        entries-again v b w c w′ (count - length es) (omega (arith, many)) gs l r rest t (λ u. u)
+        entries-again v b w c w′ (count - length es) (omega (arith, h .many)) gs l r rest t (λ u. u)
 
     -- the next entry is refused
-    pub search-bad : {m : ℕ} → EntryStepped v b w c w′ (N.Bad m) → PlaceFound v b w₀ count k w′ (record { before = n; there = false })
+    pub search-bad : {m : ℕ} → EntryStepped v b w c w′ (N.Bad m) → PlaceFound v b work₀ count k w′ (record { before = n; there = false })
     search-bad {m} t =
         record {
-          is = λ all j q. bad-good _ _ _ _ (sym (walked-bad v b es w c (h .walking .walked) w′ m t count (omega (arith, many))) ∙ q);
+          is = λ all j q. bad-good _ _ _ _ (sym (walked-bad v b es w c (h .walking .walked) w′ m t count (omega (arith, h .many))) ∙ q);
           few = omega arith;
           frame = frame-then (h .walking .frame) (t .frame);
         }
@@ -123,32 +121,32 @@ module _ {v : ℕ} {b w₀ : List ℕ} {count : ℕ} {k : Key} {n : ℕ} {w : Li
       order-is = e ∙ ap (λ (x : Key). compareKeys x k) (sym (key-at v b w c w′ st (t .found st refl)))
 
       all-before : rank k es ≡ length es
-      all-before = h .before ∙ sym many
+      all-before = h .before ∙ sym (h .many)
 
-      on : Walking v b w₀ count (count - n - 1) w′ (st .next)
-      on = walking-more (h .walking) (omega arith) t
+      on : Walking v b work₀ (es ++ (next ∷ [])) w′ (st .next)
+      on = walking-more (h .walking) t
 
-      pub search-more : isBelow o ≡ true → Searching v b w₀ count k (n + 1) w′ (st .next)
+      pub search-more : isBelow o ≡ true → Searching v b work₀ k (n + 1) w′ (st .next)
       search-more below =
-          let left : count - n - 1 ≡ count - (n + 1) = omega arith in
           record {
-            walking = subst (λ (i : ℕ). Walking v b w₀ count i w′ (st .next)) left on;
-            few = omega arith;
-            before = one-more k es next all-before (before-by (keyOf next) k o order-is ∙ below) ∙ omega (arith, many);
+            entries = _;
+            walking = on;
+            many = rw length-append (omega (arith, h .many));
+            before = one-more k es next all-before (before-by (keyOf next) k o order-is ∙ below) ∙ omega (arith, h .many);
           }
 
       -- it has the key, or stands after it
-      pub search-stop : isBelow o ≡ false → PlaceFound v b w₀ count k w′ (record { before = n; there = isSame o })
+      pub search-stop : isBelow o ≡ false → PlaceFound v b work₀ count k w′ (record { before = n; there = isSame o })
       search-stop not-below =
           record {
             is = λ all m q.
-                let few : length (es ++ (next ∷ [])) ≤ count = rw length-append (omega (arith, many)) in
+                let few : length (es ++ (next ∷ [])) ≤ count = rw length-append (omega (arith, h .many)) in
                 let begins : es ++ (next ∷ []) ≡ take (length (es ++ (next ∷ []))) all = walked-take v b _ w′ (st .next) (on .walked) count all m q few in
                 let gs : List Entry = drop (length (es ++ (next ∷ []))) all in
                 let parts : all ≡ es ++ (next ∷ gs) =
                 sym (take-append-drop (length (es ++ (next ∷ []))) all) ∙ ap (λ (l : List Entry). l ++ gs) (sym begins) ∙ append-assoc es (next ∷ []) gs in
                 let (at, there) = stopped k es next all-before all gs parts (before-by (keyOf next) k o order-is ∙ not-below) in
-                (sym many ∙ at, sym (same-by (keyOf next) k o order-is) ∙ there);
+                (sym (h .many) ∙ at, sym (same-by (keyOf next) k o order-is) ∙ there);
             few = omega (arith, bit-below (isSame o));
             frame = on .frame;
           }

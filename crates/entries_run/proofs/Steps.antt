@@ -160,43 +160,35 @@ module _ (v : ℕ) (b : List ℕ) where
             front-inv _ _ _ _ _ (sym (rw sum at (walked-more .whole (count - length es - 1))) ∙ e) λ gs l q parts rest.
             rw (← parts) (getElem?-seam es gs _)
 
--- ---- a walk over count entries, from the start on
+-- ---- a walk over entries, which has passed the entries es; work₀ is what it starts from
 
--- left of them are ahead of the cursor
-pub record Walking (v : ℕ) (b w₀ : List ℕ) (count left : ℕ) (w : List ℕ) (c : Cursor) : Type 0 where
+pub record Walking (v : ℕ) (b work₀ : List ℕ) (es : List Entry) (w : List ℕ) (c : Cursor) : Type 0 where
   pub inside : Inside b c
-  pub frame : Frame w₀ w
-  pub entries : List Entry
-  pub walked : Walked v b entries w c
-  pub many : length entries + left ≡ count
+  pub frame : Frame work₀ w
+  pub walked : Walked v b es w c
 
-pub walking-first : (v : ℕ) (b w : List ℕ) (count : ℕ) → Room b w → Walking v b w count count w firstCursor
-walking-first v b w count room = record { inside = inside-first b w room; frame = frame-same w; entries = []; walked = walked-first v b w; many = omega arith }
+pub walking-first : (v : ℕ) (b w : List ℕ) → Room b w → Walking v b w [] w firstCursor
+walking-first v b w room = record { inside = inside-first b w room; frame = frame-same w; walked = walked-first v b w }
 
-module _ {v : ℕ} {b w₀ : List ℕ} {count left : ℕ} {w : List ℕ} {c : Cursor} (h : Walking v b w₀ count left w c) where
-  pub walking-more : {w′ : List ℕ} {st : Step} → 0 < left → EntryStepped v b w c w′ (N.Good st) → Walking v b w₀ count (left - 1) w′ (st .next)
-  walking-more {w′} {st} more t =
-      record {
-        inside = t .found st refl .next;
-        frame = frame-then (h .frame) (t .frame);
-        entries = _;
-        walked = walked-more v b _ w c (h .walked) w′ st t;
-        many = rw length-append (omega (arith, h .many));
-      }
+module _ {v : ℕ} {b work₀ : List ℕ} {es : List Entry} {w : List ℕ} {c : Cursor} (h : Walking v b work₀ es w c) where
+  pub walking-more : {w′ : List ℕ} {st : Step} → EntryStepped v b w c w′ (N.Good st)
+      → Walking v b work₀ (es ++ (entryAt v b w′ (c .at) st ∷ [])) w′ (st .next)
+  walking-more {w′} {st} t =
+      record { inside = t .found st refl .next; frame = frame-then (h .frame) (t .frame); walked = walked-more v b es w c (h .walked) w′ st t }
 
-  pub ran-bad : {w′ : List ℕ} {n : ℕ} → 0 < left → EntryStepped v b w c w′ (N.Bad n) → RunAnswered v b w₀ count w′ (R.Bad n (c .at))
-  ran-bad {w′} {n} more t =
-      record {
-        same = sym (ap runOf (walked-bad v b _ w c (h .walked) w′ n t count (omega (arith, h .many))));
-        inside = zero-le;
-        frame = frame-then (h .frame) (t .frame);
-      }
+  module _ {count : ℕ} where
+    pub ran-bad : {w′ : List ℕ} {n : ℕ} → length es < count → EntryStepped v b w c w′ (N.Bad n) → RunAnswered v b work₀ count w′ (R.Bad n (c .at))
+    ran-bad {w′} {n} more t =
+        record {
+          same = sym (ap runOf (walked-bad v b es w c (h .walked) w′ n t count more));
+          inside = zero-le;
+          frame = frame-then (h .frame) (t .frame);
+        }
 
-  pub ran-good : left ≤ 0 → RunAnswered v b w₀ count w (R.Good (c .at))
-  ran-good none =
-      let all : length (h .entries) ≡ count = omega (arith, h .many) in
-      let end : 12 + (c .at - 12) ≡ c .at = omega (arith, h .walked .after) in
-      record { same = sym (ap runOf (rw all at (walked-end v b _ w c (h .walked))) ∙ ap R.Good end); inside = h .inside .inside; frame = h .frame }
+    pub ran-good : length es ≡ count → RunAnswered v b work₀ count w (R.Good (c .at))
+    ran-good all =
+        let end : 12 + (c .at - 12) ≡ c .at = omega (arith, h .walked .after) in
+        record { same = sym (ap runOf (rw all at (walked-end v b es w c (h .walked))) ∙ ap R.Good end); inside = h .inside .inside; frame = h .frame }
 
 -- ---- what callers read from answers
 
@@ -228,26 +220,25 @@ good-sought P at at′ st st′ q =
     let there : at ≡ at′ = cc in
     let same : st ≡ st′ = cc in subst₂ P there same
 
-module _ {v : ℕ} {b w₀ : List ℕ} {k left : ℕ} {w : List ℕ} {c : Cursor} (h : Walking v b w₀ k left w c) {w′ : List ℕ} where
-  pub sought-bad : {n p : ℕ} → EntryStepped v b w c w′ (N.Bad n) → SeekAnswered v b w₀ k w′ (S.Bad n p)
-  sought-bad t =
+module _ {v : ℕ} {b work₀ : List ℕ} {es : List Entry} {w : List ℕ} {c : Cursor} (h : Walking v b work₀ es w c) {k : ℕ} {w′ : List ℕ} where
+  pub sought-bad : {n p : ℕ} → length es ≤ k → EntryStepped v b w c w′ (N.Bad n) → SeekAnswered v b work₀ k w′ (S.Bad n p)
+  sought-bad few t =
       record {
-        entry = λ count all m e more. bad-good _ _ _ _ (sym (walked-bad v b _ w c (h .walked) w′ _ t count (omega (arith, h .many))) ∙ e);
+        entry = λ count all m e more. bad-good _ _ _ _ (sym (walked-bad v b es w c (h .walked) w′ _ t count (omega arith)) ∙ e);
         placed = λ at st q. bad-sought q;
         place = λ at st q. bad-sought q;
         name = λ at st q. bad-sought q;
         frame = frame-then (h .frame) (t .frame);
       }
 
-  pub sought-good : {st : Step} → left ≤ 0 → EntryStepped v b w c w′ (N.Good st) → SeekAnswered v b w₀ k w′ (S.Good (c .at) st)
-  sought-good {st} none t =
+  pub sought-good : {st : Step} → length es ≡ k → EntryStepped v b w c w′ (N.Good st) → SeekAnswered v b work₀ k w′ (S.Good (c .at) st)
+  sought-good {st} all-of t =
       let f : StepFound v b w c w′ st = t .found st refl in
-      let all-of : length (h .entries) ≡ k = omega (arith, h .many) in
       let parts : EntryPlaced b (c .at) st = record { fixed = omega arith; name = omega arith; short = f .next .short; stage = f .stage } in
       record {
-        entry = λ count all m e more. rw all-of at (walked-entry v b _ w c (h .walked) w′ st t count all m e (omega arith));
+        entry = λ count all m e more. rw all-of at (walked-entry v b es w c (h .walked) w′ st t count all m e (omega arith));
         placed = λ at other q. good-sought (EntryPlaced b) _ at _ other q parts;
-        place = λ at other q. good-sought (λ a s. a ≡ entryPlace 20 v k b) _ at _ other q (rw all-of at (walked-place v b _ w c (h .walked)));
+        place = λ at other q. good-sought (λ a s. a ≡ entryPlace 20 v k b) _ at _ other q (rw all-of at (walked-place v b es w c (h .walked)));
         name = λ at other q. good-sought (λ a s. eqb v 4 ≡ false → s .next .start ≡ namePlace 20 a b) _ at _ other q (found-name v b w c w′ st f);
         frame = frame-then (h .frame) (t .frame);
       }

@@ -1,7 +1,7 @@
 -- The proof that `find_place` meets its contract. The loop keeps that the entries before the cursor all stand before the name and stage.
 use mathlib.Core.Path.{refl}
 use mathlib.Core.List.{List}
-use Prim.Native.Nat.{_-_}
+use Prim.Native.Nat.{ℕ, _-_, _≤_}
 use native.Mathlib.Omega.{arith}
 use borrow.Author.Needs.{needs}
 use Rattle.entries_run.specs.declared.Next.{Next}
@@ -11,7 +11,7 @@ use Rattle.entries_place.proofs.find_place.Statement.{statement}
 use Rattle.entries_place.proofs.find_place.Tie as tie
 
 abbrev Inv-loop : tie.InvT-loop
-Inv-loop b v work₀ count name stage c₀ before₀ work c before = Searching v b work₀ count (record { name = name; stage = stage }) before work c
+Inv-loop b v work₀ count name stage c₀ before₀ work c before = Searching v b work₀ (record { name = name; stage = stage }) before work c × (before ≤ count)
 
 abbrev μ-loop : tie.MeasureT-loop
 μ-loop b v work₀ count name stage c₀ before₀ work c before = count - before
@@ -23,17 +23,17 @@ loop-holds : tie.Need-loop-holds Inv-loop μ-loop
 loop-holds c =
     let st = c .before .before .before .before in
     let a = st .args in
-    rw (c .first .ensures) (search-first (a .v) (a .b .now) (a .work .now) (a .count) _ (st .pre .0))
+    rw (c .first .ensures) (search-first (a .v) (a .b .now) (a .work .now) _ (st .pre .0), omega arith)
 
 pass-entry-requires : tie.Need-pass-entry-requires Inv-loop μ-loop
-pass-entry-requires c κs = (c .before .before .loop .inv .walking .inside, omega arith)
+pass-entry-requires c κs = (c .before .before .loop .inv .0 .walking .inside, omega arith)
 
 -- the entries were read before
 again : (e : tie.After-pass-entry Inv-loop μ-loop) → let l = e .before .before .before in let a = l .before .before .before .before .before .args in
-    {work′ : List ℕ} {r : Next} → EntryPassed (a .v) (a .b .now) (l .loop .work) (l .loop .c) work′ r → EntryStepped (a .v) (a .b .now) (l .loop .work) (l .loop .c) work′ r
-again e =
+    (work′ : List ℕ) (r : Next) → EntryPassed (a .v) (a .b .now) (l .loop .work) (l .loop .c) work′ r → EntryStepped (a .v) (a .b .now) (l .loop .work) (l .loop .c) work′ r
+again e work′ r =
     let l = e .before .before .before in
-    search-again (l .loop .inv) (e .before .before .loop-test .taken) (l .before .before .before .before .before .pre .1)
+    search-again (l .loop .inv .0) (e .before .before .loop-test .taken) (l .before .before .before .before .before .pre .1) r
 
 enum-told : tie.Need-enum-told Inv-loop μ-loop
 enum-told c = search needs
@@ -44,7 +44,7 @@ same-length c = omega arith
 returns : tie.Need-returns Inv-loop μ-loop
 returns c =
     let e = c .before .before .before .before in
-    search-bad (e .before .before .before .loop .inv) (e .before .before .loop-test .taken) (rw (c .enum-told .given .1) at (again e (e .pass-entry .ensures)))
+    search-bad (e .before .before .before .loop .inv .0) (e .before .before .loop-test .taken) (rw (c .enum-told .given .1) at (again e _ _ (e .pass-entry .ensures)))
 
 enum-known-g : tie.Need-enum-known-g Inv-loop μ-loop
 enum-known-g c = search needs
@@ -54,14 +54,16 @@ order-at-requires c κs =
     let g = c .before .before .before in
     let e = g .before .before .before .before in
     let l = e .before .before .before in
-    let t = rw (g .g .given .1) at (again e (e .pass-entry .ensures)) in
-    (t .found _ refl .next, omega (arith, t .frame, l .loop .inv .walking .frame, l .before .before .before .before .before .pre .0 .room))
+    let t = rw (g .g .given .1) at (again e _ _ (e .pass-entry .ensures)) in
+    (t .found _ refl .next, omega (arith, t .frame, l .loop .inv .0 .walking .frame, l .before .before .before .before .before .pre .0 .room))
 
 enum-told-2 : tie.Need-enum-told-2 Inv-loop μ-loop
 enum-told-2 c = search needs
 
 add-before : tie.Need-add-before Inv-loop μ-loop
-add-before c = omega arith
+add-before c =
+    let e = c .before .before .before .before .before .before .before .before .before .before in
+    omega (arith, e .before .before .loop-test .taken, e .before .before .before .before .before .before .before .before .fits)
 
 loop-less : tie.Need-loop-less Inv-loop μ-loop
 loop-less c = omega arith
@@ -71,8 +73,8 @@ loop-again c =
     let o = c .before .before in
     let g = o .before .before .before .before in
     let e = g .before .before .before .before in
-    let t = rw (g .g .given .1) at (again e (e .pass-entry .ensures)) in
-    search-more (e .before .before .before .loop .inv) (e .before .before .loop-test .taken) t (rw (c .enum-told2 .given .1) at (o .order-at .ensures)) refl
+    let t = rw (g .g .given .1) at (again e _ _ (e .pass-entry .ensures)) in
+    (search-more (e .before .before .before .loop .inv .0) (e .before .before .loop-test .taken) t (rw (c .enum-told2 .given .1) at (o .order-at .ensures)) refl, omega arith)
 
 enum-told-3 : tie.Need-enum-told-3 Inv-loop μ-loop
 enum-told-3 c = search needs
@@ -85,8 +87,8 @@ returns-2 c =
     let o = c .before .before in
     let g = o .before .before .before .before in
     let e = g .before .before .before .before in
-    let t = rw (g .g .given .1) at (again e (e .pass-entry .ensures)) in
-    search-stop (e .before .before .before .loop .inv) (e .before .before .loop-test .taken) t (rw (c .enum-told3 .given .1) at (o .order-at .ensures)) refl
+    let t = rw (g .g .given .1) at (again e _ _ (e .pass-entry .ensures)) in
+    search-stop (e .before .before .before .loop .inv .0) (e .before .before .loop-test .taken) t (rw (c .enum-told3 .given .1) at (o .order-at .ensures)) refl
 
 enum-told-4 : tie.Need-enum-told-4 Inv-loop μ-loop
 enum-told-4 c = search needs
@@ -99,14 +101,14 @@ returns-3 c =
     let o = c .before .before in
     let g = o .before .before .before .before in
     let e = g .before .before .before .before in
-    let t = rw (g .g .given .1) at (again e (e .pass-entry .ensures)) in
-    search-stop (e .before .before .before .loop .inv) (e .before .before .loop-test .taken) t (rw (c .enum-told4 .given .1) at (o .order-at .ensures)) refl
+    let t = rw (g .g .given .1) at (again e _ _ (e .pass-entry .ensures)) in
+    search-stop (e .before .before .before .loop .inv .0) (e .before .before .loop-test .taken) t (rw (c .enum-told4 .given .1) at (o .order-at .ensures)) refl
 
 same-length-4 : tie.Need-same-length-4 Inv-loop μ-loop
-same-length-4 c = c .before .loop .inv .walking .frame .long
+same-length-4 c = c .before .loop .inv .0 .walking .frame .long
 
 returns-4 : tie.Need-returns-4 Inv-loop μ-loop
-returns-4 c = search-end (c .before .loop .inv) (omega (arith, c .loop-test .left, c .before .loop .inv .few))
+returns-4 c = search-end (c .before .loop .inv .0) (omega arith)
 
 pub find-place-spec : {M : Type 1} → statement M
 find-place-spec =

@@ -1,12 +1,17 @@
 -- The proof that `seek_entry` meets its contract. The loop keeps that some entries lie before the cursor, which with those left are k.
+use mathlib.Core.Path.{_≡_}
+use mathlib.Core.List.{List, []}
+use Prim.Native.Nat.{_+_}
 use native.Mathlib.Omega.{arith}
 use borrow.Author.Needs.{needs}
+use lib.ListN.{length, length-append}
+use Rattle.format.specs.Records.{Entry}
 use Rattle.entries_run.proofs.Steps.{Walking, walking-first, walking-more, sought-bad, sought-good}
 use Rattle.entries_run.proofs.seek_entry.Statement.{statement}
 use Rattle.entries_run.proofs.seek_entry.Tie as tie
 
 abbrev Inv-loop : tie.InvT-loop
-Inv-loop b v work₀ k c₀ left₀ work c left = Walking v b work₀ k left work c
+Inv-loop b v work₀ k c₀ left₀ work c left = (es : List Entry) × Walking v b work₀ es work c × (length es + left ≡ k)
 
 abbrev μ-loop : tie.MeasureT-loop
 μ-loop b v work₀ k c₀ left₀ work c left = left
@@ -18,10 +23,10 @@ loop-holds : tie.Need-loop-holds Inv-loop μ-loop
 loop-holds c =
     let st = c .before .before .before in
     let a = st .args in
-    rw (c .first .ensures) (walking-first (a .v) (a .b .now) (a .work .now) (a .k) (st .pre))
+    rw (c .first .ensures) ([], walking-first (a .v) (a .b .now) (a .work .now) (st .pre), omega arith)
 
 next-entry-requires : tie.Need-next-entry-requires Inv-loop μ-loop
-next-entry-requires c κs = (c .before .before .loop .inv .inside, omega arith)
+next-entry-requires c κs = (c .before .before .loop .inv .1 .inside, omega arith)
 
 enum-known-g : tie.Need-enum-known-g Inv-loop μ-loop
 enum-known-g c = search needs
@@ -32,7 +37,8 @@ same-length c = omega arith
 returns : tie.Need-returns Inv-loop μ-loop
 returns c =
     let e = c .before .before .before .before .before in
-    sought-bad (e .before .before .before .loop .inv) (rw (c .before .g .given .1) at (e .next-entry .ensures))
+    let (es, h, sum) = e .before .before .before .loop .inv in
+    sought-bad h (omega (arith, sum)) (rw (c .before .g .given .1) at (e .next-entry .ensures))
 
 enum-known-g-2 : tie.Need-enum-known-g-2 Inv-loop μ-loop
 enum-known-g-2 c = search needs
@@ -46,11 +52,11 @@ loop-less c = omega arith
 loop-again : tie.Need-loop-again Inv-loop μ-loop
 loop-again c =
     let e = c .before .before .before .before .before .before in
-    let t = e .before .before in
-    walking-more (t .before .loop .inv) (t .loop-test .taken) (rw (c .before .before .g2 .given .1) at (e .next-entry .ensures))
+    let (es, h, sum) = e .before .before .before .loop .inv in
+    (_, walking-more h (rw (c .before .before .g2 .given .1) at (e .next-entry .ensures)), rw length-append (omega (arith, sum)))
 
 next-entry-requires-2 : tie.Need-next-entry-requires-2 Inv-loop μ-loop
-next-entry-requires-2 c κs = (c .before .before .loop .inv .inside, omega arith)
+next-entry-requires-2 c κs = (c .before .before .loop .inv .1 .inside, omega arith)
 
 enum-known-last : tie.Need-enum-known-last Inv-loop μ-loop
 enum-known-last c = search needs
@@ -64,7 +70,8 @@ same-length-2 c = omega arith
 returns-2 : tie.Need-returns-2 Inv-loop μ-loop
 returns-2 c =
     let e = c .before .before .before .before .before in
-    sought-bad (e .before .before .before .loop .inv) (rw (c .before .last .given .1) at (e .next-entry2 .ensures))
+    let (es, h, sum) = e .before .before .before .loop .inv in
+    sought-bad h (omega (arith, sum)) (rw (c .before .last .given .1) at (e .next-entry2 .ensures))
 
 same-length-3 : tie.Need-same-length-3 Inv-loop μ-loop
 same-length-3 c = omega arith
@@ -72,8 +79,8 @@ same-length-3 c = omega arith
 returns-3 : tie.Need-returns-3 Inv-loop μ-loop
 returns-3 c =
     let e = c .before .before .before .before .before in
-    let t = e .before .before in
-    sought-good (t .before .loop .inv) (t .loop-test .left) (rw (c .before .last2 .given .1) at (e .next-entry2 .ensures))
+    let (es, h, sum) = e .before .before .before .loop .inv in
+    sought-good h (omega (arith, sum, e .before .before .loop-test .left)) (rw (c .before .last2 .given .1) at (e .next-entry2 .ensures))
 
 pub seek-entry-spec : {M : Type 1} → statement M
 seek-entry-spec =
