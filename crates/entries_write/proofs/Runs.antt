@@ -80,9 +80,7 @@ module _ {v : ℕ} {b work₀ : List ℕ} {c₀ : Cursor} {n version : ℕ} {out
             (front, back)
             (record { wrote = h .wrote; extended = h .any; last = h .last; taken = l .taken; left = rw here at (l .run) });
         inside = h .inside;
-        near = omega arith;
-        frame = h .frame;
-        out-long = h .wrote .long;
+        bounds = record { near = omega arith; frame = h .frame; out-long = h .wrote .long };
       }
 
   module _ (more : 0 < left) {work′ : List ℕ} where
@@ -104,9 +102,7 @@ module _ {v : ℕ} {b work₀ : List ℕ} {c₀ : Cursor} {n version : ℕ} {out
               let l = h .whole j all m e in
               bad-good _ _ _ _ (sym (entries-bad v b work c work′ (left + j) (omega arith) k t) ∙ l .run);
           inside = h .inside;
-          near = omega arith;
-          frame = frame-then (h .frame) (t .frame);
-          out-long = h .wrote .long;
+          bounds = record { near = omega arith; frame = frame-then (h .frame) (t .frame); out-long = h .wrote .long };
         }
 
     -- the next one is read

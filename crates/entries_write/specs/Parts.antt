@@ -91,10 +91,14 @@ pub record RunWritten
   pub taken : ℕ
   pub left : RunRead v j b work′ (r .cursor) rest taken
 
+-- what the writing of at most n entries leaves behind, whatever the body has; end is the place after them
+pub record WriteBounds (work out : List ℕ) (at n : ℕ) (work′ out′ : List ℕ) (end : ℕ) : Type 0 where
+  pub near : end ≤ at + n * 8264
+  pub frame : Frame work work′
+  pub out-long : length out′ ≡ length out
+
 -- what the writing of n entries leaves behind
 pub record EntriesWritten (v : ℕ) (b work : List ℕ) (c : Cursor) (n version : ℕ) (out : List ℕ) (at : ℕ) (work′ out′ : List ℕ) (r : Progress) : Type 0 where
   pub passed : (j : ℕ) (es : List Entry) (m : ℕ) → RunRead v (n + j) b work c es m → RunWritten v b work c version out at j (take n es) (drop n es) work′ out′ r
   pub inside : Inside b (r .cursor)
-  pub near : r .at ≤ at + n * 8264
-  pub frame : Frame work work′
-  pub out-long : length out′ ≡ length out
+  pub bounds : WriteBounds work out at n work′ out′ (r .at)

@@ -3,7 +3,7 @@ use mathlib.Core.Bool.{false}
 use Prim.Native.Nat.{_<_}
 use native.Mathlib.Omega.{arith}
 use borrow.Author.Needs.{needs}
-use Rattle.entries_edit.proofs.Rests.{after-none, others-refused, after-kept, after-laid}
+use Rattle.entries_edit.proofs.Rests.{after-none, others-refused, after-kept, after-written}
 use Rattle.entries_edit.proofs.rest.put_after.Statement.{statement}
 use Rattle.entries_edit.proofs.rest.put_after.Tie as tie
 use Rattle.entries_write.proofs.Stepping.{readable-again, readable-next, step-found, step-room}
@@ -74,7 +74,7 @@ returns-3 c =
     let start = read .before .before .before .before .before .before .before in
     let a = start .args in
     let t = rw (known .g .given .1) at (readable-again (start .pre .4) (some read) _ (read .pass-entry .ensures)) in
-    after-laid (a .n) (a .version) (a .out .now) (a .at) (some read) t (a .name .now) (shared .common-at .ensures) (put .put-stepped .ensures)
+    after-written (a .n) (a .version) (a .out .now) (a .at) (some read) t (a .name .now) (shared .common-at .ensures) (put .put-stepped .ensures)
 
 pub put-after-spec : {M : Type 1} → statement M
 put-after-spec =

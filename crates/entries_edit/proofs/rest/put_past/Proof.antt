@@ -2,7 +2,7 @@
 use Prim.Native.Nat.{_<_}
 use native.Mathlib.Omega.{arith}
 use borrow.Author.Needs.{needs}
-use Rattle.entries_edit.proofs.Rests.{past-none, past-refused, past-kept, past-laid}
+use Rattle.entries_edit.proofs.Rests.{past-none, past-refused, past-kept, past-written}
 use Rattle.entries_edit.proofs.rest.put_past.Statement.{statement}
 use Rattle.entries_edit.proofs.rest.put_past.Tie as tie
 use Rattle.entries_write.proofs.Stepping.{readable-again, readable-next, step-found, step-room}
@@ -68,7 +68,7 @@ returns-3 c =
     let start = read .before .before .before .before .before .before in
     let a = start .args in
     let t = rw (known .g .given .1) at (readable-again (start .pre .5) (some read) _ (read .pass-entry .ensures)) in
-    past-laid (a .n) (a .version) (a .out .now) (a .at) (some read) t (a .previous) (a .kept) (shared .least .ensures) (put .put-stepped .ensures)
+    past-written (a .n) (a .version) (a .out .now) (a .at) (some read) t (a .previous) (a .kept) (shared .least .ensures) (put .put-stepped .ensures)
 
 pub put-past-spec : {M : Type 1} → statement M
 put-past-spec =

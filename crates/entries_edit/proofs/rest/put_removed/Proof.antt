@@ -1,7 +1,7 @@
 -- The proof that `put_removed` meets its contract.
 use native.Mathlib.Omega.{arith}
 use borrow.Author.Needs.{needs}
-use Rattle.entries_edit.proofs.Rests.{removed-refused, removed-laid}
+use Rattle.entries_edit.proofs.Rests.{removed-refused, removed-written}
 use Rattle.entries_edit.proofs.rest.put_removed.Statement.{statement}
 use Rattle.entries_edit.proofs.rest.put_removed.Tie as tie
 use Rattle.entries_write.proofs.Stepping.{readable-again, readable-next, step-found, step-room, step-common}
@@ -52,7 +52,7 @@ returns-2 c =
     let start = read .before .before .before .before .before in
     let a = start .args in
     let t = rw (known .g .given .1) at (readable-again (start .pre .4) (start .pre .3) _ (read .pass-entry .ensures)) in
-    removed-laid (a .n) (a .version) (a .out .now) (a .at) (omega arith) t (start .pre .2) (start .pre .1) (put .put-past .ensures)
+    removed-written (a .n) (a .version) (a .out .now) (a .at) (omega arith) t (start .pre .2) (start .pre .1) (put .put-past .ensures)
 
 pub put-removed-spec : {M : Type 1} → statement M
 put-removed-spec =

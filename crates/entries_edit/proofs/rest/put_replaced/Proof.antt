@@ -2,7 +2,7 @@
 use mathlib.Core.Bool.{true}
 use native.Mathlib.Omega.{arith}
 use borrow.Author.Needs.{needs}
-use Rattle.entries_edit.proofs.Rests.{others-refused, replaced-laid}
+use Rattle.entries_edit.proofs.Rests.{others-refused, replaced-written}
 use Rattle.entries_edit.proofs.rest.put_replaced.Statement.{statement}
 use Rattle.entries_edit.proofs.rest.put_replaced.Tie as tie
 use Rattle.entries_write.proofs.Stepping.{readable-again, readable-next, step-found, step-room}
@@ -52,7 +52,7 @@ returns-2 c =
     let start = read .before .before .before .before .before in
     let a = start .args in
     let t = rw (known .g .given .1) at (readable-again (start .pre .4) (start .pre .3) _ (read .pass-entry .ensures)) in
-    replaced-laid (a .n) (a .version) (a .out .now) (a .at) (omega arith) t (put .put-entries .ensures)
+    replaced-written (a .n) (a .version) (a .out .now) (a .at) (omega arith) t (put .put-entries .ensures)
 
 pub put-replaced-spec : {M : Type 1} → statement M
 put-replaced-spec =
