@@ -20,7 +20,7 @@ use Rattle.entries_write.specs.declared.Progress.{Progress}
 use Rattle.entries_write.specs.Parts.{Beside, EntryWritten, Readable, lastName, WriteBounds, EntriesWritten}
 use Rattle.entries.specs.declared.record.Fields.{Fields}
 use Rattle.entries.specs.Record.{entryWith}
-use Rattle.entries_edit.specs.declared.rest.EntriesEnd.{EntriesEnd}
+use Rattle.entries_edit.specs.declared.rest.WriteEnd.{WriteEnd}
 use Rattle.entries_edit.specs.Rests.{NamedAt, EntriesWrittenAfter, OthersWritten, RemovedWritten}
 use Rattle.entries_edit.proofs.Rests.{written-one, written-front, all-written}
 use Rattle.entries_edit.specs.declared.Edit.{Edit}
@@ -37,7 +37,7 @@ first-of-rest (suc k) (x ∷ xs) = first-of-rest k xs
 
 -- ---- all entries, edited
 
-edited-written : (v : ℕ) (b work : List ℕ) (count : ℕ) (edit : Edit) (e : Entry) (version : ℕ) (out : List ℕ) (at : ℕ) {work′ out′ : List ℕ} {r : EntriesEnd} (n : ℕ)
+edited-written : (v : ℕ) (b work : List ℕ) (count : ℕ) (edit : Edit) (e : Entry) (version : ℕ) (out : List ℕ) (at : ℕ) {work′ out′ : List ℕ} {r : WriteEnd} (n : ℕ)
     → n ≤ count + 1
     → ((es : List Entry) (m : ℕ) → EntriesRead v count b es m → Replaces edit (e .name) es
     → EntriesWrittenAfter version out at [] (edited edit e es) out′ r)
@@ -96,7 +96,7 @@ module _ {v : ℕ} {b work : List ℕ} (count : ℕ) {k version : ℕ} {out : Li
       front-on es m q (λ j front last left. record { more = 0; entries = drop k es; taken = j; run = rw none left })
 
   -- the next entry is removed
-  pub without-written : {work₂ out₂ : List ℕ} {r : EntriesEnd} {also : Bool} → RemovedWritten v b work₁ (p .cursor) (count - k) version out₁ (p .at) work₂ out₂ r
+  pub without-written : {work₂ out₂ : List ℕ} {r : WriteEnd} {also : Bool} → RemovedWritten v b work₁ (p .cursor) (count - k) version out₁ (p .at) work₂ out₂ r
       → also ≡ (p .extended || r .extended)
       → (e : Entry) → EntriesEdited v b work count (E.Remove k) e version out at work₂ out₂ (record { at = r .at; extended = also })
   without-written {r = r} {also = also} x is e =
@@ -109,7 +109,7 @@ module _ {v : ℕ} {b work : List ℕ} (count : ℕ) {k version : ℕ} {out : Li
       (record { near = omega arith; frame = frame-then (h .bounds .frame) (x .bounds .frame); out-long = x .bounds .out-long ∙ h .bounds .out-long })
 
   -- the entry e is put, in place of the next one or not
-  pub with-written : (e : Entry) {out₂ : List ℕ} {kept q : ℕ} (there : Bool) {work₂ out₃ : List ℕ} {r : EntriesEnd} {also : Bool} → 8192 ≤ length work₁
+  pub with-written : (e : Entry) {out₂ : List ℕ} {kept q : ℕ} (there : Bool) {work₂ out₃ : List ℕ} {r : WriteEnd} {also : Bool} → 8192 ≤ length work₁
       → kept ≡ common (keyAt v b work₁ (p .cursor) .name) (e .name) → EntryWritten out₁ (p .at) version e (p .cursor .len) kept out₂ q → length out₂ ≡ length out₁
       → OthersWritten v b work₁ (p .cursor) (count - k) there (e .name) version out₂ q work₂ out₃ r → also ≡ (p .extended || (needsWord e || r .extended))
       → EntriesEdited v b work count (E.Put k there) e version out at work₂ out₃ (record { at = r .at; extended = also })

@@ -33,7 +33,7 @@ use Rattle.format_laws.proofs.Keys.{before-name}
 use Rattle.entries_place.specs.Places.{rising}
 use Rattle.entries_place.proofs.Places.{read-rising}
 use Rattle.entries_place.proofs.Finding.{key-at}
-use Rattle.entries_edit.specs.declared.rest.EntriesEnd.{EntriesEnd}
+use Rattle.entries_edit.specs.declared.rest.WriteEnd.{WriteEnd}
 use Rattle.entries_edit.specs.Rests.{EntriesWrittenAfter, StepWritten, OthersWritten, PastWritten, RemovedWritten}
 
 -- ---- lists and tests
@@ -67,7 +67,7 @@ module _ (version : ℕ) (out : List ℕ) (at : ℕ) (p : List ℕ) where
   written-none = record { wrote = wrote-nothing out at; extended = refl }
 
   -- one entry, then others
-  pub written-one : (e : Entry) {out′ : List ℕ} {q : ℕ} (es : List Entry) {out″ : List ℕ} (r : EntriesEnd) (also : Bool)
+  pub written-one : (e : Entry) {out′ : List ℕ} {q : ℕ} (es : List Entry) {out″ : List ℕ} (r : WriteEnd) (also : Bool)
       → Wrote out at (writeEntry 20 version p e) out′ q → EntriesWrittenAfter version out′ q (e .name) es out″ r → also ≡ (needsWord e || r .extended)
       → EntriesWrittenAfter version out at p (e ∷ es) out″ (record { at = r .at; extended = also })
   unfolding writeEntries anyWord
@@ -78,7 +78,7 @@ module _ (version : ℕ) (out : List ℕ) (at : ℕ) (p : List ℕ) where
       }
 
   -- some entries, then others
-  pub written-front : (xs : List Entry) {out′ : List ℕ} (l : EntriesEnd) (ys : List Entry) {out″ : List ℕ} (r : EntriesEnd) (also : Bool)
+  pub written-front : (xs : List Entry) {out′ : List ℕ} (l : WriteEnd) (ys : List Entry) {out″ : List ℕ} (r : WriteEnd) (also : Bool)
       → EntriesWrittenAfter version out at p xs out′ l → EntriesWrittenAfter version out′ (l .at) (lastName p xs) ys out″ r → also ≡ (l .extended || r .extended)
       → EntriesWrittenAfter version out at p (xs ++ ys) out″ (record { at = r .at; extended = also })
   written-front xs {out′} l ys {out″} r also x y is =
@@ -184,7 +184,7 @@ module _ {v : ℕ} {b work : List ℕ} {c : Cursor} {work′ : List ℕ} (n vers
         record { near = omega arith; frame = frame-then (t .frame) (h .frame); out-long = h .out-long }
 
     -- it is written after the name that is put
-    pub after-written : (name : List ℕ) {kept : ℕ} {work″ out″ : List ℕ} {r : EntriesEnd} → kept ≡ common (keyAt v b work′ (st .next) .name) name
+    pub after-written : (name : List ℕ) {kept : ℕ} {work″ out″ : List ℕ} {r : WriteEnd} → kept ≡ common (keyAt v b work′ (st .next) .name) name
         → StepWritten v b work′ (c .at) st (n - 1) (length name) kept version out at work″ out″ r → OthersWritten v b work c n false name version out at work″ out″ r
     after-written name {kept} is h =
         let beside : Beside name (entry .name) (length name) kept = record { long = refl; shared = rw (step-name t) (common-swap name _ ∙ sym is) } in
@@ -194,7 +194,7 @@ module _ {v : ℕ} {b work : List ℕ} {c : Cursor} {work′ : List ℕ} (n vers
         }
 
     -- it is written after the key k, where the one between is left out
-    pub past-written : (previous shared : ℕ) {kept : ℕ} {work″ out″ : List ℕ} {r : EntriesEnd} → kept ≡ min shared (st .common)
+    pub past-written : (previous shared : ℕ) {kept : ℕ} {work″ out″ : List ℕ} {r : WriteEnd} → kept ≡ min shared (st .common)
         → StepWritten v b work′ (c .at) st (n - 1) previous kept version out at work″ out″ r → PastWritten v b work c n previous shared version out at work″ out″ r
     past-written previous shared {kept} is h =
         record {
@@ -210,7 +210,7 @@ module _ {v : ℕ} {b work : List ℕ} {c : Cursor} {work′ : List ℕ} (n vers
         }
 
     -- it is left out, and the one after it comes after the key before it
-    pub removed-written : {work″ out″ : List ℕ} {r : EntriesEnd} → 8192 ≤ length work → Inside b c
+    pub removed-written : {work″ out″ : List ℕ} {r : WriteEnd} → 8192 ≤ length work → Inside b c
         → PastWritten v b work′ (st .next) (n - 1) (c .len) (st .common) version out at work″ out″ r → RemovedWritten v b work c n version out at work″ out″ r
     removed-written room inside h =
         let beside : Beside (keyAt v b work c .name) (keyAt v b work′ (st .next) .name) (c .len) (st .common) = rw (step-name t) at (step-beside t room inside) in

@@ -7,7 +7,7 @@ use Rattle.format.specs.Records.{Entry}
 use Rattle.format.specs.Layout.{bit}
 use Rattle.entries_run.specs.Steps.{EntriesRead}
 use Rattle.entries_write.specs.Parts.{WriteBounds}
-use Rattle.entries_edit.specs.declared.rest.EntriesEnd.{EntriesEnd}
+use Rattle.entries_edit.specs.declared.rest.WriteEnd.{WriteEnd}
 use Rattle.entries_edit.specs.Rests.{NamedAt, EntriesWrittenAfter}
 use Rattle.entries_edit.specs.declared.Edit.{Edit}
 use Rattle.entries_edit.specs.declared.Edit.the-variants as E
@@ -37,7 +37,7 @@ Replaces (E.Remove k) name es = Unit {0}
 
 -- what the writing of the first count entries of the body b, edited, leaves behind; e is what is put
 pub record EntriesEdited
-    (v : ℕ) (b work : List ℕ) (count : ℕ) (edit : Edit) (e : Entry) (version : ℕ) (out : List ℕ) (at : ℕ) (work′ out′ : List ℕ) (r : EntriesEnd)
+    (v : ℕ) (b work : List ℕ) (count : ℕ) (edit : Edit) (e : Entry) (version : ℕ) (out : List ℕ) (at : ℕ) (work′ out′ : List ℕ) (r : WriteEnd)
     : Type 0 where
   pub edited-is : (es : List Entry) (m : ℕ) → EntriesRead v count b es m → Replaces edit (e .name) es
       → EntriesWrittenAfter version out at [] (edited edit e es) out′ r

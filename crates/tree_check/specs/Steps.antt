@@ -23,7 +23,7 @@ use Rattle.tree_check.specs.declared.walk.Directory.{Directory}
 use Rattle.tree_check.specs.declared.walk.Part.{Part}
 use Rattle.tree_check.specs.declared.walk.Part.the-variants as P
 use Rattle.tree_search.specs.Siblings.{Last}
-use Rattle.entries_directory.specs.Ahead.{Fits, Ahead, After}
+use Rattle.entries_directory.specs.Ahead.{FrontFits, Ahead, After}
 use Rattle.tree_check.specs.Components.{LookedUp}
 
 -- ---- a directory
@@ -45,7 +45,7 @@ pub record Placed (d : List ℕ) (dir : Directory) : Type 0 where
 pub record Ready (d : List ℕ) (dir : Directory) (b work : List ℕ) (s : Front) : Type 0 where
   pub placed : Placed d dir
   pub small : length d ≤ 16777216
-  pub fits : Fits b s
+  pub fits : FrontFits b s
   pub few : s .ahead < 4294967296
   pub room : 8192 ≤ length work
   pub some : 1 ≤ s .ahead
@@ -66,7 +66,7 @@ pub record Moved (valid : Bool) (f : Forest) (q : List ℕ) (whole done : List (
 
 -- it was passed: fewer entries are ahead, and the workspace past its 8,192nd byte stays
 pub record PartPassed (d : List ℕ) (dir : Directory) (b : List ℕ) (v : ℕ) (work : List ℕ) (s : Front) (work′ : List ℕ) (holds : Bool) (r : Front) : Type 0 where
-  pub fits : Fits b r
+  pub fits : FrontFits b r
   pub less : r .ahead < s .ahead
   pub long : length work′ ≡ length work
   pub past : drop 8192 work′ ≡ drop 8192 work

@@ -12,7 +12,7 @@ use tree_search::table::clear;
 ghost use mathlib.Core.Path.{_≡_};
 ghost use Prim.Native.Nat.{_≤_, _<_};
 ghost use lib.ListN.{length};
-ghost use Rattle.entries_directory.specs.Ahead.{Fits};
+ghost use Rattle.entries_directory.specs.Ahead.{FrontFits};
 
 // The component of a name after its first q bytes is wanted, if a "/" ends it and the name before has not the same, with which it has so many bytes in
 // common. How many keys were added.
@@ -33,7 +33,7 @@ fn want_component(name: &[u8], q: usize, common: usize, t: &mut Table) -> u32
 
 // That of the first name ahead.
 fn want_first<'a>(b: &'a [u8], v: u32, work: &'a [u8], q: usize, s: Front, t: &mut Table) -> u32
-    requires { ⌜ Fits (now b) s × (8192 ≤ length (now work)) × (q ≤ s .cursor .len) ⌝ }
+    requires { ⌜ FrontFits (now b) s × (8192 ≤ length (now work)) × (q ≤ s .cursor .len) ⌝ }
     ensures { λ r. ⌜ (r < 2) × (length (now (t .exit)) ≡ length (now (t .entry))) ⌝ }
 {
     let c = s.cursor;
@@ -45,7 +45,7 @@ fn want_first<'a>(b: &'a [u8], v: u32, work: &'a [u8], q: usize, s: Front, t: &m
 
 // Those of the names ahead that begin with the same q bytes, at most so many names and 768 keys. names is a workspace with the first name.
 fn want_ahead(b: &[u8], v: u32, names: &mut [u8], q: usize, s: Front, steps: u32, t: &mut Table)
-    requires { ⌜ Fits (now b) s × (8192 ≤ length (now names)) × (q ≤ s .cursor .len) ⌝ }
+    requires { ⌜ FrontFits (now b) s × (8192 ≤ length (now names)) × (q ≤ s .cursor .len) ⌝ }
     ensures { λ _. ⌜ length (now (t .exit)) ≡ length (now (t .entry)) ⌝ }
 {
     let mut front = s;
@@ -77,7 +77,7 @@ fn gather_in(
     steps: u32,
     t: &mut Table,
 )
-    requires { ⌜ Fits (now b) s × (8192 ≤ length (now work)) × (q ≤ s .cursor .len) ⌝ }
+    requires { ⌜ FrontFits (now b) s × (8192 ≤ length (now work)) × (q ≤ s .cursor .len) ⌝ }
     ensures { λ _. ⌜ length (now (t .exit)) ≡ length (now (t .entry)) ⌝ }
 {
     let len = s.cursor.len;
@@ -87,7 +87,7 @@ fn gather_in(
 
 // The keys of a table are those of the next components of the names ahead that begin with the same q bytes, of at most so many names.
 pub fn gather(b: &[u8], v: u32, work: &[u8], q: usize, s: Front, steps: u32, t: &mut Table)
-    requires { ⌜ Fits (now b) s × (8192 ≤ length (now work)) × (q ≤ s .cursor .len) ⌝ }
+    requires { ⌜ FrontFits (now b) s × (8192 ≤ length (now work)) × (q ≤ s .cursor .len) ⌝ }
     ensures { λ _. ⌜ length (now (t .exit)) ≡ length (now (t .entry)) ⌝ }
 {
     let mut names = [0u8; 8192];

@@ -22,7 +22,7 @@ ghost use lib.ListN.{length};
 ghost use Rattle.entries_run.specs.Steps.{nameAt};
 ghost use Rattle.tree_search.specs.Siblings.{Told, Finds};
 ghost use Rattle.tree_search.specs.Table.{Known};
-ghost use Rattle.entries_directory.specs.Ahead.{Fits};
+ghost use Rattle.entries_directory.specs.Ahead.{FrontFits};
 ghost use Rattle.tree_check.specs.Components.{lookOf, LookedUp};
 
 // The name has no further "/"; or the place in it after that "/", and no sibling has the component before; or one has it: where it is, and
@@ -81,7 +81,7 @@ fn want_keys(
     steps: u32,
     t: &mut Table,
 )
-    requires { ⌜ (at ≤ length (now d)) × (length (now d) ≤ 16777216) × Fits (now b) s × (8192 ≤ length (now work)) × (q ≤ s .cursor .len) × (length (now t) ≡ 2053) ⌝ }
+    requires { ⌜ (at ≤ length (now d)) × (length (now d) ≤ 16777216) × FrontFits (now b) s × (8192 ≤ length (now work)) × (q ≤ s .cursor .len) × (length (now t) ≡ 2053) ⌝ }
     ensures { λ _. ⌜ length (now (t .exit)) ≡ length (now (t .entry)) ⌝ }
 {
     if are_few(d, at, k, t) {
@@ -125,7 +125,7 @@ fn find_by(
     steps: u32,
     t: &mut Table,
 ) -> Child
-    requires { ⌜ (at ≤ length (now d)) × (length (now d) ≤ 16777216) × Fits (now b) s × (8192 ≤ length (now work)) × (q ≤ s .cursor .len) × Known (now d) (now t) ⌝ }
+    requires { ⌜ (at ≤ length (now d)) × (length (now d) ≤ 16777216) × FrontFits (now b) s × (8192 ≤ length (now work)) × (q ≤ s .cursor .len) × Known (now d) (now t) ⌝ }
     ensures { λ r. ⌜ Known (now (d .entry)) (now (t .exit)) × Finds (now (d .entry)) at k (now (name .entry)) r ⌝ }
 {
     let told = find_laid(d, at, k, name, t);
@@ -153,7 +153,7 @@ pub fn look_up<'a>(
     near: &mut Table,
     far: &mut Table,
 ) -> Look
-    requires { ⌜ (at ≤ place) × (place ≤ length (now d)) × (length (now d) ≤ 16777216) × Fits (now b) s × (8192 ≤ length (now work)) × (q ≤ s .cursor .len) × Known (now d) (now near) × Known (now d) (now far) ⌝ }
+    requires { ⌜ (at ≤ place) × (place ≤ length (now d)) × (length (now d) ≤ 16777216) × FrontFits (now b) s × (8192 ≤ length (now work)) × (q ≤ s .cursor .len) × Known (now d) (now near) × Known (now d) (now far) ⌝ }
     ensures { λ r. ⌜ LookedUp (now (d .entry)) at k place left (nameAt v (now (b .entry)) (now (work .entry)) (s .cursor .start) (s .cursor .len)) (s .cursor .len) q r × Known (now (d .entry)) (now (near .exit)) × Known (now (d .entry)) (now (far .exit)) ⌝ }
 {
     let c = s.cursor;

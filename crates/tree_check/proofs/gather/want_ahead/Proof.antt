@@ -3,14 +3,14 @@ use mathlib.Core.Path.{_≡_, refl, sym, _∙_}
 use Prim.Native.Nat.{_≤_, _<_}
 use native.Mathlib.Omega.{arith}
 use lib.ListN.{length}
-use Rattle.entries_directory.specs.Ahead.{Fits}
+use Rattle.entries_directory.specs.Ahead.{FrontFits}
 use Rattle.entries_directory.proofs.Ahead.{stays-long}
 use borrow.Author.Needs.{needs}
 use Rattle.tree_check.proofs.gather.want_ahead.Statement.{statement}
 use Rattle.tree_check.proofs.gather.want_ahead.Tie as tie
 
 abbrev Inv-loop : tie.InvT-loop
-Inv-loop b v names₀ q steps t₀ front₀ left₀ count₀ names t front left count = Fits b front × (length names ≡ length names₀) × (8192 ≤ length names) × (q ≤ front .cursor .len) × (length t ≡ length t₀) × (count < 768)
+Inv-loop b v names₀ q steps t₀ front₀ left₀ count₀ names t front left count = FrontFits b front × (length names ≡ length names₀) × (8192 ≤ length names) × (q ≤ front .cursor .len) × (length t ≡ length t₀) × (count < 768)
 
 abbrev μ-loop : tie.MeasureT-loop
 μ-loop b v names₀ q steps t₀ front₀ left₀ count₀ names t front left count = left
