@@ -14,13 +14,13 @@ use Rattle.format.specs.Reader.{entryOf}
 use Rattle.format_laws.proofs.Tests.{false-true, by-test, and-inv, cond-inv}
 use Rattle.format_laws.proofs.Lists.{drop-to}
 use Rattle.format_laws.proofs.Names.{common-append}
-use Rattle.format_laws.proofs.Readings.{bad-good, good-inv, front-inv}
+use Rattle.format_laws.proofs.Readings.{good-inv, front-inv}
 use Rattle.fields.specs.Workspace.{Frame}
 use Rattle.fields.proofs.Workspace.{frame-same, frame-then}
 use Rattle.entries_run.specs.declared.Step.{Step}
 use Rattle.entries_run.specs.declared.Next.the-variants as N
 use Rattle.entries_run.specs.Steps.{nameAt, EntryPassed, runFrom}
-use Rattle.entries_run.proofs.Steps.{entries-bad, entries-good, entries-again, run-none}
+use Rattle.entries_run.proofs.Steps.{entries-good, entries-again, entries-never, run-none}
 use Rattle.entries_directory.specs.Names.{notAbove, sortedFrom, begins, leads, beyond}
 use Rattle.entries_directory.proofs.Order.{begins-common}
 use Rattle.entries_directory.proofs.Directory.{begins-split}
@@ -52,9 +52,7 @@ module _ (v : ℕ) (b work : List ℕ) (s : Front) (work′ : List ℕ) where
 
     -- over a name that an entry follows which is refused
     pub step-bad {ℓ} : {X : Type ℓ} (m : ℕ) → EntryPassed v b work (s .cursor) work′ (N.Bad m) → (x : List ℕ) (xs : List (List ℕ)) → Ahead v b work s x xs → X
-    step-bad m t x xs h =
-        entries-again v b work (s .cursor) work′ (s .ahead - 1) left-some _ _ _ (h .reads) t λ u.
-        bad-good _ _ _ _ (sym (entries-bad v b work (s .cursor) work′ (s .ahead - 1) left-some m u) ∙ h .reads)
+    step-bad m t x xs h = entries-never v b work (s .cursor) work′ (s .ahead - 1) left-some _ _ m (h .reads) t
 
     module _ (st : Step) (t : EntryPassed v b work (s .cursor) work′ (N.Good st)) where
       pub step-fits : FrontFits b s → FrontFits b (record { cursor = st .next; ahead = s .ahead - 1; common = st .common })

@@ -13,11 +13,11 @@ use Rattle.format.specs.Layout.{bit}
 use Rattle.format.specs.Writer.{needsWord}
 use Rattle.format_laws.proofs.Tests.{false-true, by-cond}
 use Rattle.fields.proofs.Workspace.{frame-then}
-use Rattle.entries_run.specs.Steps.{nameAt, keyAt, firstCursor, RunRead, EntriesRead, AllRead}
+use Rattle.entries_run.specs.Steps.{nameAt, keyAt, firstCursor, RunRead, EntriesRead, AllRead, Readable}
 use Rattle.entries_run.proofs.Names.{nameAt-length}
 use Rattle.entries_run.proofs.Steps.{run-first}
 use Rattle.entries_write.specs.declared.Progress.{Progress}
-use Rattle.entries_write.specs.Parts.{Beside, EntryWritten, Readable, lastName, WriteBounds, EntriesWritten}
+use Rattle.entries_write.specs.Parts.{Beside, EntryWritten, lastName, WriteBounds, EntriesWritten}
 use Rattle.entries.specs.declared.record.Fields.{Fields}
 use Rattle.entries.specs.Record.{entryWith}
 use Rattle.entries_edit.specs.declared.rest.WriteEnd.{WriteEnd}
@@ -53,13 +53,6 @@ replaces-there k false name es h is = false-true is
 first-name : (v : ℕ) (b work : List ℕ) → keyAt v b work firstCursor .name ≡ []
 unfolding nameAt
 first-name v b work = by-cond (λ s. s ≡ []) (eqb v 4) (take 0 work) (take 0 (drop 0 b)) (λ packed. refl) (λ plain. refl)
-
--- the first of entries that were read
-pub readable-first : (v count k : ℕ) (b work : List ℕ) → k ≤ count → AllRead v count b
-    → Readable v k b work firstCursor
-readable-first v count k b work few (es, m, q) =
-    let sum : k + (count - k) ≡ count = omega arith in
-    record { more = count - k; entries = es; taken = m; run = rw sum (run-first v count b work ∙ q) }
 
 -- as they are
 pub kept-written : {v : ℕ} {b work : List ℕ} {count version : ℕ} {out : List ℕ} {at : ℕ} {work′ out′ : List ℕ} {r : Progress}

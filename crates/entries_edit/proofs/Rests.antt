@@ -12,8 +12,7 @@ use Rattle.format.specs.Reader.{isSet, entryOf}
 use Rattle.format.specs.Writer.{needsWord, writeEntry, writeEntries}
 use Rattle.format.specs.Requests.{goesBefore, anyWord}
 use Rattle.format_laws.proofs.Tests.{and-inv, eqb-swap}
-use Rattle.format_laws.proofs.Readings.{bad-good, good-inv, front-inv}
-use Rattle.fields.specs.Workspace.{Frame}
+use Rattle.format_laws.proofs.Readings.{good-inv, front-inv}
 use Rattle.fields.proofs.Workspace.{frame-same, frame-then}
 use Rattle.output.specs.Output.{Wrote}
 use Rattle.output.proofs.Laws.{wrote-nothing, wrote-then}
@@ -22,7 +21,7 @@ use Rattle.entries_run.specs.declared.Step.{Step}
 use Rattle.entries_run.specs.declared.Next.the-variants as N
 use Rattle.entries_run.specs.Steps.{nameAt, keyAt, entryAt, Inside, EntryStepped, RunRead}
 use Rattle.entries_run.proofs.Names.{nameAt-length}
-use Rattle.entries_run.proofs.Steps.{entries-bad, entries-good, run-none, entryAt-name}
+use Rattle.entries_run.proofs.Steps.{entries-good, run-none, entryAt-name}
 use Rattle.entries_write.specs.declared.Progress.{Progress}
 use Rattle.entries_write.specs.Parts.{PrefixKept, Beside, lastName, EntryWritten, WriteBounds, EntriesWritten}
 use Rattle.entries_write.proofs.Lists.{entries-append, anyWord-append}
@@ -90,10 +89,6 @@ module _ (version : ℕ) (out : List ℕ) (at : ℕ) (p : List ℕ) where
         extended = is ∙ rw (x .extended, y .extended) (sym (anyWord-append xs ys));
       }
 
--- nothing is written
-bounds-none : (work out : List ℕ) (at n : ℕ) (work′ : List ℕ) → Frame work work′ → WriteBounds work out at n work′ out at
-bounds-none work out at n work′ frame = record { near = omega arith; frame = frame; out-long = refl }
-
 -- ---- all entries from a cursor on
 
 module _ {v : ℕ} {b work : List ℕ} {c : Cursor} {n version : ℕ} {out : List ℕ} {at : ℕ} {work′ out′ : List ℕ} {r : Progress}
@@ -131,109 +126,91 @@ module _ (v : ℕ) (b work : List ℕ) (from : ℕ) (st : Step) {n previous kept
 
 -- ---- n entries from a cursor on, by a step over the first
 
-module _ (v : ℕ) (b work : List ℕ) (c : Cursor) (n version : ℕ) (out : List ℕ) (at : ℕ) where
-  -- there is none
-  module _ (none : n ≡ 0) where
-    none-written : (p : List ℕ) (es : List Entry) (m : ℕ) → RunRead v n b work c es m → EntriesWrittenAfter version out at p es out (record { at = at; extended = false })
-    none-written p es m q = good-inv _ _ _ _ (sym (run-none v b work c) ∙ rw none at q) (λ is taken. rw (← is) (written-none version out at p))
+-- there is none
+module _ (v : ℕ) (b work : List ℕ) (c : Cursor) (n version : ℕ) (out : List ℕ) (at : ℕ) (none : n ≡ 0) where
+  none-written : (p : List ℕ) (es : List Entry) (m : ℕ) → RunRead v n b work c es m → EntriesWrittenAfter version out at p es out (record { at = at; extended = false })
+  none-written p es m q = good-inv _ _ _ _ (sym (run-none v b work c) ∙ rw none at q) (λ is taken. rw (← is) (written-none version out at p))
 
-    none-bounds : WriteBounds work out at n work out at
-    none-bounds = bounds-none work out at n work (frame-same work)
+  none-bounds : WriteBounds work out at n work out at
+  none-bounds = record { near = omega arith; frame = frame-same work; out-long = refl }
 
-    pub after-none : (p : List ℕ) → OthersWritten v b work c n false p version out at work out (record { at = at; extended = false })
-    after-none p = record { written = λ es m q same. none-written p es m q; bounds = none-bounds }
+  pub after-none : (p : List ℕ) → OthersWritten v b work c n false p version out at work out (record { at = at; extended = false })
+  after-none p = record { written = λ es m q same. none-written p es m q; bounds = none-bounds }
 
-    pub past-none : (previous kept : ℕ) → PastWritten v b work c n previous kept version out at work out (record { at = at; extended = false })
-    past-none previous kept = record { written = λ k es m q before beside. none-written (k .name) es m q; bounds = none-bounds }
+  pub past-none : (previous kept : ℕ) → PastWritten v b work c n previous kept version out at work out (record { at = at; extended = false })
+  past-none previous kept = record { written = λ k es m q before beside. none-written (k .name) es m q; bounds = none-bounds }
 
-module _ {v : ℕ} {b work : List ℕ} {c : Cursor} {work′ : List ℕ} (n version : ℕ) (out : List ℕ) (at : ℕ) (more : 0 < n) where
-  -- it is refused
-  module _ {j : ℕ} (t : EntryStepped v b work c work′ (N.Bad j)) where
-    refused {ℓ} : {X : Type ℓ} (es : List Entry) (m : ℕ) → RunRead v n b work c es m → X
-    refused es m q = bad-good _ _ _ _ (sym (entries-bad v b work c work′ n more j t) ∙ q)
+-- it is read
+module _ {v : ℕ} {b work : List ℕ} {c : Cursor} {work′ : List ℕ} (n version : ℕ) (out : List ℕ) (at : ℕ) (more : 0 < n) {st : Step}
+    (t : EntryStepped v b work c work′ (N.Good st)) where
+  abbrev entry : Entry
+  entry = entryAt v b work′ (c .at) st
 
-    refused-bounds : WriteBounds work out at n work′ out at
-    refused-bounds = bounds-none work out at n work′ (t .frame)
+  step-on {ℓ} : {X : Type ℓ} (es : List Entry) (m : ℕ) → RunRead v n b work c es m
+      → ((gs : List Entry) (k : ℕ) → entry ∷ gs ≡ es → RunRead v (n - 1) b work′ (st .next) gs k → X) → X
+  step-on es m q f = front-inv (entry ∷ []) _ _ _ _ (sym (entries-good v b work c work′ n more st t) ∙ q) (λ gs k on parts sum. f gs k parts on)
 
-    pub others-refused : (there : Bool) (p : List ℕ) → OthersWritten v b work c n there p version out at work′ out (record { at = at; extended = false })
-    others-refused there p = record { written = λ es m q same. refused es m q; bounds = refused-bounds }
+  step-before : (es : List Entry) (m : ℕ) → RunRead v n b work c es m → (gs : List Entry) → entry ∷ gs ≡ es
+      → goesBefore (keyAt v b work c) (keyOf entry) ≡ true
+  step-before es m q gs parts = rising-first (keyAt v b work c) entry gs es parts (read-rising 20 v n (keyAt v b work c) (c .at) (drop (c .at) b) es m q)
 
-    pub past-refused : (previous kept : ℕ) → PastWritten v b work c n previous kept version out at work′ out (record { at = at; extended = false })
-    past-refused previous kept = record { written = λ k es m q before beside. refused es m q; bounds = refused-bounds }
+  -- what is left behind after the step is left behind in all
+  step-bounds : (k : ℕ) {work″ out″ : List ℕ} {end : ℕ} → k ≤ n → WriteBounds work′ out at k work″ out″ end → WriteBounds work out at n work″ out″ end
+  step-bounds k few h =
+      let near = h .near in
+      record { near = omega arith; frame = frame-then (t .frame) (h .frame); out-long = h .out-long }
 
-    pub removed-refused : RemovedWritten v b work c n version out at work′ out (record { at = at; extended = false })
-    removed-refused = record { written = λ es m q. refused es m q; bounds = refused-bounds }
+  -- it is written after the name that is put
+  pub after-written : (name : List ℕ) {kept : ℕ} {work″ out″ : List ℕ} {r : WriteEnd} → kept ≡ common (keyAt v b work′ (st .next) .name) name
+      → StepWritten v b work′ (c .at) st (n - 1) (length name) kept version out at work″ out″ r → OthersWritten v b work c n false name version out at work″ out″ r
+  after-written name {kept} is h =
+      let beside : Beside name (entry .name) (length name) kept = record { long = refl; shared = rw (step-name t) (common-swap name _ ∙ sym is) } in
+      record {
+        written = λ es m q same. step-on es m q (λ gs k parts on. rw parts at (h .written name gs k beside on));
+        bounds = step-bounds (n - 1 + 1) (omega arith) (h .bounds);
+      }
 
-  -- it is read
-  module _ {st : Step} (t : EntryStepped v b work c work′ (N.Good st)) where
-    abbrev entry : Entry
-    entry = entryAt v b work′ (c .at) st
+  -- it is written after the key k, where the one between is left out
+  pub past-written : (previous shared : ℕ) {kept : ℕ} {work″ out″ : List ℕ} {r : WriteEnd} → kept ≡ min shared (st .common)
+      → StepWritten v b work′ (c .at) st (n - 1) previous kept version out at work″ out″ r → PastWritten v b work c n previous shared version out at work″ out″ r
+  past-written previous shared {kept} is h =
+      record {
+        written = λ k es m q before x.
+            step-on es m q λ gs j parts on.
+            let between : Key = keyAt v b work c in
+            let names : common (k .name) (entry .name) ≡ min (common (k .name) (between .name)) (common (between .name) (entry .name)) =
+            common-through (k .name) (between .name) (entry .name) (before-name k between before) (before-name between (keyOf entry) (step-before es m q gs parts)) in
+            let beside : Beside (k .name) (entry .name) previous kept =
+            record { long = x .long; shared = names ∙ rw (x .shared, step-name t, ← (step-found t .common)) (sym is) } in
+            rw parts at (h .written (k .name) gs j beside on);
+        bounds = step-bounds (n - 1 + 1) (omega arith) (h .bounds);
+      }
 
-    step-on {ℓ} : {X : Type ℓ} (es : List Entry) (m : ℕ) → RunRead v n b work c es m
-        → ((gs : List Entry) (k : ℕ) → entry ∷ gs ≡ es → RunRead v (n - 1) b work′ (st .next) gs k → X) → X
-    step-on es m q f = front-inv (entry ∷ []) _ _ _ _ (sym (entries-good v b work c work′ n more st t) ∙ q) (λ gs k on parts sum. f gs k parts on)
+  -- it is left out, and the one after it comes after the key before it
+  pub removed-written : {work″ out″ : List ℕ} {r : WriteEnd} → 8192 ≤ length work → Inside b c
+      → PastWritten v b work′ (st .next) (n - 1) (c .len) (st .common) version out at work″ out″ r → RemovedWritten v b work c n version out at work″ out″ r
+  removed-written room inside h =
+      let beside : Beside (keyAt v b work c .name) (keyAt v b work′ (st .next) .name) (c .len) (st .common) = rw (step-name t) at (step-beside t room inside) in
+      record {
+        written = λ es m q.
+            step-on es m q λ gs j parts on.
+            let rises : goesBefore (keyAt v b work c) (keyAt v b work′ (st .next)) ≡ true =
+            rw (key-at v b work c work′ st (step-found t)) at (step-before es m q gs parts) in
+            rw (ap (drop 1) parts) at (h .written (keyAt v b work c) gs j on rises beside);
+        bounds = step-bounds (n - 1) (omega arith) (h .bounds);
+      }
 
-    step-before : (es : List Entry) (m : ℕ) → RunRead v n b work c es m → (gs : List Entry) → entry ∷ gs ≡ es
-        → goesBefore (keyAt v b work c) (keyOf entry) ≡ true
-    step-before es m q gs parts = rising-first (keyAt v b work c) entry gs es parts (read-rising 20 v n (keyAt v b work c) (c .at) (drop (c .at) b) es m q)
-
-    -- what is left behind after the step is left behind in all
-    step-bounds : (k : ℕ) {work″ out″ : List ℕ} {end : ℕ} → k ≤ n → WriteBounds work′ out at k work″ out″ end → WriteBounds work out at n work″ out″ end
-    step-bounds k few h =
-        let near = h .near in
-        record { near = omega arith; frame = frame-then (t .frame) (h .frame); out-long = h .out-long }
-
-    -- it is written after the name that is put
-    pub after-written : (name : List ℕ) {kept : ℕ} {work″ out″ : List ℕ} {r : WriteEnd} → kept ≡ common (keyAt v b work′ (st .next) .name) name
-        → StepWritten v b work′ (c .at) st (n - 1) (length name) kept version out at work″ out″ r → OthersWritten v b work c n false name version out at work″ out″ r
-    after-written name {kept} is h =
-        let beside : Beside name (entry .name) (length name) kept = record { long = refl; shared = rw (step-name t) (common-swap name _ ∙ sym is) } in
-        record {
-          written = λ es m q same. step-on es m q (λ gs k parts on. rw parts at (h .written name gs k beside on));
-          bounds = step-bounds (n - 1 + 1) (omega arith) (h .bounds);
-        }
-
-    -- it is written after the key k, where the one between is left out
-    pub past-written : (previous shared : ℕ) {kept : ℕ} {work″ out″ : List ℕ} {r : WriteEnd} → kept ≡ min shared (st .common)
-        → StepWritten v b work′ (c .at) st (n - 1) previous kept version out at work″ out″ r → PastWritten v b work c n previous shared version out at work″ out″ r
-    past-written previous shared {kept} is h =
-        record {
-          written = λ k es m q before x.
-              step-on es m q λ gs j parts on.
-              let between : Key = keyAt v b work c in
-              let names : common (k .name) (entry .name) ≡ min (common (k .name) (between .name)) (common (between .name) (entry .name)) =
-              common-through (k .name) (between .name) (entry .name) (before-name k between before) (before-name between (keyOf entry) (step-before es m q gs parts)) in
-              let beside : Beside (k .name) (entry .name) previous kept =
-              record { long = x .long; shared = names ∙ rw (x .shared, step-name t, ← (step-found t .common)) (sym is) } in
-              rw parts at (h .written (k .name) gs j beside on);
-          bounds = step-bounds (n - 1 + 1) (omega arith) (h .bounds);
-        }
-
-    -- it is left out, and the one after it comes after the key before it
-    pub removed-written : {work″ out″ : List ℕ} {r : WriteEnd} → 8192 ≤ length work → Inside b c
-        → PastWritten v b work′ (st .next) (n - 1) (c .len) (st .common) version out at work″ out″ r → RemovedWritten v b work c n version out at work″ out″ r
-    removed-written room inside h =
-        let beside : Beside (keyAt v b work c .name) (keyAt v b work′ (st .next) .name) (c .len) (st .common) = rw (step-name t) at (step-beside t room inside) in
-        record {
-          written = λ es m q.
-              step-on es m q λ gs j parts on.
-              let rises : goesBefore (keyAt v b work c) (keyAt v b work′ (st .next)) ≡ true =
-              rw (key-at v b work c work′ st (step-found t)) at (step-before es m q gs parts) in
-              rw (ap (drop 1) parts) at (h .written (keyAt v b work c) gs j on rises beside);
-          bounds = step-bounds (n - 1) (omega arith) (h .bounds);
-        }
-
-    -- it is left out, and another of its name stands in its place
-    pub replaced-written : {work″ out″ : List ℕ} {r : Progress} → EntriesWritten v b work′ (st .next) (n - 1) version out at work″ out″ r
-        → (p : List ℕ) → OthersWritten v b work c n true p version out at work″ out″ (record { at = r .at; extended = r .extended })
-    replaced-written h p =
-        record {
-          written = λ es m q same.
-              step-on es m q λ gs j parts on.
-              let name : keyAt v b work′ (st .next) .name ≡ p = sym (step-name t) ∙ same refl entry (ap (λ (l : List Entry). getElem? l 0) (sym parts)) in
-              rw (name, ap (drop 1) parts) at (all-written h gs j on);
-          bounds = step-bounds (n - 1) (omega arith) (h .bounds);
-        }
+  -- it is left out, and another of its name stands in its place
+  pub replaced-written : {work″ out″ : List ℕ} {r : Progress} → EntriesWritten v b work′ (st .next) (n - 1) version out at work″ out″ r
+      → (p : List ℕ) → OthersWritten v b work c n true p version out at work″ out″ (record { at = r .at; extended = r .extended })
+  replaced-written h p =
+      record {
+        written = λ es m q same.
+            step-on es m q λ gs j parts on.
+            let name : keyAt v b work′ (st .next) .name ≡ p = sym (step-name t) ∙ same refl entry (ap (λ (l : List Entry). getElem? l 0) (sym parts)) in
+            rw (name, ap (drop 1) parts) at (all-written h gs j on);
+        bounds = step-bounds (n - 1) (omega arith) (h .bounds);
+      }
 
 -- what the names that a step is written after ask of it
 module _ {v : ℕ} {b work : List ℕ} {c : Cursor} {work′ : List ℕ} {st : Step} (t : EntryStepped v b work c work′ (N.Good st)) (room : 8192 ≤ length work) where

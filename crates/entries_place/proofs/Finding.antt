@@ -14,14 +14,12 @@ use Rattle.format.specs.Reader.{entryOf, readEntries}
 use Rattle.format.specs.Requests.{goesBefore, sameKey}
 use Rattle.format_laws.proofs.Numbers.{bit-below}
 use Rattle.format_laws.proofs.Tests.{by-test}
-use Rattle.format_laws.proofs.Readings.{bad-good, good-inv, front-inv}
-use Rattle.fields.proofs.Workspace.{frame-then}
+use Rattle.format_laws.proofs.Readings.{good-inv}
 use Rattle.entries_run.specs.declared.Cursor.{Cursor}
 use Rattle.entries_run.specs.declared.Step.{Step}
-use Rattle.entries_run.specs.declared.Next.{Next}
 use Rattle.entries_run.specs.declared.Next.the-variants as N
-use Rattle.entries_run.specs.Steps.{nameAt, keyAt, entryAt, Room, StepFound, EntryStepped, EntryPassed, firstCursor, AllRead}
-use Rattle.entries_run.proofs.Steps.{entries-again, walked-end, walked-take, walked-bad, Walking, walking-first, walking-more}
+use Rattle.entries_run.specs.Steps.{nameAt, keyAt, entryAt, Room, StepFound, EntryStepped, firstCursor, AllRead, Readable}
+use Rattle.entries_run.proofs.Steps.{walked-end, walked-take, walked-left, Walking, walking-first, walking-more}
 use Rattle.entries_place.specs.Places.{thenStage, compareKeys, rank, startsWith, isThere, PlaceFound}
 use Rattle.entries_place.proofs.Keys.{isSame, before-by, same-by}
 
@@ -95,24 +93,12 @@ module _ {v : ℕ} {b work₀ : List ℕ} {k : Key} {n : ℕ} {w : List ℕ} {c 
         frame = h .walking .frame;
       }
 
+  -- where all entries were read, those from the cursor on were
+  pub search-left : {count : ℕ} → n ≤ count → AllRead v count b → Readable v (count - n) b w c
+  search-left {count} few all = rw (h .many) at (walked-left v b es w c (h .walking .walked) count (omega (arith, h .many)) all)
+
   module _ {count : ℕ} {w′ : List ℕ} (more : n < count) where
-    -- where all entries were read, a step without tests is one with them
-    pub search-again : AllRead v count b → (r : Next) → EntryPassed v b w c w′ r → EntryStepped v b w c w′ r
-    search-again (all, m, q) r t =
-        let left : length es + (count - length es) ≡ count = omega (arith, h .many) in
-        front-inv _ _ _ _ _ (sym (rw left at (h .walking .walked .whole (count - length es))) ∙ q) λ gs l rest parts sum.
-        entries-again v b w c w′ (count - length es) (omega (arith, h .many)) gs l r rest t (λ u. u)
-
-    -- the next entry is refused
-    pub search-bad : {m : ℕ} → EntryStepped v b w c w′ (N.Bad m) → PlaceFound v b work₀ count k w′ (record { before = n; there = false })
-    search-bad {m} t =
-        record {
-          is = λ all j q. bad-good _ _ _ _ (sym (walked-bad v b es w c (h .walking .walked) w′ m t count (omega (arith, h .many))) ∙ q);
-          few = omega arith;
-          frame = frame-then (h .walking .frame) (t .frame);
-        }
-
-    -- it stands to the key as o says
+    -- the next entry stands to the key as o says
     module _ {st : Step} (t : EntryStepped v b w c w′ (N.Good st)) {o : Order} (e : o ≡ compareKeys (keyAt v b w′ (st .next)) k) where
       abbrev next : Entry
       next = entryAt v b w′ (c .at) st

@@ -76,7 +76,7 @@ holds-late k a (x ∷ xs) h n =
     (λ q. false-true (sym n ∙ before-trans a (keyOf x) k (i .0) q))
     (λ q. rw p (holds-late k (keyOf x) xs (i .1) q)))
 
-pub holds-is : (k a : Key) (es : List Entry) → rising a es ≡ true → holds k es ≡ isThere k es
+holds-is : (k a : Key) (es : List Entry) → rising a es ≡ true → holds k es ≡ isThere k es
 unfolding rising holds rank startsWith
 holds-is k a [] h = refl
 holds-is k a (x ∷ xs) h =

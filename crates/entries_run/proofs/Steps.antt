@@ -25,7 +25,7 @@ use Rattle.entries_run.specs.declared.Next.{Next}
 use Rattle.entries_run.specs.declared.Next.the-variants as N
 use Rattle.entries_run.specs.declared.Run.the-variants as R
 use Rattle.entries_run.specs.declared.Sought.the-variants as S
-use Rattle.entries_run.specs.Steps.{nameAt, entryAt, Inside, Room, StepFound, EntryStepped, EntryPassed, firstCursor, runFrom, RunRead, EntriesRead, runOf, RunAnswered, EntryPlaced, SeekAnswered}
+use Rattle.entries_run.specs.Steps.{nameAt, entryAt, Inside, Room, StepFound, EntryStepped, EntryPassed, firstCursor, runFrom, RunRead, EntriesRead, AllRead, Readable, runOf, RunAnswered, EntryPlaced, SeekAnswered}
 
 -- ---- one entry more
 
@@ -70,6 +70,25 @@ module _ (v : ℕ) (b w : List ℕ) (c : Cursor) (w′ : List ℕ) (n : ℕ) (mo
   pub entries-again {ℓ} : {X : Type ℓ} (es : List Entry) (m : ℕ) (r : Next) → RunRead v n b w c es m → EntryPassed v b w c w′ r → (EntryStepped v b w c w′ r → X) → X
   entries-again es m r q t f = run-first-entry v n _ (c .at) _ more es m q (λ e j is. f (t .same (c .at) e j is))
 
+  -- and refuses nothing
+  pub entries-never {ℓ} : {X : Type ℓ} (es : List Entry) (m j : ℕ) → RunRead v n b w c es m → EntryPassed v b w c w′ (N.Bad j) → X
+  entries-never es m j q t = entries-again es m (N.Bad j) q t (λ u. bad-good _ _ _ _ (sym (entries-bad j u) ∙ q))
+
+-- entries that were read before
+module _ {v n : ℕ} {b w : List ℕ} {c : Cursor} {w′ : List ℕ} (h : Readable v n b w c) (more : 0 < n) where
+  pub readable-again : (r : Next) → EntryPassed v b w c w′ r → EntryStepped v b w c w′ r
+  readable-again r t = entries-again v b w c w′ (n + h .more) (omega arith) (h .entries) (h .taken) r (h .run) t (λ u. u)
+
+  pub readable-never {ℓ} : {X : Type ℓ} (j : ℕ) → EntryPassed v b w c w′ (N.Bad j) → X
+  readable-never j t = entries-never v b w c w′ (n + h .more) (omega arith) (h .entries) (h .taken) j (h .run) t
+
+  -- the others after the first
+  pub readable-next : {st : Step} → EntryStepped v b w c w′ (N.Good st) → Readable v (n - 1) b w′ (st .next)
+  readable-next {st} t =
+      let less : n + h .more - 1 ≡ n - 1 + h .more = omega arith in
+      front-inv _ _ _ _ _ (sym (entries-good v b w c w′ (n + h .more) (omega arith) st t) ∙ h .run) λ gs k on parts sum.
+      record { more = h .more; entries = gs; taken = k; run = rw less at on }
+
 -- the run from the start
 nameAt-none : (v : ℕ) (b w : List ℕ) (t : Bool) → cond t (take 0 w) (take 0 (drop 0 b)) ≡ []
 nameAt-none v b w true = refl
@@ -78,6 +97,12 @@ nameAt-none v b w false = refl
 pub run-first : (v n : ℕ) (b w : List ℕ) → runFrom v n b w firstCursor ≡ readEntries 20 v n start 12 (drop 12 b)
 unfolding nameAt
 run-first v n b w = ap (λ (s : List ℕ). readEntries 20 v n (record { name = s; stage = 0 }) 12 (drop 12 b)) (nameAt-none v b w (eqb v 4))
+
+-- of count entries that were read, the first k
+pub readable-first : (v count k : ℕ) (b w : List ℕ) → k ≤ count → AllRead v count b → Readable v k b w firstCursor
+readable-first v count k b w few (es, m, q) =
+    let sum : k + (count - k) ≡ count = omega arith in
+    record { more = count - k; entries = es; taken = m; run = rw sum (run-first v count b w ∙ q) }
 
 -- before the first entry nothing is known to be unsound, and after one its name is sound
 pub begun-first : (v : ℕ) (b w : List ℕ) → Begun (nameAt v b w 0 0)
@@ -107,7 +132,7 @@ getElem?-seam [] gs e = refl
 getElem?-seam (x ∷ es) gs e = getElem?-seam es gs e
 
 module _ (v : ℕ) (b : List ℕ) where
-  pub walked-first : (w : List ℕ) → Walked v b [] w firstCursor
+  walked-first : (w : List ℕ) → Walked v b [] w firstCursor
   walked-first w = record { after = omega arith; whole = λ n. rw zero-add (sym (front-none _ ∙ run-first v n b w)) }
 
   module _ (es : List Entry) (w : List ℕ) (c : Cursor) (h : Walked v b es w c) where
@@ -132,16 +157,22 @@ module _ (v : ℕ) (b : List ℕ) where
         → es ≡ take (length es) all
     walked-take count all m e few = front-inv _ _ _ _ _ (sym (walked-on count few) ∙ e) (λ gs l q parts sum. rw (← parts) (sym (take-append-seam es gs)))
 
+    -- and the others from the cursor on were read too
+    pub walked-left : (count : ℕ) → length es ≤ count → AllRead v count b → Readable v (count - length es) b w c
+    walked-left count few (all, m, q) =
+        let none : count - length es + 0 ≡ count - length es = omega arith in
+        front-inv _ _ _ _ _ (sym (walked-on count few) ∙ q) (λ gs l on parts sum. record { more = 0; entries = gs; taken = l; run = rw none on })
+
     module _ (w′ : List ℕ) where
       -- a step that refuses
-      pub walked-bad : (m : ℕ) → EntryStepped v b w c w′ (N.Bad m) → (count : ℕ) → length es < count
+      walked-bad : (m : ℕ) → EntryStepped v b w c w′ (N.Bad m) → (count : ℕ) → length es < count
           → readEntries 20 v count start 12 (drop 12 b) ≡ bad m (c .at)
       unfolding inFront
       walked-bad m t count more = walked-on count (omega arith) ∙ rw (entries-bad v b w c w′ (count - length es) (omega arith) m t)
 
       -- a step over one entry more
       module _ (st : Step) (t : EntryStepped v b w c w′ (N.Good st)) where
-        pub walked-more : Walked v b (es ++ (entryAt v b w′ (c .at) st ∷ [])) w′ (st .next)
+        walked-more : Walked v b (es ++ (entryAt v b w′ (c .at) st ∷ [])) w′ (st .next)
         walked-more =
             let f : StepFound v b w c w′ st = t .found st refl in
             record {
@@ -153,7 +184,7 @@ module _ (v : ℕ) (b : List ℕ) where
                   rw (count, h .whole (n + 1), entries-good v b w c w′ (n + 1) (omega arith) st t, left) (front-front es _ _ _ _ ∙ rw taken);
             }
 
-        pub walked-entry : (count : ℕ) (all : List Entry) (m : ℕ) → EntriesRead v count b all m → length es < count
+        walked-entry : (count : ℕ) (all : List Entry) (m : ℕ) → EntriesRead v count b all m → length es < count
             → getElem? all (length es) ≡ some (entryAt v b w′ (c .at) st)
         walked-entry count all m e more =
             let sum : length (es ++ (entryAt v b w′ (c .at) st ∷ [])) + (count - length es - 1) ≡ count = rw length-append (omega arith) in

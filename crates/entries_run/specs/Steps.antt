@@ -188,6 +188,13 @@ EntriesRead v count b es m = ReadAfter v count b start 12 es m
 abbrev pub AllRead : ℕ → ℕ → List ℕ → Type 0
 AllRead v count b = (es : List Entry) × (m : ℕ) × EntriesRead v count b es m
 
+-- n entries, and perhaps more after them, were read from a cursor on
+pub record Readable (v n : ℕ) (b work : List ℕ) (c : Cursor) : Type 0 where
+  pub more : ℕ
+  pub entries : List Entry
+  pub taken : ℕ
+  pub run : RunRead v (n + more) b work c entries taken
+
 -- the answer as the code gives it
 abbrev pub runOf : Read (List Entry) → Run
 runOf (bad n p) = R.Bad n p

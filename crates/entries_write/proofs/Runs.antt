@@ -10,20 +10,19 @@ use Rattle.format.specs.Records.{Entry}
 use Rattle.format.specs.Reader.{isSet, entryOf}
 use Rattle.format.specs.Writer.{needsWord, writeEntry, writeEntries}
 use Rattle.format.specs.Requests.{anyWord}
-use Rattle.format_laws.proofs.Readings.{bad-good, front-inv}
+use Rattle.format_laws.proofs.Readings.{front-inv}
 use Rattle.fields.specs.Workspace.{Frame}
 use Rattle.fields.proofs.Workspace.{frame-same, frame-then}
 use Rattle.output.specs.Output.{Wrote}
 use Rattle.output.proofs.Laws.{wrote-nothing, wrote-then}
 use Rattle.entries_run.specs.declared.Cursor.{Cursor}
 use Rattle.entries_run.specs.declared.Step.{Step}
-use Rattle.entries_run.specs.declared.Next.{Next}
 use Rattle.entries_run.specs.declared.Next.the-variants as N
-use Rattle.entries_run.specs.Steps.{keyAt, entryAt, Inside, EntryStepped, EntryPassed, RunRead}
-use Rattle.entries_run.proofs.Steps.{entries-bad, entries-good}
-use Rattle.entries_write.specs.Parts.{EntryWritten, Readable, lastName, EntriesWritten}
+use Rattle.entries_run.specs.Steps.{keyAt, entryAt, Inside, EntryStepped, RunRead, Readable}
+use Rattle.entries_run.proofs.Steps.{entries-good}
+use Rattle.entries_write.specs.Parts.{EntryWritten, lastName, EntriesWritten}
 use Rattle.entries_write.proofs.Lists.{entries-append, entries-one, anyWord-append, anyWord-one, lastName-append, lastName-one}
-use Rattle.entries_write.proofs.Stepping.{readable-again, step-found, step-name, step-beside}
+use Rattle.entries_write.proofs.Stepping.{step-found, step-name, step-beside}
 
 -- of the entries all, those after es are left at a cursor, k of them
 pub record EntriesLeft (v : ℕ) (b work : List ℕ) (c : Cursor) (k : ℕ) (es all : List Entry) : Type 0 where
@@ -83,28 +82,13 @@ module _ {v : ℕ} {b work₀ : List ℕ} {c₀ : Cursor} {n version : ℕ} {out
         bounds = record { near = omega arith; frame = h .frame; out-long = h .wrote .long };
       }
 
+  -- where all were read, those that are left were
+  pub writing-left : Readable v n b work₀ c₀ → Readable v left b work c
+  writing-left before =
+      let l = h .whole (before .more) (before .entries) (before .taken) (before .run) in
+      record { more = before .more; entries = l .after; taken = l .taken; run = l .run }
+
   module _ (more : 0 < left) {work′ : List ℕ} where
-    -- what was read before is read again
-    pub writing-again : (r : Next) → Readable v n b work₀ c₀ → EntryPassed v b work c work′ r → EntryStepped v b work c work′ r
-    writing-again r before t =
-        let l = h .whole (before .more) (before .entries) (before .taken) (before .run) in
-        let here : Readable v left b work c = record { more = before .more; entries = l .after; taken = l .taken; run = l .run } in
-        readable-again here more r t
-
-    -- the next one is refused
-    pub writing-bad : {k : ℕ} → EntryStepped v b work c work′ (N.Bad k)
-        → EntriesWritten v b work₀ c₀ n version out₀ at work′ out (record { cursor = c; at = end; extended = extended })
-    writing-bad {k} t =
-        let sum = h .count in
-        let near = h .near in
-        record {
-          passed = λ j all m e.
-              let l = h .whole j all m e in
-              bad-good _ _ _ _ (sym (entries-bad v b work c work′ (left + j) (omega arith) k t) ∙ l .run);
-          inside = h .inside;
-          bounds = record { near = omega arith; frame = frame-then (h .frame) (t .frame); out-long = h .wrote .long };
-        }
-
     -- the next one is read
     module _ {st : Step} (t : EntryStepped v b work c work′ (N.Good st)) (room : 8192 ≤ length work) where
       abbrev entry : Entry

@@ -1,36 +1,18 @@
--- Laws of one step: over an entry that was read before, where its entry stands, its name and the one before.
-use mathlib.Core.Path.{_≡_, refl, sym, _∙_}
+-- Laws of one step: where its entry stands, its name and the one before.
+use mathlib.Core.Path.{_≡_, refl, sym}
 use mathlib.Core.List.{List}
-use Prim.Native.Nat.{ℕ, _+_, _-_, _≤_, _<_}
+use Prim.Native.Nat.{ℕ, _-_, _≤_}
 use native.Mathlib.Omega.{arith}
 use lib.ListN.{length}
 use Rattle.format.specs.Records.{Entry}
 use Rattle.format_laws.proofs.Names.{common-le}
-use Rattle.format_laws.proofs.Readings.{front-inv}
 use Rattle.entries_run.specs.declared.Cursor.{Cursor}
 use Rattle.entries_run.specs.declared.Step.{Step}
-use Rattle.entries_run.specs.declared.Next.{Next}
 use Rattle.entries_run.specs.declared.Next.the-variants as N
-use Rattle.entries_run.specs.Steps.{nameAt, keyAt, entryAt, Inside, StepFound, EntryStepped, EntryPassed}
+use Rattle.entries_run.specs.Steps.{nameAt, keyAt, entryAt, Inside, StepFound, EntryStepped}
 use Rattle.entries_run.proofs.Names.{nameAt-length}
-use Rattle.entries_run.proofs.Steps.{entries-good, entries-again, entryAt-name}
-use Rattle.entries_write.specs.Parts.{PrefixKept, Beside, StepRead, Readable}
-
--- ---- entries that were read before
-
-module _ {v n : ℕ} {b work : List ℕ} {c : Cursor} {work′ : List ℕ} (h : Readable v n b work c) (more : 0 < n) where
-  -- a step without tests is one with them
-  pub readable-again : (r : Next) → EntryPassed v b work c work′ r → EntryStepped v b work c work′ r
-  readable-again r t = entries-again v b work c work′ (n + h .more) (omega arith) (h .entries) (h .taken) r (h .run) t (λ u. u)
-
-  -- and the others after it were read too
-  pub readable-next : {st : Step} → EntryStepped v b work c work′ (N.Good st) → Readable v (n - 1) b work′ (st .next)
-  readable-next {st} t =
-      let less : n + h .more - 1 ≡ n - 1 + h .more = omega arith in
-      front-inv _ _ _ _ _ (sym (entries-good v b work c work′ (n + h .more) (omega arith) st t) ∙ h .run) λ gs k on parts sum.
-      record { more = h .more; entries = gs; taken = k; run = rw less at on }
-
--- ---- one step
+use Rattle.entries_run.proofs.Steps.{entryAt-name}
+use Rattle.entries_write.specs.Parts.{PrefixKept, Beside, StepRead}
 
 module _ {v : ℕ} {b work : List ℕ} {c : Cursor} {work′ : List ℕ} {st : Step} (t : EntryStepped v b work c work′ (N.Good st)) where
   abbrev entry : Entry

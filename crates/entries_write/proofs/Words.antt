@@ -33,11 +33,11 @@ word-or true t h = refl
 word-or false true h = refl
 word-or false false h = absurd (h refl)
 
-pub needs-none : (e : Entry) → wordOf e ≡ 0 → needsWord e ≡ false
+needs-none : (e : Entry) → wordOf e ≡ 0 → needsWord e ≡ false
 unfolding wordOf needsWord
 needs-none e h = word-by (e .skipWorktree) (e .intentToAdd) h
 
-pub needs-one : (e : Entry) → (wordOf e ≡ 0 → ⊥) → needsWord e ≡ true
+needs-one : (e : Entry) → (wordOf e ≡ 0 → ⊥) → needsWord e ≡ true
 unfolding wordOf needsWord
 needs-one e h = word-or (e .skipWorktree) (e .intentToAdd) h
 

@@ -69,13 +69,6 @@ pub record StepRead (v : ℕ) (b work : List ℕ) (from : ℕ) (st : Step) : Typ
 
 -- ---- entries
 
--- n entries, and perhaps more after them, were read from a cursor on
-pub record Readable (v n : ℕ) (b work : List ℕ) (c : Cursor) : Type 0 where
-  pub more : ℕ
-  pub entries : List Entry
-  pub taken : ℕ
-  pub run : RunRead v (n + more) b work c entries taken
-
 -- the name after which the next entry stands: that of the last of es, or p where there is none
 unfoldable pub lastName : List ℕ → List Entry → List ℕ
 lastName p [] = p

@@ -1,8 +1,8 @@
 -- The proof that `put_kept` meets its contract.
 use native.Mathlib.Omega.{arith}
 use borrow.Author.Needs.{needs}
-use Rattle.entries_run.proofs.Steps.{inside-first}
-use Rattle.entries_edit.proofs.Edits.{readable-first, kept-written}
+use Rattle.entries_run.proofs.Steps.{inside-first, readable-first}
+use Rattle.entries_edit.proofs.Edits.{kept-written}
 use Rattle.entries_edit.proofs.put_kept.Statement.{statement}
 use Rattle.entries_edit.proofs.put_kept.Tie as tie
 

@@ -4,10 +4,10 @@ use Prim.Native.Nat.{_≤_}
 use native.Mathlib.Omega.{arith}
 use borrow.Author.Needs.{needs}
 use Rattle.fields.proofs.Workspace.{frame-then}
-use Rattle.entries_run.proofs.Steps.{inside-first}
+use Rattle.entries_run.proofs.Steps.{inside-first, readable-first}
 use Rattle.entries.specs.Record.{entryWith}
 use Rattle.entries_edit.proofs.Rests.{cursor-kept}
-use Rattle.entries_edit.proofs.Edits.{readable-first, readable-rest, put-word, with-written}
+use Rattle.entries_edit.proofs.Edits.{readable-rest, put-word, with-written}
 use Rattle.entries_edit.proofs.put_with.Statement.{statement}
 use Rattle.entries_edit.proofs.put_with.Tie as tie
 

@@ -3,8 +3,8 @@ use mathlib.Core.Path.{refl}
 use Prim.Native.Nat.{_≤_}
 use native.Mathlib.Omega.{arith}
 use borrow.Author.Needs.{needs}
-use Rattle.entries_run.proofs.Steps.{inside-first}
-use Rattle.entries_edit.proofs.Edits.{readable-first, readable-rest, without-written}
+use Rattle.entries_run.proofs.Steps.{inside-first, readable-first}
+use Rattle.entries_edit.proofs.Edits.{readable-rest, without-written}
 use Rattle.entries_edit.proofs.put_without.Statement.{statement}
 use Rattle.entries_edit.proofs.put_without.Tie as tie
 

@@ -6,7 +6,8 @@ use native.Mathlib.Omega.{arith}
 use borrow.Author.Needs.{needs}
 use Rattle.entries_run.specs.declared.Next.{Next}
 use Rattle.entries_run.specs.Steps.{EntryStepped, EntryPassed}
-use Rattle.entries_place.proofs.Finding.{Searching, search-first, search-again, search-more, search-end, search-bad, search-stop}
+use Rattle.entries_run.proofs.Steps.{readable-again, readable-never}
+use Rattle.entries_place.proofs.Finding.{Searching, search-first, search-left, search-more, search-end, search-stop}
 use Rattle.entries_place.proofs.find_place.Statement.{statement}
 use Rattle.entries_place.proofs.find_place.Tie as tie
 
@@ -33,7 +34,7 @@ again : (e : tie.After-pass-entry Inv-loop μ-loop) → let l = e .before .befor
     (work′ : List ℕ) (r : Next) → EntryPassed (a .v) (a .b .now) (l .loop .work) (l .loop .c) work′ r → EntryStepped (a .v) (a .b .now) (l .loop .work) (l .loop .c) work′ r
 again e work′ r =
     let l = e .before .before .before in
-    search-again (l .loop .inv .0) (e .before .before .loop-test .taken) (l .before .before .before .before .before .pre .1) r
+    readable-again (search-left (l .loop .inv .0) (l .loop .inv .1) (l .before .before .before .before .before .pre .1)) (omega (arith, e .before .before .loop-test .taken)) r
 
 enum-told : tie.Need-enum-told Inv-loop μ-loop
 enum-told c = search needs
@@ -44,7 +45,9 @@ same-length c = omega arith
 returns : tie.Need-returns Inv-loop μ-loop
 returns c =
     let e = c .before .before .before .before in
-    search-bad (e .before .before .before .loop .inv .0) (e .before .before .loop-test .taken) (rw (c .enum-told .given .1) at (again e _ _ (e .pass-entry .ensures)))
+    let l = e .before .before .before in
+    let left = search-left (l .loop .inv .0) (l .loop .inv .1) (l .before .before .before .before .before .pre .1) in
+    readable-never left (omega (arith, e .before .before .loop-test .taken)) _ (rw (c .enum-told .given .1) at (e .pass-entry .ensures))
 
 enum-known-g : tie.Need-enum-known-g Inv-loop μ-loop
 enum-known-g c = search needs

@@ -7,7 +7,8 @@ use lib.ListN.{length}
 use Rattle.fields.proofs.Workspace.{frame-then}
 use Rattle.entries_run.specs.declared.Next.{Next}
 use Rattle.entries_run.specs.Steps.{EntryStepped, EntryPassed}
-use Rattle.entries_write.proofs.Runs.{Writing, writing-start, writing-again, writing-bad, writing-more, writing-end}
+use Rattle.entries_run.proofs.Steps.{readable-again, readable-never}
+use Rattle.entries_write.proofs.Runs.{Writing, writing-start, writing-left, writing-more, writing-end}
 use Rattle.entries_write.proofs.Stepping.{step-read, step-kept}
 use Rattle.entries_write.proofs.put_entries.Statement.{statement}
 use Rattle.entries_write.proofs.put_entries.Tie as tie
@@ -30,7 +31,7 @@ again : (e : tie.After-pass-entry Inv-loop μ-loop) → let l = e .before .befor
     (work′ : List ℕ) (r : Next) → EntryPassed (a .v) (a .b .now) (l .loop .work) (l .loop .cursor) work′ r → EntryStepped (a .v) (a .b .now) (l .loop .work) (l .loop .cursor) work′ r
 again e work′ r =
     let l = e .before .before .before in
-    writing-again (l .loop .inv) (e .before .before .loop-test .taken) r (l .before .before .before .before .pre .3)
+    readable-again (writing-left (l .loop .inv) (l .before .before .before .before .pre .3)) (e .before .before .loop-test .taken) r
 
 enum-told : tie.Need-enum-told Inv-loop μ-loop
 enum-told c = search needs
@@ -46,9 +47,9 @@ same-length-2 c = c .before .before .before .before .before .before .before .loo
 
 returns : tie.Need-returns Inv-loop μ-loop
 returns c =
-    let l = c .before .before .before .before .before .before .before in
-    let t = rw (c .enum-told .given .1) at (again (c .before .before .before .before) _ _ (c .before .before .before .before .pass-entry .ensures)) in
-    writing-bad (l .loop .inv) (c .before .before .before .before .before .before .loop-test .taken) t
+    let e = c .before .before .before .before in
+    let l = e .before .before .before in
+    readable-never (writing-left (l .loop .inv) (l .before .before .before .before .pre .3)) (e .before .before .loop-test .taken) _ (rw (c .enum-told .given .1) at (e .pass-entry .ensures))
 
 enum-known-g : tie.Need-enum-known-g Inv-loop μ-loop
 enum-known-g c = search needs
