@@ -12,6 +12,7 @@ use Rattle.format.specs.Reading.{Read, bad, good}
 use Rattle.format_laws.proofs.Tests.{cond-inv}
 use Rattle.format_laws.proofs.Readings.{bad-good}
 use Rattle.format_laws.proofs.Lists.{past-zeros}
+use Rattle.fields.specs.Workspace.{Frame}
 use Rattle.answers.specs.declared.Shown.the-variants.{InWorkspace}
 use Rattle.answers.specs.Answers.{tooSmall, inRoom, View, refused, cleared, holding, partIn, nameIn}
 
@@ -49,19 +50,19 @@ module _ (work : List ℕ) where
   unfolding cleared
   cleared-large h = rw (large h)
 
-  pub cleared-past : 8192 ≤ length work → drop 8192 (cleared work) ≡ drop 8192 work
-  cleared-past h = rw (cleared-large h) (past-zeros 8192 (drop 8192 work))
-
-  pub cleared-long : 8192 ≤ length work → length (cleared work) ≡ length work
-  cleared-long h =
+  pub cleared-frame : 8192 ≤ length work → Frame work (cleared work)
+  cleared-frame h =
       rw (cleared-large h)
-      (length-append (replicate 8192 0) (drop 8192 work) ∙ omega (arith, length-replicate {A = ℕ} 8192 0, length-drop 8192 work))
+      (record {
+        long = length-append (replicate 8192 0) (drop 8192 work) ∙ omega (arith, length-replicate {A = ℕ} 8192 0, length-drop 8192 work);
+        past = past-zeros 8192 (drop 8192 work);
+      })
 
 -- only what lies past the 8,192nd byte of a workspace matters to what is left of it when it is cleared
-pub cleared-same : (work written : List ℕ) → 8192 ≤ length work → length written ≡ length work → drop 8192 written ≡ drop 8192 work → cleared written ≡ cleared work
-cleared-same work written room long rest =
-    let also : 8192 ≤ length written = omega arith in
-    cleared-large written also ∙ rw rest (sym (cleared-large work room))
+pub cleared-same : (work written : List ℕ) → 8192 ≤ length work → Frame work written → cleared written ≡ cleared work
+cleared-same work written room frame =
+    let also : 8192 ≤ length written = omega (arith, frame) in
+    cleared-large written also ∙ rw (frame .past) (sym (cleared-large work room))
 
 -- a workspace that was written up to its 8,192nd byte: what fields::clear_from leaves of it
 module _ (work written : List ℕ) (rest : drop 8192 written ≡ drop 8192 work) where

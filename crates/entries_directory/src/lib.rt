@@ -9,7 +9,7 @@ ghost use mathlib.Core.Bool.{true, _&&_};
 ghost use Prim.Native.Nat.{_≤_};
 ghost use lib.ListN.{length};
 ghost use lib.Dec.{leb, ltb};
-ghost use Rattle.entries_directory.specs.Ahead.{Fits, Advanced, Went, MoreFiles, WentFiles};
+ghost use Rattle.entries_directory.specs.Ahead.{FrontFits, FrontAdvanced, FrontPassed, MoreFiles, FrontPassedFiles};
 
 // The name of the first entry ahead stands before the cursor. common is what it has in common with the name before it.
 pub struct Front {
@@ -20,8 +20,8 @@ pub struct Front {
 
 // The next entry. All entries were read before the walk, so that nothing is tested again. One that is not there ends the walk.
 pub fn advance(b: &[u8], v: u32, work: &mut [u8], s: Front) -> Front
-    requires { ⌜ Fits (now b) s × (8192 ≤ length (now work)) ⌝ }
-    ensures { λ r. ⌜ Advanced v (now (b .entry)) (now (work .entry)) s (now (work .exit)) r ⌝ }
+    requires { ⌜ FrontFits (now b) s × (8192 ≤ length (now work)) ⌝ }
+    ensures { λ r. ⌜ FrontAdvanced v (now (b .entry)) (now (work .entry)) s (now (work .exit)) r ⌝ }
 {
     let c = s.cursor;
     if s.ahead <= 1 {
@@ -49,7 +49,7 @@ pub fn advance(b: &[u8], v: u32, work: &mut [u8], s: Front) -> Front
     }
 }
 
-// Whether the first entry ahead begins with the same so many bytes as the one before it.
+// Whether the first entry ahead begins with the same q bytes as the one before it.
 pub fn stays(s: Front, q: usize) -> bool
     ensures { λ r. ⌜ r ≡ (ltb 0 (s .ahead) && leb q (s .common)) ⌝ }
 {
@@ -61,8 +61,8 @@ pub fn stays(s: Front, q: usize) -> bool
 
 // Past all entries that begin with the first q bytes of the first one ahead.
 pub fn pass(b: &[u8], v: u32, work: &mut [u8], s: Front, q: usize) -> Front
-    requires { ⌜ Fits (now b) s × (8192 ≤ length (now work)) × (1 ≤ s .ahead) ⌝ }
-    ensures { λ r. ⌜ Went v (now (b .entry)) (now (work .entry)) s q (now (work .exit)) r ⌝ }
+    requires { ⌜ FrontFits (now b) s × (8192 ≤ length (now work)) × (1 ≤ s .ahead) ⌝ }
+    ensures { λ r. ⌜ FrontPassed v (now (b .entry)) (now (work .entry)) s q (now (work .exit)) r ⌝ }
 {
     let mut front = advance(b, v, &mut *work, s);
     while stays(front, q) {
@@ -74,7 +74,7 @@ pub fn pass(b: &[u8], v: u32, work: &mut [u8], s: Front, q: usize) -> Front
 // Whether the first entry ahead is one more file of the directory whose name is the first q bytes of the entry before it, which is one. What the two
 // names have in common has no further "/", so only the rest is looked at.
 fn is_file<'a>(b: &'a [u8], v: u32, work: &'a [u8], s: Front, q: usize) -> bool
-    requires { ⌜ Fits (now b) s × (8192 ≤ length (now work)) ⌝ }
+    requires { ⌜ FrontFits (now b) s × (8192 ≤ length (now work)) ⌝ }
     ensures { λ r. ⌜ (r ≡ true → MoreFiles v (now (b .entry)) (now (work .entry)) s q) ⌝ }
 {
     if stays(s, q) {
@@ -89,8 +89,8 @@ fn is_file<'a>(b: &'a [u8], v: u32, work: &'a [u8], s: Front, q: usize) -> bool
 
 // Past the files of the directory whose name is the first q bytes of the first one ahead, which is one, up to the first entry that is none.
 pub fn pass_files(b: &[u8], v: u32, work: &mut [u8], s: Front, q: usize) -> Front
-    requires { ⌜ Fits (now b) s × (8192 ≤ length (now work)) × (1 ≤ s .ahead) ⌝ }
-    ensures { λ r. ⌜ WentFiles v (now (b .entry)) (now (work .entry)) s q (now (work .exit)) r ⌝ }
+    requires { ⌜ FrontFits (now b) s × (8192 ≤ length (now work)) × (1 ≤ s .ahead) ⌝ }
+    ensures { λ r. ⌜ FrontPassedFiles v (now (b .entry)) (now (work .entry)) s q (now (work .exit)) r ⌝ }
 {
     let mut front = advance(b, v, &mut *work, s);
     while is_file(b, v, &work[..], front, q) {

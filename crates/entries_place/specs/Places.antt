@@ -3,16 +3,16 @@ use mathlib.Core.Path.{_≡_}
 use mathlib.Core.List.{List, [], _∷_}
 use mathlib.Core.Bool.{Bool, true, false, cond, _&&_}
 use Prim.Native.Nat.{ℕ, suc, _+_, _≤_}
-use lib.ListN.{length, drop}
+use lib.ListN.{drop}
 use lib.Dec.{ltb}
 use Rattle.format.specs.declared.Order.{Order}
 use Rattle.format.specs.declared.Order.the-variants.{Below, Same, Above}
 use Rattle.format.specs.Names.{compare}
-use Rattle.format.specs.Records.{Entry, Key, keyOf, start}
+use Rattle.format.specs.Records.{Entry, Key, keyOf}
 use Rattle.format.specs.Layout.{bit}
-use Rattle.format.specs.Reading.{good}
-use Rattle.format.specs.Reader.{readEntries}
 use Rattle.format.specs.Requests.{goesBefore, sameKey}
+use Rattle.fields.specs.Workspace.{Frame}
+use Rattle.entries_run.specs.Steps.{EntriesRead}
 use Rattle.entries_place.specs.declared.Place.{Place}
 
 -- how stage s of a name stands to stage t of another, of which the first stands to the second as the order says
@@ -45,9 +45,7 @@ rising k [] = true
 rising k (x ∷ xs) = goesBefore k (keyOf x) && rising (keyOf x) xs
 
 -- the place of the key k among the first count entries of the body b, and what the search leaves of the workspace
-pub record Ranked (v : ℕ) (b work : List ℕ) (count : ℕ) (k : Key) (work′ : List ℕ) (r : Place) : Type 0 where
-  pub is : (es : List Entry) (m : ℕ) → readEntries 20 v count start 12 (drop 12 b) ≡ good es m
-      → (r .before ≡ rank k es) × (r .there ≡ isThere k es)
+pub record PlaceFound (v : ℕ) (b work : List ℕ) (count : ℕ) (k : Key) (work′ : List ℕ) (r : Place) : Type 0 where
+  pub is : (es : List Entry) (m : ℕ) → EntriesRead v count b es m → (r .before ≡ rank k es) × (r .there ≡ isThere k es)
   pub few : r .before + bit (r .there) ≤ count
-  pub long : length work′ ≡ length work
-  pub past : drop 8192 work′ ≡ drop 8192 work
+  pub frame : Frame work work′

@@ -1,14 +1,10 @@
 // Where a name and a stage stand among the entries of a body.
 ghost use mathlib.Core.Path.{_≡_};
-ghost use mathlib.Core.List.{List};
-ghost use Prim.Native.Nat.{ℕ, _≤_};
-ghost use lib.ListN.{length, drop};
+ghost use Prim.Native.Nat.{_≤_};
+ghost use lib.ListN.{length};
 ghost use Rattle.format.specs.Names as Names;
-ghost use Rattle.format.specs.Records.{Entry, start};
-ghost use Rattle.format.specs.Reading.{good};
-ghost use Rattle.format.specs.Reader.{readEntries};
-ghost use Rattle.entries_run.specs.Steps.{keyAt, Room, Inside};
-ghost use Rattle.entries_place.specs.Places.{thenStage, compareKeys, Ranked};
+ghost use Rattle.entries_run.specs.Steps.{keyAt, Room, Inside, AllRead};
+ghost use Rattle.entries_place.specs.Places.{thenStage, compareKeys, PlaceFound};
 use entries_run::Cursor;
 use entries_run::Next;
 use format::Order;
@@ -55,8 +51,8 @@ fn order_at(b: &[u8], v: u32, work: &[u8], c: Cursor, name: &[u8], stage: u32) -
 
 // Where an entry of this name and stage stands, or would stand, among the first count entries of a body, which were read before.
 pub fn find_place(b: &[u8], v: u32, work: &mut [u8], count: u32, name: &[u8], stage: u32) -> Place
-    requires { ⌜ Room (now b) (now work) × ((es : List Entry) × (m : ℕ) × (readEntries 20 v count start 12 (drop 12 (now b)) ≡ good es m)) ⌝ }
-    ensures { λ r. ⌜ Ranked v (now (b .entry)) (now (work .entry)) count (record { name = now (name .entry); stage = stage }) (now (work .exit)) r ⌝ }
+    requires { ⌜ Room (now b) (now work) × AllRead v count (now b) ⌝ }
+    ensures { λ r. ⌜ PlaceFound v (now (b .entry)) (now (work .entry)) count (record { name = now (name .entry); stage = stage }) (now (work .exit)) r ⌝ }
 {
     let mut c = entries_run::first();
     let mut before = 0;

@@ -20,7 +20,7 @@ use Rattle.output.proofs.Laws.{wrote-then}
 use Rattle.answers.specs.declared.Written.the-variants as W
 use Rattle.file_read.specs.declared.Parts.{Parts}
 use Rattle.entries_edit.specs.declared.Edit.{Edit}
-use Rattle.entries_edit.specs.declared.rest.Laid.{Laid}
+use Rattle.entries_edit.specs.declared.rest.WriteEnd.{WriteEnd}
 use Rattle.entries_edit.specs.Edits.{Replaces}
 use Rattle.file_write.specs.Bodies.{changed, Has, BodyWritten}
 use Rattle.file_write.proofs.Bodies.{body-like}
@@ -112,7 +112,7 @@ answers-good x s out out′ m e w fits =
 
 -- ---- the whole: after it was measured
 
-module _ (b work work₁ : List ℕ) (parts : Parts) (asked : ℕ) (edit : Edit) (e : Entry) (sized : Laid) (m : Measured b parts work edit e (likeOf asked) work₁ sized)
+module _ (b work work₁ : List ℕ) (parts : Parts) (asked : ℕ) (edit : Edit) (e : Entry) (sized : WriteEnd) (m : Measured b parts work edit e (likeOf asked) work₁ sized)
     (out : List ℕ) where
   pub file-worded : (eqb asked 2 && sized .extended) ≡ true → FileWritten b parts work asked edit e out work₁ out (W.Refused 21 0)
   file-worded h = record {
@@ -140,7 +140,7 @@ module _ (b work work₁ : List ℕ) (parts : Parts) (asked : ℕ) (edit : Edit)
         past = m .past;
       }
 
-      module _ (fits : sized .at + 20 ≤ length out) (version : ℕ) (is : version ≡ versionOf asked (sized .extended)) (work₂ out₁ : List ℕ) (laid : Laid)
+      module _ (fits : sized .at + 20 ≤ length out) (version : ℕ) (is : version ≡ versionOf asked (sized .extended)) (work₂ out₁ : List ℕ) (laid : WriteEnd)
           (body : BodyWritten b parts work₁ edit e version out work₂ out₁ laid) where
         version-of : (x : Records) → Has b parts x → Replaces edit (e .name) (x .entries) → version ≡ versionFor asked (changed edit e x .entries)
         version-of x has there = is ∙ ap (versionOf asked) (m .extended x has there) ∙ version-is asked (changed edit e x .entries)

@@ -18,7 +18,7 @@ use Rattle.entries.specs.declared.record.Fields.{Fields}
 use Rattle.file_read.specs.declared.Parts.{Parts}
 use Rattle.entries_edit.specs.declared.Edit.{Edit}
 use Rattle.entries_edit.specs.declared.Edit.the-variants as E
-use Rattle.entries_edit.specs.declared.rest.Laid.{Laid}
+use Rattle.entries_edit.specs.declared.rest.WriteEnd.{WriteEnd}
 use Rattle.entries_edit.specs.Edits.{edited, passes, Replaces}
 
 -- ---- the records afterwards
@@ -76,7 +76,7 @@ pub record Ready (b work : List ℕ) (parts : Parts) (edit : Edit) (fields : Fie
 -- ---- what is written
 
 -- the body of a version, with an edit; e is what is put
-pub record BodyWritten (b : List ℕ) (parts : Parts) (work : List ℕ) (edit : Edit) (e : Entry) (version : ℕ) (out work′ out′ : List ℕ) (r : Laid) : Type 0 where
+pub record BodyWritten (b : List ℕ) (parts : Parts) (work : List ℕ) (edit : Edit) (e : Entry) (version : ℕ) (out work′ out′ : List ℕ) (r : WriteEnd) : Type 0 where
   pub wrote : (x : Records) → Has b parts x → Replaces edit (e .name) (x .entries) → Wrote out 0 (writeBody 20 version (changed edit e x)) out′ (r .at)
   pub extended : (x : Records) → Has b parts x → Replaces edit (e .name) (x .entries) → r .extended ≡ anyWord (changed edit e x .entries)
   pub near : r .at ≤ 1125899906842624

@@ -14,12 +14,12 @@ use Rattle.answers.specs.declared.Written.{Written}
 use Rattle.answers.specs.Writing.{writtenOf, outputAfter}
 use Rattle.file_read.specs.declared.Parts.{Parts}
 use Rattle.entries_edit.specs.declared.Edit.{Edit}
-use Rattle.entries_edit.specs.declared.rest.Laid.{Laid}
+use Rattle.entries_edit.specs.declared.rest.WriteEnd.{WriteEnd}
 use Rattle.entries_edit.specs.Edits.{Replaces}
 use Rattle.file_write.specs.Bodies.{changed, Has}
 
 -- how long the body of a version is with an edit, and whether an entry needs the extended word; e is what is put
-pub record Measured (b : List ℕ) (parts : Parts) (work : List ℕ) (edit : Edit) (e : Entry) (version : ℕ) (work′ : List ℕ) (r : Laid) : Type 0 where
+pub record Measured (b : List ℕ) (parts : Parts) (work : List ℕ) (edit : Edit) (e : Entry) (version : ℕ) (work′ : List ℕ) (r : WriteEnd) : Type 0 where
   pub size : (x : Records) → Has b parts x → Replaces edit (e .name) (x .entries) → r .at ≡ length (writeBody 20 version (changed edit e x))
   pub extended : (x : Records) → Has b parts x → Replaces edit (e .name) (x .entries) → r .extended ≡ anyWord (changed edit e x .entries)
   pub near : r .at ≤ 1125899906842624

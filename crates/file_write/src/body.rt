@@ -15,7 +15,7 @@ ghost use Rattle.entries_edit.specs.Edits.{passes};
 ghost use Rattle.file_write.specs.Bodies.{changes, treeAfter, countAfter, Differ, Ready, BodyWritten};
 use entries::record::Fields;
 use entries_edit::Edit;
-use entries_edit::rest::Laid;
+use entries_edit::rest::WriteEnd;
 use extensions::TreePlace;
 use extensions::UndoPlace;
 use file_read::Parts;
@@ -115,7 +115,7 @@ pub fn put_body(
     name: &[u8],
     version: u32,
     out: &mut [u8],
-) -> Laid
+) -> WriteEnd
     requires { ⌜ Ready (now b) (now work) parts edit fields (now name) ⌝ }
     ensures { λ r. ⌜ BodyWritten (now (b .entry)) parts (now (work .entry)) edit (entryWith fields (now (name .entry))) version (now (out .entry)) (now (work .exit)) (now (out .exit)) r ⌝ }
 {
@@ -141,7 +141,7 @@ pub fn put_body(
         laid.at,
     );
     let end = put_resolve_undo(b, parts.found.undo, out, middle);
-    Laid {
+    WriteEnd {
         at: end,
         extended: laid.extended,
     }

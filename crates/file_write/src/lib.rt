@@ -15,7 +15,7 @@ use crate::body::put_body;
 use answers::Written;
 use entries::record::Fields;
 use entries_edit::Edit;
-use entries_edit::rest::Laid;
+use entries_edit::rest::WriteEnd;
 use file_read::Parts;
 use output::put_bytes;
 
@@ -28,7 +28,7 @@ fn measure(
     fields: Fields,
     name: &[u8],
     version: u32,
-) -> Laid
+) -> WriteEnd
     requires { ⌜ Ready (now b) (now work) parts edit fields (now name) ⌝ }
     ensures { λ r. ⌜ Measured (now (b .entry)) parts (now (work .entry)) edit (entryWith fields (now (name .entry))) version (now (work .exit)) r ⌝ }
 {

@@ -19,7 +19,7 @@ use Rattle.entries_directory.specs.declared.Front.{Front}
 use Rattle.tree_check.specs.declared.look.Look.{Look}
 use Rattle.tree_check.specs.declared.look.Look.the-variants as L
 use Rattle.tree_search.specs.Siblings.{FoundAt, Sought, Finds}
-use Rattle.entries_directory.specs.Ahead.{Fits}
+use Rattle.entries_directory.specs.Ahead.{FrontFits}
 use Rattle.tree_check.specs.Components.{component, Component, lookOf, LookedUp}
 use Rattle.entries_directory.proofs.First.{name-file, fits-length}
 
@@ -65,7 +65,7 @@ module _ (x : List ℕ) (k e : ℕ) (is : e ≡ k + before 47 (drop k x)) where
 
 -- ---- in the first name ahead, x
 
-module _ (v : ℕ) (b work : List ℕ) (s : Front) (fits : Fits b s) (room : 8192 ≤ length work) (x : List ℕ) (named : x ≡ nameAt v b work (s .cursor .start) (s .cursor .len)) where
+module _ (v : ℕ) (b work : List ℕ) (s : Front) (fits : FrontFits b s) (room : 8192 ≤ length work) (x : List ℕ) (named : x ≡ nameAt v b work (s .cursor .start) (s .cursor .len)) where
   same-length : length x ≡ s .cursor .len
   same-length = fits-length v b work s fits room x named
 

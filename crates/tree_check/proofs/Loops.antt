@@ -11,7 +11,7 @@ use borrow.Author.Tests.{eqb-true, eqb-false}
 use Rattle.format_laws.proofs.Tests.{by-test, false-true, or-inv}
 use Rattle.tree_nodes.proofs.Nodes.{node-is}
 use Rattle.entries_directory.specs.declared.Front.{Front}
-use Rattle.entries_directory.specs.Ahead.{Fits}
+use Rattle.entries_directory.specs.Ahead.{FrontFits}
 use Rattle.entries_directory.proofs.Ahead.{stays-some, stays-long}
 use Rattle.tree_check.specs.declared.walk.Directory.{Directory}
 use Rattle.tree_check.specs.Steps.{entered, Ready, PartPassed, PartEntered}
@@ -30,7 +30,7 @@ pub record Looping (d b work₀ : List ℕ) (above : List Directory) (work : Lis
   pub deep : level ≤ 127
   pub inside : dir .at ≤ length d
   pub small : length d ≤ 16777216
-  pub fits : Fits b s
+  pub fits : FrontFits b s
   pub few : s .ahead < 4294967296
   pub room : 8192 ≤ length work
   pub most : s .ahead ≤ dir .ahead

@@ -20,7 +20,7 @@ use Rattle.entries_directory.specs.declared.Front.{Front}
 use Rattle.tree_check.specs.declared.look.Look.{Look}
 use Rattle.tree_check.specs.declared.look.Look.the-variants as L
 use Rattle.tree_check.specs.declared.walk.Directory.{Directory}
-use Rattle.entries_directory.specs.Ahead.{Ahead, File, Went, WentFiles}
+use Rattle.entries_directory.specs.Ahead.{Ahead, File, FrontPassed, FrontPassedFiles}
 use Rattle.tree_check.specs.Components.{component, Component, Looked, LookedUp}
 use Rattle.tree_check.specs.Steps.{Ready, PartPassed}
 use Rattle.tree_nodes.proofs.Trees.{no-bad}
@@ -52,7 +52,7 @@ module _ (d : List ℕ) (dir : Directory) (b : List ℕ) (v : ℕ) (work : List 
 
   module _ (work′ : List ℕ) (ready : Ready d dir b work s) where
     pub part-files : LookedUp d (dir .at) (dir .k) (nameAt v b work (s .cursor .start) (s .cursor .len)) (s .cursor .len) (dir .q) L.File
-        → (r : Front) → WentFiles v b work s (dir .q) work′ r → PartPassed d dir b v work s work′ true r
+        → (r : Front) → FrontPassedFiles v b work s (dir .q) work′ r → PartPassed d dir b v work s work′ true r
     part-files look r went = record {
       fits = went .gone .fits;
       less = went .gone .less;
@@ -64,7 +64,7 @@ module _ (d : List ℕ) (dir : Directory) (b : List ℕ) (v : ℕ) (work : List 
     }
 
     pub part-missing : (e : ℕ) → LookedUp d (dir .at) (dir .k) (nameAt v b work (s .cursor .start) (s .cursor .len)) (s .cursor .len) (dir .q) (L.Missing e)
-        → (r : Front) → Went v b work s e work′ r → PartPassed d dir b v work s work′ (not (dir .valid)) r
+        → (r : Front) → FrontPassed v b work s e work′ r → PartPassed d dir b v work s work′ (not (dir .valid)) r
     part-missing e look r went = record {
       fits = went .gone .fits;
       less = went .gone .less;

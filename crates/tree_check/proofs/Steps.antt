@@ -19,7 +19,7 @@ use Rattle.tree_counts.proofs.Walk.{child-free, judge-pass, matched-pass, judge
 use Rattle.entries_directory.proofs.Runs.{enter-begins, runIn-every}
 use Rattle.tree_counts.proofs.Runs.{passed-name, passed-run, judge-run, matched-run}
 use Rattle.entries_directory.specs.declared.Front.{Front}
-use Rattle.entries_directory.specs.Ahead.{Left, Files, files-none, files-more, FilesLeft}
+use Rattle.entries_directory.specs.Ahead.{DirectoryPassed, Files, files-none, files-more, FilesPassed}
 use Rattle.tree_check.specs.Steps.{Moved}
 
 -- ---- names under a component that no sibling has
@@ -85,7 +85,7 @@ module _ (valid : Bool) (f : Forest) (q : List ℕ) (whole done ss : List (List 
         sum = matched-file (i .now-done) _ f (file .alone) ∙ i .sum;
       }
 
-  pub moved-files : (v : ℕ) (b work : List ℕ) (front : Front) → FilesLeft v b work front q ss → Moved valid f q whole done v b work true 0 front
+  pub moved-files : (v : ℕ) (b work : List ℕ) (front : Front) → FilesPassed v b work front q ss → Moved valid f q whole done v b work true 0 front
   moved-files v b work front left =
       let i = files-passed _ (left .files) in
       record {
@@ -107,7 +107,7 @@ part-in q c x in-q uc = enter-begins q c x ∙ ap₂ _&&_ in-q uc
 module _ (valid : Bool) (f : Forest) (q x : List ℕ) (xs whole done : List (List ℕ)) (v : ℕ) (b work : List ℕ) (front : Front)
     (in-q : begins q x ≡ true) (h : Passed f q whole done (x ∷ xs)) where
   -- the names under the component c
-  module _ (sound : Sound f) (c : List ℕ) (lc : lacks 47 c ≡ true) (uc : under c (drop (length q) x) ≡ true) (left : Left v b work front (enter q c) (x ∷ xs)) where
+  module _ (sound : Sound f) (c : List ℕ) (lc : lacks 47 c ≡ true) (uc : under c (drop (length q) x) ≡ true) (left : DirectoryPassed v b work front (enter q c) (x ∷ xs)) where
     in-part : begins (enter q c) x ≡ true
     in-part = part-in q c x in-q uc
 

@@ -23,7 +23,7 @@ use Rattle.tree_counts.proofs.Runs.{passed-start, passed-end}
 use Rattle.entries_run.proofs.Steps.{entries-length}
 use Rattle.entries_directory.specs.Names.{sortedFrom, begins, leads, span, beyond, within, enter}
 use Rattle.entries_directory.specs.declared.Front.{Front}
-use Rattle.entries_directory.specs.Ahead.{Ahead, After, after-none, after-some, Left}
+use Rattle.entries_directory.specs.Ahead.{Ahead, After, after-none, after-some, DirectoryPassed}
 use Rattle.entries_directory.proofs.Ahead.{stays-is, stays-in}
 use Rattle.entries_directory.proofs.Directory.{first-least}
 use Rattle.entries_directory.proofs.Runs.{within-top}
@@ -79,7 +79,7 @@ pub record Standing (v : ℕ) (b work : List ℕ) (s : Front) (f : F.Forest) (q 
 -- it is not, so all names in the directory were passed
 pub record Ended (v : ℕ) (b work : List ℕ) (s : Front) (dir : Directory) (q : List ℕ) (whole done : List (List ℕ)) : Type 0 where
   pub all : done ≡ within q whole
-  pub left : Left v b work s q whole
+  pub left : DirectoryPassed v b work s q whole
   pub count : dir .ahead - s .ahead ≡ length (within q whole)
 
 module _ (v : ℕ) (b work : List ℕ) (s : Front) (dir : Directory) (f : F.Forest) (q : List ℕ) (long : length q ≡ dir .q) where

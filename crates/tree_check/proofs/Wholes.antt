@@ -30,7 +30,7 @@ use Rattle.entries_directory.specs.declared.Front.{Front}
 use Rattle.tree_check.specs.declared.survey.Survey.{Survey}
 use Rattle.tree_check.specs.declared.survey.Survey.the-variants as S
 use Rattle.tree_check.specs.Survey.{surveyOf}
-use Rattle.entries_directory.specs.Ahead.{Fits, Ahead, After, after-none, after-some}
+use Rattle.entries_directory.specs.Ahead.{FrontFits, Ahead, After, after-none, after-some}
 use Rattle.tree_check.specs.Steps.{entered, Walked}
 use Rattle.tree_check.proofs.Nodes.{node-says}
 use Rattle.tree_nodes.proofs.Flat.{forest-reads}
@@ -54,7 +54,7 @@ ahead-first v count b work es m bytes q =
       sorted = entries-sorted (entries-read 20 v count start 12 (drop 12 b) es m (bytes-drop 12 b bytes) q .1);
     }
 
-pub fits-first : (count : ℕ) (b work : List ℕ) → Room b work → count < 4294967296 → Fits b (record { cursor = firstCursor; ahead = count + 1; common = 0 })
+pub fits-first : (count : ℕ) (b work : List ℕ) → Room b work → count < 4294967296 → FrontFits b (record { cursor = firstCursor; ahead = count + 1; common = 0 })
 fits-first count b work room few = record { inside = inside-first b work room; short = omega arith; few = omega arith }
 
 -- the root's count and the walk, where there is no entry and where there are some

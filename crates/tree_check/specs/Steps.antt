@@ -22,7 +22,7 @@ use Rattle.tree_check.specs.declared.look.Look.the-variants as L
 use Rattle.tree_check.specs.declared.walk.Directory.{Directory}
 use Rattle.tree_check.specs.declared.walk.Part.{Part}
 use Rattle.tree_check.specs.declared.walk.Part.the-variants as P
-use Rattle.entries_directory.specs.Ahead.{Fits, Ahead, After}
+use Rattle.entries_directory.specs.Ahead.{FrontFits, Ahead, After}
 use Rattle.tree_check.specs.Components.{LookedUp}
 
 -- ---- a directory
@@ -35,7 +35,7 @@ entered node q s = record { at = node .next; k = node .subtrees; valid = node .v
 pub record Ready (d : List ℕ) (dir : Directory) (b work : List ℕ) (s : Front) : Type 0 where
   pub inside : dir .at ≤ length d
   pub small : length d ≤ 16777216
-  pub fits : Fits b s
+  pub fits : FrontFits b s
   pub few : s .ahead < 4294967296
   pub room : 8192 ≤ length work
   pub some : 1 ≤ s .ahead
@@ -56,7 +56,7 @@ pub record Moved (valid : Bool) (f : Forest) (q : List ℕ) (whole done : List (
 
 -- it was passed: fewer entries are ahead, and the workspace past its 8,192nd byte stays
 pub record PartPassed (d : List ℕ) (dir : Directory) (b : List ℕ) (v : ℕ) (work : List ℕ) (s : Front) (work′ : List ℕ) (holds : Bool) (r : Front) : Type 0 where
-  pub fits : Fits b r
+  pub fits : FrontFits b r
   pub less : r .ahead < s .ahead
   pub long : length work′ ≡ length work
   pub past : drop 8192 work′ ≡ drop 8192 work

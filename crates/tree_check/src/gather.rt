@@ -13,7 +13,7 @@ use tree_table::key_of;
 ghost use Prim.Native.Nat.{_≤_, _<_};
 ghost use lib.ListN.{length};
 ghost use Rattle.tree_search.specs.Table.{Vacant};
-ghost use Rattle.entries_directory.specs.Ahead.{Fits};
+ghost use Rattle.entries_directory.specs.Ahead.{FrontFits};
 ghost use Rattle.tree_check.specs.Keys.{KeysPut};
 
 // How many names ahead are looked at: more than a table takes keys, since names in one directory are one after another and have one key.
@@ -46,7 +46,7 @@ fn put_first<'a>(
     region: Region,
     t: &mut Table,
 ) -> u32
-    requires { ⌜ Fits (now b) s × (8192 ≤ length (now work)) × (q ≤ s .cursor .len) × Vacant region (now t) ⌝ }
+    requires { ⌜ FrontFits (now b) s × (8192 ≤ length (now work)) × (q ≤ s .cursor .len) × Vacant region (now t) ⌝ }
     ensures { λ r. ⌜ (r < 2) × KeysPut region (now (t .entry)) (now (t .exit)) ⌝ }
 {
     let c = s.cursor;
@@ -58,7 +58,7 @@ fn put_first<'a>(
 
 // Those of the names ahead that begin with the same q bytes. names is a workspace with the first name.
 fn put_ahead(b: &[u8], v: u32, names: &mut [u8], q: usize, s: Front, region: Region, t: &mut Table)
-    requires { ⌜ Fits (now b) s × (8192 ≤ length (now names)) × (q ≤ s .cursor .len) × Vacant region (now t) ⌝ }
+    requires { ⌜ FrontFits (now b) s × (8192 ≤ length (now names)) × (q ≤ s .cursor .len) × Vacant region (now t) ⌝ }
     ensures { λ _. ⌜ KeysPut region (now (t .entry)) (now (t .exit)) ⌝ }
 {
     let mut front = s;
@@ -91,7 +91,7 @@ fn put_copied(
     region: Region,
     t: &mut Table,
 )
-    requires { ⌜ Fits (now b) s × (8192 ≤ length (now work)) × (q ≤ s .cursor .len) × Vacant region (now t) ⌝ }
+    requires { ⌜ FrontFits (now b) s × (8192 ≤ length (now work)) × (q ≤ s .cursor .len) × Vacant region (now t) ⌝ }
     ensures { λ _. ⌜ KeysPut region (now (t .entry)) (now (t .exit)) ⌝ }
 {
     let len = s.cursor.len;
@@ -101,7 +101,7 @@ fn put_copied(
 
 // The keys of the next components of the names ahead that begin with the same q bytes are put in a table that is of no list.
 pub fn gather(b: &[u8], v: u32, work: &[u8], q: usize, s: Front, region: Region, t: &mut Table)
-    requires { ⌜ Fits (now b) s × (8192 ≤ length (now work)) × (q ≤ s .cursor .len) × Vacant region (now t) ⌝ }
+    requires { ⌜ FrontFits (now b) s × (8192 ≤ length (now work)) × (q ≤ s .cursor .len) × Vacant region (now t) ⌝ }
     ensures { λ _. ⌜ KeysPut region (now (t .entry)) (now (t .exit)) ⌝ }
 {
     let mut names = [0u8; 8192];

@@ -19,7 +19,7 @@ ghost use lib.ListN.{length};
 ghost use Rattle.entries_run.specs.Steps.{nameAt};
 ghost use Rattle.tree_search.specs.Siblings.{Told, Finds};
 ghost use Rattle.tree_search.specs.Table.{Known};
-ghost use Rattle.entries_directory.specs.Ahead.{Fits};
+ghost use Rattle.entries_directory.specs.Ahead.{FrontFits};
 ghost use Rattle.tree_check.specs.Components.{lookOf, LookedUp};
 
 // A list of at most this many bytes is scanned: a look at all of it costs less than to make a table.
@@ -59,7 +59,7 @@ fn find_by_table(
     region: Region,
     t: &mut Table,
 ) -> Child
-    requires { ⌜ (at ≤ length (now d)) × (length (now d) ≤ 16777216) × Fits (now b) s × (8192 ≤ length (now work)) × (q ≤ s .cursor .len) × Known (now d) (now t) ⌝ }
+    requires { ⌜ (at ≤ length (now d)) × (length (now d) ≤ 16777216) × FrontFits (now b) s × (8192 ≤ length (now work)) × (q ≤ s .cursor .len) × Known (now d) (now t) ⌝ }
     ensures { λ r. ⌜ Finds (now (d .entry)) at k (now (name .entry)) r × Known (now (d .entry)) (now (t .exit)) ⌝ }
 {
     begin(d, region, t);
@@ -101,7 +101,7 @@ pub fn look_up<'a>(
     s: Front,
     t: &mut Table,
 ) -> Look
-    requires { ⌜ (at ≤ length (now d)) × (length (now d) ≤ 16777216) × Fits (now b) s × (8192 ≤ length (now work)) × (q ≤ s .cursor .len) × Known (now d) (now t) ⌝ }
+    requires { ⌜ (at ≤ length (now d)) × (length (now d) ≤ 16777216) × FrontFits (now b) s × (8192 ≤ length (now work)) × (q ≤ s .cursor .len) × Known (now d) (now t) ⌝ }
     ensures { λ r. ⌜ LookedUp (now (d .entry)) at k (nameAt v (now (b .entry)) (now (work .entry)) (s .cursor .start) (s .cursor .len)) (s .cursor .len) q r × Known (now (d .entry)) (now (t .exit)) ⌝ }
 {
     let c = s.cursor;

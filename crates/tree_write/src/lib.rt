@@ -3,7 +3,7 @@
 use fields::common;
 use fields::find;
 use output::put_byte;
-use output::put_bytes;
+use output::put_part;
 use tree_nodes::node::Node;
 use tree_nodes::node::NodeRead;
 use tree_nodes::node::read_node;
@@ -31,10 +31,10 @@ fn put_invalid(d: &[u8], place: usize, node: Node, out: &mut [u8], at: usize) ->
     let count = node.nul + 1;
     let object = node.object;
     let space = find(d, count, b' ');
-    let named = put_bytes(&mut *out, at, &d[place..count]);
+    let named = put_part(&mut *out, at, d, place, count);
     let minus = put_byte(&mut *out, named, b'-');
     let one = put_byte(&mut *out, minus, b'1');
-    put_bytes(out, one, &d[space..object])
+    put_part(out, one, d, space, object)
 }
 
 // A node as it is: copied where it is valid.
@@ -43,8 +43,7 @@ fn put_node(d: &[u8], place: usize, node: Node, out: &mut [u8], at: usize) -> us
     ensures { λ r. ⌜ NodeWritten asIs (now (d .entry)) place node (now (out .entry)) at (now (out .exit)) r ⌝ }
 {
     if node.valid {
-        let next = node.next;
-        return put_bytes(out, at, &d[place..next]);
+        return put_part(out, at, d, place, node.next);
     }
     put_invalid(d, place, node, out, at)
 }

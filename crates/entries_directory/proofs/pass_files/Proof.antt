@@ -5,7 +5,7 @@ use Prim.Native.Nat.{ℕ}
 use native.Mathlib.Omega.{arith}
 use borrow.Author.Needs.{needs}
 use lib.ListN.{length}
-use Rattle.entries_directory.specs.Ahead.{After, File, FilesLeft}
+use Rattle.entries_directory.specs.Ahead.{After, File, FilesPassed}
 use Rattle.entries_directory.proofs.Ahead.{Going, going-start, going-on, going-end, files-start, files-on, stays-some}
 use Rattle.entries_directory.proofs.pass_files.Statement.{statement}
 use Rattle.entries_directory.proofs.pass_files.Tie as tie
@@ -13,7 +13,7 @@ use Rattle.entries_directory.proofs.pass_files.Tie as tie
 abbrev Inv-loop : tie.InvT-loop
 Inv-loop b v work₀ q front₀ work front =
     Going b work₀ front₀ work front
-    × ((p x : List ℕ) (xs : List (List ℕ)) → After v b work₀ front₀ x xs → File p x → length p ≡ q → FilesLeft v b work front p (x ∷ xs))
+    × ((p x : List ℕ) (xs : List (List ℕ)) → After v b work₀ front₀ x xs → File p x → length p ≡ q → FilesPassed v b work front p (x ∷ xs))
 
 abbrev μ-loop : tie.MeasureT-loop
 μ-loop b v work₀ q front₀ work front = front .ahead

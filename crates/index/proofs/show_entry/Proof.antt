@@ -6,7 +6,7 @@ use lib.Seq.{length-take-le}
 use lib.Dec.{eqb}
 use borrow.Author.Tests.{eq-eqb, ne-eqb}
 use Rattle.format.specs.Places.{namePlace}
-use Rattle.entries_run.specs.Steps.{Placed}
+use Rattle.entries_run.specs.Steps.{EntryPlaced}
 use Rattle.file_read.specs.Contents.{bodyOf}
 use Rattle.file_read.proofs.Room.{cleared-by, file-long}
 use Rattle.index.proofs.Views.{pick-none, entry-refused}
@@ -18,7 +18,7 @@ use Rattle.index.proofs.show_entry.Tie as tie
 -- where the parts of the entry that was sought stand
 placed :
     (c : tie.After-sought) →
-    Placed (bodyOf (c .before .before .before .before .before .before .before .before .before .args .file .now)) (c .sought .given .0 .0) (c .sought .given .0 .1 .0)
+    EntryPlaced (bodyOf (c .before .before .before .before .before .before .before .before .before .args .file .now)) (c .sought .given .0 .0) (c .sought .given .0 .1 .0)
 placed c = c .before .before .before .before .seek-entry .ensures .placed _ _ (c .sought .given .1)
 
 sub-n : tie.Need-sub-n

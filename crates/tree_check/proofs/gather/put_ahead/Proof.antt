@@ -4,7 +4,7 @@ use mathlib.Core.List.{List}
 use Prim.Native.Nat.{ℕ, _+_, _≤_}
 use native.Mathlib.Omega.{arith}
 use lib.ListN.{length}
-use Rattle.entries_directory.specs.Ahead.{Fits}
+use Rattle.entries_directory.specs.Ahead.{FrontFits}
 use Rattle.entries_directory.proofs.Ahead.{stays-long}
 use Rattle.tree_search.specs.declared.table.Region.{Region}
 use Rattle.tree_check.specs.Keys.{KeysPut}
@@ -18,7 +18,7 @@ keys-more region t₀ t t′ put more = record { vacant = more .vacant; known = 
 
 abbrev Inv-loop : tie.InvT-loop
 Inv-loop b v names₀ q region t₀ front₀ left₀ count₀ most names t front left count =
-    Fits b front × (length names ≡ length names₀) × (8192 ≤ length names) × (q ≤ front .cursor .len) × (count + left ≤ 4096) × KeysPut region t₀ t
+    FrontFits b front × (length names ≡ length names₀) × (8192 ≤ length names) × (q ≤ front .cursor .len) × (count + left ≤ 4096) × KeysPut region t₀ t
 
 abbrev μ-loop : tie.MeasureT-loop
 μ-loop b v names₀ q region t₀ front₀ left₀ count₀ most names t front left count = left
