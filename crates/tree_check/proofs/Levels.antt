@@ -38,7 +38,7 @@ child-levels _ c _ t (levels-more {l = l} {n = n} {kids = kids} {after = after} 
 
 -- ---- one directory
 
--- the siblings f stand in the data d, and the names in the directory are whole and those after them
+-- the siblings f are in the data d, and the names in the directory are whole and those after them
 pub record Here (d : List ℕ) (level : ℕ) (dir : Directory) (f : Forest) (q : List ℕ) (whole : List (List ℕ)) : Type 0 where
   pub long : length q ≡ dir .q
   pub sound : Sound f

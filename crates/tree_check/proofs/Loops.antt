@@ -4,11 +4,13 @@ use mathlib.Core.List.{List}
 use mathlib.Core.Bool.{Bool, true, false, _&&_, _||_}
 use Prim.Native.Nat.{ℕ, _+_, _-_, _≤_, _<_}
 use native.Mathlib.Omega.{arith}
-use lib.ListN.{length, drop, getD, set, length-set}
+use lib.ListN.{length, getD, set, length-set}
 use lib.Seq.{getD-set-same, getD-set-other}
 use lib.Dec.{eqb, leb, ltb}
 use borrow.Author.Tests.{eqb-true, eqb-false}
 use Rattle.format_laws.proofs.Tests.{by-test, false-true, or-inv}
+use Rattle.fields.specs.Workspace.{Frame}
+use Rattle.fields.proofs.Workspace.{frame-same, frame-then}
 use Rattle.tree_nodes.proofs.Nodes.{node-is}
 use Rattle.entries_directory.specs.declared.Front.{Front}
 use Rattle.entries_directory.specs.Ahead.{FrontFits}
@@ -19,7 +21,7 @@ use Rattle.tree_check.proofs.Levels.{nowhere}
 use Rattle.tree_check.proofs.Turns.{turns, turns-most, turns-passed, turns-entered, turns-left}
 use Rattle.tree_check.proofs.Walks.{inDirectory}
 
--- a directory above, where so many entries are ahead, and so many were when the one below was entered
+-- a directory above, where ahead entries are ahead, and entry of them were when the one below was entered
 pub record Held (d : List ℕ) (ahead entry : ℕ) (up : Directory) : Type 0 where
   pub inside : up .at ≤ length d
   pub most : ahead ≤ up .ahead
@@ -37,8 +39,7 @@ pub record Looping (d b work₀ : List ℕ) (above : List Directory) (work : Lis
   pub fresh : s .ahead ≡ dir .ahead → (1 ≤ s .ahead) × (dir .q ≤ s .cursor .len)
   pub held : (j : ℕ) → j < level → Held d (s .ahead) (dir .ahead) (getD above j nowhere)
   pub sum : found + turns (s .ahead) (dir .ahead) level ≤ 8796093022208
-  pub long : length work ≡ length work₀
-  pub past : drop 8192 work ≡ drop 8192 work₀
+  pub frame : Frame work₀ work
 
 pub loop-start : (d b work : List ℕ) (above : List Directory) (root : Directory) (s : Front) → Ready d root b work s → root .ahead ≡ s .ahead → length above ≡ 128
     → Looping d b work above work 0 root s 0
@@ -54,8 +55,7 @@ loop-start d b work above root s ready same levels = record {
   fresh = λ e. (ready .some, ready .long);
   held = λ j l. absurd (omega arith);
   sum = omega (arith, ready .few, turns-most (s .ahead) (root .ahead) 0 (omega arith));
-  long = refl;
-  past = refl;
+  frame = frame-same work;
 }
 
 module _ (d b work₀ : List ℕ) (above : List Directory) (work : List ℕ) (level : ℕ) (dir : Directory) (s : Front) (found : ℕ) (h : Looping d b work₀ above work level dir s found) where
@@ -75,13 +75,12 @@ module _ (d b work₀ : List ℕ) (above : List Directory) (work : List ℕ) (le
     small = h .small;
     fits = part .fits;
     few = omega (arith, part .less, h .few);
-    room = omega (arith, part .long, h .room);
+    room = omega (arith, part .frame, h .room);
     most = omega (arith, part .less, h .most);
     fresh = λ e. absurd (omega (arith, part .less, h .most));
     held = λ j l. record { inside = h .held j l .inside; most = omega (arith, part .less, h .held j l .most); less = λ e. omega (arith, part .less, h .held j l .most) };
     sum = omega (arith, h .sum, turns-passed (s .ahead) (r .ahead) (dir .ahead) level (part .less) (h .deep));
-    long = part .long ∙ h .long;
-    past = part .past ∙ h .past;
+    frame = frame-then (h .frame) (part .frame);
   }
 
   module _ (v : ℕ) (work′ : List ℕ) (under : Directory) (part : PartEntered d dir b v work s work′ under) (on : inDirectory dir s ≡ true) (more : level < 127) where
@@ -119,8 +118,7 @@ module _ (d b work₀ : List ℕ) (above : List Directory) (work : List ℕ) (le
           fresh = λ e. (ready .some, part .look .within);
           held = held-entered;
           sum = omega (arith, h .sum, less-entered);
-          long = ap length (part .same) ∙ h .long;
-          past = ap (λ (l : List ℕ). drop 8192 l) (part .same) ∙ h .past;
+          frame = rw (part .same) (h .frame);
         }
 
   module _ (off : inDirectory dir s ≡ false) where
@@ -151,6 +149,5 @@ module _ (d b work₀ : List ℕ) (above : List Directory) (work : List ℕ) (le
           let up = h .held j (omega arith) in
           record { inside = up .inside; most = up .most; less = λ e. up .less entered-before };
       sum = omega (arith, h .sum, less-left some);
-      long = h .long;
-      past = h .past;
+      frame = h .frame;
     }

@@ -1,5 +1,5 @@
 -- What the walk leaves behind of one part of a directory, by what was found of it.
-use mathlib.Core.Path.{_≡_, refl}
+use mathlib.Core.Path.{_≡_}
 use mathlib.Core.List.{List, [], _∷_, _++_}
 use mathlib.Core.Bool.{true, false, not}
 use Prim.Native.Nat.{ℕ, _+_}
@@ -9,6 +9,7 @@ use Rattle.format.specs.Bytes.{lacks}
 use Rattle.format.specs.Records.{Forest}
 use Rattle.format.specs.Layout.{under}
 use Rattle.format.specs.Reader.{readNode}
+use Rattle.fields.proofs.Workspace.{frame-same}
 use Rattle.tree_nodes.specs.declared.node.NodeRead.the-variants as R
 use Rattle.tree_nodes.specs.Answers.{nodeAt}
 use Rattle.tree_nodes.specs.Flat.{Reads}
@@ -56,8 +57,7 @@ module _ (d : List ℕ) (dir : Directory) (b : List ℕ) (v : ℕ) (work : List 
     part-files look r went = record {
       fits = went .gone .fits;
       less = went .gone .less;
-      long = went .gone .long;
-      past = went .gone .past;
+      frame = went .gone .frame;
       moved = λ f m sound reads p x xs ahead i e whole done passed.
           let file : File p x = record { in-it = i; alone = looked L.File look f m sound reads p x xs ahead e } in
           moved-files (dir .valid) f p whole done (x ∷ xs) passed v b work′ r (went .passed p x xs ahead file e);
@@ -68,8 +68,7 @@ module _ (d : List ℕ) (dir : Directory) (b : List ℕ) (v : ℕ) (work : List 
     part-missing e look r went = record {
       fits = went .gone .fits;
       less = went .gone .less;
-      long = went .gone .long;
-      past = went .gone .past;
+      frame = went .gone .frame;
       moved = λ f m sound reads p x xs ahead i l whole done passed.
           let (is, absent) = looked (L.Missing e) look f m sound reads p x xs ahead l in
           let c = component (drop (length p) x) in
@@ -84,8 +83,7 @@ module _ (d : List ℕ) (dir : Directory) (b : List ℕ) (v : ℕ) (work : List 
     part-lost e place look bad-node = record {
       fits = fits-end b s (ready .fits);
       less = omega (arith, ready .some);
-      long = refl;
-      past = refl;
+      frame = frame-same work;
       moved = λ f m sound reads p x xs ahead i n whole done passed.
           let (is, found) = looked (L.Found e place) look f m sound reads p x xs ahead n in
           absurd (no-bad place (found .stands .own) _ _ (found .stands .node) bad-node);

@@ -1,4 +1,4 @@
--- Laws of a pass over the nodes of a tree. The trees that are still to pass are one list of siblings, of which the first so many have to be valid.
+-- Laws of a pass over the nodes of a tree. The trees that are still to pass are one list of siblings, of which the first ones have to be valid.
 use mathlib.Core.Path.{_≡_, refl, sym, ap, _∙_}
 use mathlib.Core.List.{List}
 use mathlib.Core.Bool.{Bool, true, false, cond, not, _&&_, and-assoc, and-comm, and-true}
@@ -39,7 +39,7 @@ unfolding chain positive
 positive-chain nil g = sym (zero-add (positive g))
 positive-chain (tree n kids after) g = omega (arith, positive-chain after g)
 
--- whether the first so many siblings are valid
+-- whether the first k siblings are valid
 unfoldable pub firsts : ℕ → Forest → Bool
 firsts zero f = true
 firsts (suc k) nil = true
@@ -63,7 +63,7 @@ firsts-all (tree n kids after) = rw (firsts-all after) (sym (valid-step n kids a
 
 -- ---- one node
 
--- the test of the trees that are still to pass, and what they say after so many nodes with a count of at least 1
+-- the test of the trees that are still to pass, and what they say after met nodes with a count of at least 1
 abbrev pub passes : ℕ → Forest → Bool
 passes k f = firsts k f && tidy f
 

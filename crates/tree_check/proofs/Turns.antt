@@ -1,4 +1,5 @@
--- How many turns of its loop the walk can still take: entries are ahead, a directory was entered with so many ahead, and it is on a level.
+-- How many turns of its loop the walk can still take: ahead entries are ahead, entry of them were when the directory was entered, and
+-- it is on a level.
 use mathlib.Core.Path.{_≡_, refl}
 use mathlib.Core.Bool.{cond}
 use Prim.Native.Nat.{ℕ, _+_, _-_, _*_, _≤_, _<_}

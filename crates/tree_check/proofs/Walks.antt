@@ -52,7 +52,7 @@ unfolding within span beyond
 within-length q [] = refl
 within-length q (s ∷ ss) = by-test (begins q s) (λ e. rw e (omega (arith, within-length q ss))) (λ e. rw e (omega arith))
 
--- ---- where the walk stands in a directory
+-- ---- where the walk is in a directory
 
 -- whether the next entry is in it
 abbrev pub inDirectory : Directory → Front → Bool

@@ -10,7 +10,7 @@ use Rattle.format.specs.Bytes.{Bytes}
 use Rattle.format.specs.Records.{Entry, start, Count, valid, invalid, Forest, Tree}
 use Rattle.format.specs.Layout.{distinct, isValid, allValid, okTreeCounts, names}
 use Rattle.format.specs.Reading.{good}
-use Rattle.format.specs.Reader.{readNode, readEntries, readForest, readNodes}
+use Rattle.format.specs.Reader.{readNode, readForest, readNodes}
 use Rattle.format_laws.proofs.Tests.{by-test, eqb-swap}
 use Rattle.format_laws.proofs.Readings.{good-inv, need-inv, bind-inv}
 use Rattle.format_laws.proofs.Numbers.{bytes-drop}
@@ -19,7 +19,7 @@ use Rattle.tree_nodes.specs.declared.node.Node.{Node}
 use Rattle.tree_nodes.specs.declared.node.NodeRead.the-variants as R
 use Rattle.tree_nodes.specs.Answers.{nodeAt}
 use Rattle.tree_nodes.specs.Flat.{Reads}
-use Rattle.entries_run.specs.Steps.{nameAt, firstCursor, runFrom, Room}
+use Rattle.entries_run.specs.Steps.{nameAt, firstCursor, runFrom, EntriesRead, Room}
 use Rattle.entries_run.proofs.Steps.{run-first, inside-first}
 use Rattle.tree_counts.specs.Judge.{says, tidy, positive, judge, matched, countsAll, Sound}
 use Rattle.tree_counts.proofs.Readings.{nodes-plain}
@@ -38,8 +38,8 @@ use Rattle.tree_nodes.proofs.Trees.{NodeAt, node-at, no-bad}
 
 -- ---- the entries from the first on
 
--- before the first entry stands the empty name
-pub ahead-first : (v count : ℕ) (b work : List ℕ) (es : List Entry) (m : ℕ) → Bytes b → readEntries 20 v count start 12 (drop 12 b) ≡ good es m
+-- before the first entry is the empty name
+pub ahead-first : (v count : ℕ) (b work : List ℕ) (es : List Entry) (m : ℕ) → Bytes b → EntriesRead v count b es m
     → Ahead v b work (record { cursor = firstCursor; ahead = count + 1; common = 0 }) [] (names es)
 unfolding nameAt
 ahead-first v count b work es m bytes q =

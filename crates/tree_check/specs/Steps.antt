@@ -9,6 +9,7 @@ use lib.Dec.{eqb}
 use Rattle.format.specs.Records.{Forest}
 use Rattle.format.specs.Reading.{good}
 use Rattle.format.specs.Reader.{readNode, readForest}
+use Rattle.fields.specs.Workspace.{Frame}
 use Rattle.tree_nodes.specs.declared.node.Node.{Node}
 use Rattle.tree_nodes.specs.declared.node.NodeRead.the-variants as R
 use Rattle.tree_nodes.specs.Answers.{nodeAt}
@@ -43,7 +44,7 @@ pub record Ready (d : List ℕ) (dir : Directory) (b work : List ℕ) (s : Front
 
 -- ---- one part
 
--- of the names in the directory q, from whole on, done were passed before it; its test holds or not, and it has so many nodes with a count of at least 1
+-- of the names in the directory q, from whole on, done were passed before it; its test holds or not, and in it found nodes have a count of at least 1
 pub record Moved (valid : Bool) (f : Forest) (q : List ℕ) (whole done : List (List ℕ)) (v : ℕ) (b work : List ℕ) (holds : Bool) (found : ℕ) (front : Front) : Type 0 where
   pub now-done : List (List ℕ)
   pub rest : List (List ℕ)
@@ -54,12 +55,11 @@ pub record Moved (valid : Bool) (f : Forest) (q : List ℕ) (whole done : List (
   pub in-it : begins q last ≡ true
   pub after : After v b work front last rest
 
--- it was passed: fewer entries are ahead, and the workspace past its 8,192nd byte stays
+-- it was passed: fewer entries are ahead
 pub record PartPassed (d : List ℕ) (dir : Directory) (b : List ℕ) (v : ℕ) (work : List ℕ) (s : Front) (work′ : List ℕ) (holds : Bool) (r : Front) : Type 0 where
   pub fits : FrontFits b r
   pub less : r .ahead < s .ahead
-  pub long : length work′ ≡ length work
-  pub past : drop 8192 work′ ≡ drop 8192 work
+  pub frame : Frame work work′
   pub moved : (f : Forest) (m : ℕ) → Sound f → Reads (drop (dir .at) d) f (dir .k) m
       → (p x : List ℕ) (xs : List (List ℕ)) → Ahead v b work s x xs → begins p x ≡ true → length p ≡ dir .q
       → (whole done : List (List ℕ)) → Passed f p whole done (x ∷ xs)
@@ -83,10 +83,9 @@ pub record Taken (d : List ℕ) (dir : Directory) (b : List ℕ) (v : ℕ) (work
 
 -- ---- all entries ahead
 
--- the root's directory has all names, and so many nodes below the root are expected to have a count of at least 1
+-- the root's directory has all names, and of the nodes below the root expected ones have a count of at least 1
 pub record Walked (d : List ℕ) (root : Directory) (expected : ℕ) (b : List ℕ) (v : ℕ) (work : List ℕ) (s : Front) (work′ : List ℕ) (r : Bool) : Type 0 where
-  pub long : length work′ ≡ length work
-  pub past : drop 8192 work′ ≡ drop 8192 work
+  pub frame : Frame work work′
   pub is : (f : Forest) (n : ℕ) → Sound f → readForest 20 0 127 (root .k) (drop (root .at) d) ≡ good f n
       → (x : List ℕ) (xs : List (List ℕ)) → Ahead v b work s x xs
       → r ≡ (cond (root .valid) (eqb (root .count) (length (x ∷ xs))) true && (judge (root .valid) (x ∷ xs) f && eqb (matched (x ∷ xs) f) expected))

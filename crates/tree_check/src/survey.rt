@@ -1,4 +1,4 @@
-// One pass over the nodes of a tree, as they stand one after another: whether the subtrees of valid nodes are valid, and how many nodes are
+// One pass over the nodes of a tree, one after another: whether the subtrees of valid nodes are valid, and how many nodes are
 // valid with a count of at least 1.
 use tree_nodes::node::NodeRead;
 use tree_nodes::node::read_node;
@@ -30,7 +30,7 @@ pub fn weight(valid: bool, count: u32) -> u32
     0
 }
 
-// Whether a node is invalid where so many of the next have to be valid.
+// Whether a node is invalid where the next strict ones have to be valid.
 fn is_wrong(strict: u64, valid: bool) -> bool
     ensures { λ r. ⌜ r ≡ (ltb 0 strict && not valid) ⌝ }
 {
@@ -40,7 +40,7 @@ fn is_wrong(strict: u64, valid: bool) -> bool
     0 < strict
 }
 
-// How many of the next have to be valid after a node with so many subtrees.
+// How many of the next have to be valid after a node with this number of subtrees.
 fn demand(strict: u64, valid: bool, subtrees: u32) -> u64
     requires { ⌜ strict < 9223372036854775808 ⌝ }
     ensures { λ r. ⌜ (r ≡ cond valid (strict - 1 + subtrees) 0) × (r ≤ strict - 1 + subtrees) ⌝ }

@@ -1,7 +1,8 @@
 -- The proof that `counts_ok` meets its contract.
-use mathlib.Core.Path.{refl, sym, _∙_}
+use mathlib.Core.Path.{sym, _∙_}
 use mathlib.Core.List.{[]}
 use native.Mathlib.Omega.{arith}
+use Rattle.fields.proofs.Workspace.{frame-same}
 use Rattle.tree_nodes.proofs.Nodes.{node-is}
 use Rattle.tree_check.proofs.Wholes.{answer-none, answer-untidy, answer-tidy}
 use borrow.Author.Needs.{needs}
@@ -38,8 +39,7 @@ walk-root-requires c κs =
 
 returns : tie.Need-returns
 returns c = record {
-  long = refl;
-  past = refl;
+  frame = frame-same _;
   is = λ es m t n q₁ q₂ differ. answer-none _ t n q₂ differ [] (sym (c .enum-told .given .1) ∙ c .before .before .read-node .ensures);
 }
 
@@ -47,8 +47,7 @@ returns-2 : tie.Need-returns-2
 returns-2 c =
     let k = c .before .before .before in
     record {
-      long = refl;
-      past = refl;
+      frame = frame-same _;
       is = λ es m t n q₁ q₂ differ.
           answer-untidy _ t n q₂ differ _ _ (sym (k .before .read .given .1) ∙ k .before .before .before .read-node .ensures) _ (c .before .before .survey-trees .ensures) (c .enum-told2 .given .1);
     }
@@ -61,8 +60,7 @@ returns-3 c =
     let k = c .before .before .before .before .before .before .before .before .before in
     let w = c .before .before .walk-root .ensures in
     record {
-      long = w .long;
-      past = w .past;
+      frame = w .frame;
       is = λ es m t n q₁ q₂ differ.
           answer-tidy _ t n q₂ differ _ _ (sym (k .before .read .given .1) ∙ k .before .before .before .read-node .ensures) _ (c .before .before .before .before .before .before .before .before .survey-trees .ensures) _ (c .before .before .before .before .before .before .found .given .1) _ (w .is es m q₁);
     }

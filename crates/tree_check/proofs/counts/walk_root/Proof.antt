@@ -1,8 +1,9 @@
 -- The proof that `walk_root` meets its contract.
-use mathlib.Core.Path.{refl, _∙_}
+use mathlib.Core.Path.{refl}
 use mathlib.Core.List.{[]}
 use native.Mathlib.Omega.{arith}
 use Rattle.format.specs.Bytes.{Bytes}
+use Rattle.fields.proofs.Workspace.{frame-then}
 use Rattle.tree_check.proofs.Wholes.{fits-first, ahead-first, root-none, root-some}
 use borrow.Author.Needs.{needs}
 use Rattle.tree_check.proofs.counts.walk_root.Statement.{statement}
@@ -34,8 +35,7 @@ returns c =
     let x = a .before .before .before .before .before .before .args in
     let step = rw (a .before .before .first .ensures) at (a .advance .ensures) in
     record {
-      long = step .long;
-      past = step .past;
+      frame = step .frame;
       is = λ es m q f n sound reads.
           let bytes : Bytes (x .b .now) = λ i. omega (arith, a .before .before .before .before .shared-slice-known2 .given i) in
           let h = ahead-first _ _ _ _ es m bytes q in
@@ -56,7 +56,7 @@ walk-directories-requires c κs =
         small = st .pre .1;
         fits = step .fits;
         few = omega (arith, step .fewer, st .fits .count);
-        room = omega (arith, step .long, st .pre .2 .room);
+        room = omega (arith, step .frame, st .pre .2 .room);
         some = omega (arith, some);
         long = omega arith;
       },
@@ -76,8 +76,7 @@ returns-2 c =
     let step = rw (a .before .before .first .ensures) at (a .advance .ensures) in
     let walked = rw (w .before .before .before .before .before .before .before .enter .ensures) at (w .walk-directories .ensures) in
     record {
-      long = walked .long ∙ step .long;
-      past = walked .past ∙ step .past;
+      frame = frame-then (step .frame) (walked .frame);
       is = λ es m q f n sound reads.
           let bytes : Bytes (x .b .now) = λ i. omega (arith, a .before .before .before .before .shared-slice-known2 .given i) in
           let h = ahead-first _ _ _ _ es m bytes q in

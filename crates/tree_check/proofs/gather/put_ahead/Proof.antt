@@ -59,10 +59,10 @@ loop-again c =
     let inv = c .before .before .before .before .before .before .before .before .before .before .before .loop .inv in
     let step = c .before .before .before .before .advance .ensures in
     let put = c .before .before .before .before .before .before .before .put-first .ensures in
-    (step .fits, step .long ∙ inv .1, omega (arith, step .long, inv .2), stays-long _ _ _ (step .fits) (sym (c .before .stays .ensures) ∙ c .if2 .taken), omega (arith, put .0, inv .4), keys-more _ _ _ _ (inv .5) (put .1))
+    (step .fits, step .frame .long ∙ inv .1, omega (arith, step .frame, inv .2), stays-long _ _ _ (step .fits) (sym (c .before .stays .ensures) ∙ c .if2 .taken), omega (arith, put .0, inv .4), keys-more _ _ _ _ (inv .5) (put .1))
 
 same-length-2 : tie.Need-same-length-2 Inv-loop μ-loop
-same-length-2 c = c .before .before .before .before .advance .ensures .long ∙ c .before .before .before .before .before .before .before .before .before .before .before .loop .inv .1
+same-length-2 c = c .before .before .before .before .advance .ensures .frame .long ∙ c .before .before .before .before .before .before .before .before .before .before .before .loop .inv .1
 
 returns-2 : tie.Need-returns-2 Inv-loop μ-loop
 returns-2 c =

@@ -77,7 +77,7 @@ same-length : tie.Need-same-length Inv-loop μ-loop
 same-length c =
     let l = c .before .before .before .before .before .before .before .before .before .before .before .loop in
     let part = rw (c .before .before .part2 .given .1) at (c .before .before .before .before .before .before .take-part .ensures) in
-    ap length (part .0 .is .same) ∙ l .inv .1 .long
+    ap length (part .0 .is .same) ∙ l .inv .1 .frame .long
 
 returns : tie.Need-returns Inv-loop μ-loop
 returns c =
@@ -85,8 +85,7 @@ returns c =
     let on = sym (c .before .before .before .before .before .before .before .before .before .before .is-in .ensures) ∙ c .before .before .before .before .before .before .before .before .before .if1 .taken in
     let part = rw (c .before .before .part2 .given .1) at (c .before .before .before .before .before .before .take-part .ensures) in
     record {
-      long = ap length (part .0 .is .same) ∙ l .inv .1 .long;
-      past = ap (λ (t : List ℕ). drop 8192 t) (part .0 .is .same) ∙ l .inv .1 .past;
+      frame = rw (part .0 .is .same) (l .inv .1 .frame);
       is = λ f n sound reads x xs ahead. absurd (walk-full _ _ _ _ _ _ _ _ _ _ _ _ _ (l .inv .2 f n sound reads x xs ahead) on _ _ (part .0 .is) (c .if2 .taken));
     }
 
@@ -126,15 +125,14 @@ agrees-requires : tie.Need-agrees-requires Inv-loop μ-loop
 agrees-requires c κs = c .before .before .loop .inv .1 .most
 
 same-length-2 : tie.Need-same-length-2 Inv-loop μ-loop
-same-length-2 c = c .before .before .before .before .loop .inv .1 .long
+same-length-2 c = c .before .before .before .before .loop .inv .1 .frame .long
 
 returns-2 : tie.Need-returns-2 Inv-loop μ-loop
 returns-2 c =
     let l = c .before .before .before .before .loop in
     let off = sym (c .before .before .before .is-in .ensures) ∙ c .before .before .if1 .left in
     record {
-      long = l .inv .1 .long;
-      past = l .inv .1 .past;
+      frame = l .inv .1 .frame;
       is = λ f n sound reads x xs ahead. walk-end _ _ _ _ _ _ _ _ _ _ _ _ _ (l .inv .2 f n sound reads x xs ahead) off (c .if3 .taken) _ _ _ (c .before .agrees .ensures) refl;
     }
 
