@@ -1,4 +1,4 @@
-// All extensions of a body: which there are, where the data of the known ones stand, or the first refusal.
+// All extensions of a body: which there are, where the data of the known ones are, or the first refusal.
 ghost use mathlib.Core.Path.{_≡_};
 ghost use Prim.Native.Nat.{_+_, _≤_};
 ghost use lib.ListN.{length, drop};
@@ -21,7 +21,7 @@ pub enum Head {
     Other(usize),
 }
 
-// Whether there is a cache tree, where its data stand in the body, and how many nodes it has.
+// Whether there is a cache tree, where its data are in the body, and how many nodes it has.
 pub struct TreePlace {
     pub there: bool,
     pub at: usize,

@@ -1,13 +1,14 @@
 use Rattle.extensions.proofs.Trees.{tree-refused, tree-miscounted, tree-added}
 use Rattle.extensions.proofs.Known.{known-seen}
 use native.Mathlib.Omega.{arith}
-use mathlib.Core.Path.{refl, sym, _∙_}
+use mathlib.Core.Path.{sym, _∙_}
+use Rattle.fields.proofs.Workspace.{frame-same}
 use borrow.Author.Needs.{needs}
 use Rattle.extensions.proofs.add_tree.Statement.{statement}
 use Rattle.extensions.proofs.add_tree.Tie as tie
 
 returns : tie.Need-returns
-returns c = record { answered = λ es m q. known-seen _ _ _ _ (c .if1 .taken); inside = tt; long = refl; past = refl }
+returns c = record { answered = λ es m q. known-seen _ _ _ _ (c .if1 .taken); inside = tt; frame = frame-same _ }
 
 add-from : tie.Need-add-from
 add-from c = search needs
@@ -58,8 +59,7 @@ returns-2 c =
           (λ t i nodes differ. k .is es n t i q nodes differ)
           (c .if2 .taken);
       inside = st .pre .0;
-      long = omega arith;
-      past = k .past;
+      frame = k .frame;
     }
 
 returns-3 : tie.Need-returns-3
@@ -72,8 +72,7 @@ returns-3 c =
           tree-refused (a .b .now) (a .at) (a .end) (st .pre .0) (a .found) (c .before .before .before .before .before .before .if1 .left) _
           (λ p. sym (c .enum-told .given .1) ∙ c .before .before .read-tree .ensures .0 p);
       inside = tt;
-      long = refl;
-      past = refl;
+      frame = frame-same _;
     }
 
 same-length-2 : tie.Need-same-length-2
@@ -92,8 +91,7 @@ returns-4 c =
           (λ t i nodes differ. k .is es n t i q nodes differ)
           (c .if2 .left);
       inside = tt;
-      long = omega arith;
-      past = k .past;
+      frame = k .frame;
     }
 
 pub add-tree-spec : {M : Type 1} → statement M
