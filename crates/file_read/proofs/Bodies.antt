@@ -11,7 +11,7 @@ use Rattle.format.specs.Layout.{Extension, trees, undos, names}
 use Rattle.format.specs.Reading.{bad, good, shift, bind}
 use Rattle.format.specs.Reader.{Contents, noneSeen, readEntries, readExtensions, readBody, first}
 use Rattle.entries_run.specs.declared.Run.the-variants as R
-use Rattle.entries_run.specs.Steps.{runOf}
+use Rattle.entries_run.specs.Steps.{EntriesRead, runOf}
 use Rattle.entries_run.proofs.Steps.{entries-length, runOf-bad, runOf-good}
 use Rattle.extensions.specs.declared.Found.{Found}
 use Rattle.extensions.specs.declared.Extended.the-variants as X
@@ -28,7 +28,7 @@ module _ (v : ℕ) (b : List ℕ) (count : ℕ) (counted : count ≡ be32 b 8) w
   pub body-no-entries : (n p : ℕ) → R.Bad n p ≡ runOf (readEntries 20 v count F.start 12 (drop 12 b)) → readBody 20 v b ≡ bad n p
   body-no-entries n p e = no-entries n p (runOf-bad _ n p e)
 
-  module _ (es : List F.Entry) (m : ℕ) (entries : readEntries 20 v count F.start 12 (drop 12 b) ≡ good es m) where
+  module _ (es : List F.Entry) (m : ℕ) (entries : EntriesRead v count b es m) where
     module _ (end : ℕ) (last : end ≡ 12 + m) where
       rest : drop m (drop 12 b) ≡ drop (12 + m) b
       rest = drop-drop m 12 b

@@ -28,7 +28,7 @@ signed c = sym (c .before .before .before .same .ensures) ∙ not-false _ (c .if
 known : (c : tie.Else4) → isVersion (c .before .before .before .read32 .result) ≡ true
 known c = sym (c .before .before .version-ok .ensures) ∙ not-false _ (c .if4 .left)
 
--- the last 20 bytes are compared with the digest of what stands before them
+-- the last 20 bytes are compared with the digest of what is before them
 compared : (c : tie.After-same2) →
     let f = c .before .before .before .before .before .before .before .before .before .before .before .before .before .before .before .args .file .now in
     c .same2 .result ≡ eqList (drop (length f - 20) f) (sha1 (take (length f - 20) f))
