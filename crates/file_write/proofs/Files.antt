@@ -15,6 +15,7 @@ use Rattle.format.specs.Requests.{anyWord, versionFor, fitting, writing}
 use Rattle.format_laws.proofs.Tests.{by-test}
 use Rattle.hash.specs.Sha1.{sha1}
 use Rattle.hash.proofs.Bytes.{length-sha1}
+use Rattle.fields.proofs.Workspace.{frame-then}
 use Rattle.output.specs.Output.{withAt, Wrote}
 use Rattle.output.proofs.Laws.{wrote-then}
 use Rattle.answers.specs.declared.Written.the-variants as W
@@ -117,8 +118,7 @@ module _ (b work work₁ : List ℕ) (parts : Parts) (asked : ℕ) (edit : Edit)
   pub file-worded : (eqb asked 2 && sized .extended) ≡ true → FileWritten b parts work asked edit e out work₁ out (W.Refused 21 0)
   file-worded h = record {
     answers = λ x has there. answers-bad _ 21 0 out (answer-worded asked (length out) _ (rw (m .extended x has there) at h));
-    long = m .long;
-    past = m .past;
+    frame = m .frame;
   }
 
   module _ (free : (eqb asked 2 && sized .extended) ≡ false) where
@@ -128,42 +128,39 @@ module _ (b work work₁ : List ℕ) (parts : Parts) (asked : ℕ) (edit : Edit)
     pub file-long-refused : 16777196 < sized .at → FileWritten b parts work asked edit e out work₁ out (W.Refused 2 0)
     file-long-refused h = record {
       answers = λ x has there. answers-bad _ 2 0 out (answer-long asked (length out) _ (free-of x has there) (sized .at) (m .size x has there) h);
-      long = m .long;
-      past = m .past;
+      frame = m .frame;
     }
 
     module _ (short : sized .at ≤ 16777196) where
       pub file-small-refused : length out < sized .at + 20 → FileWritten b parts work asked edit e out work₁ out (W.Refused 20 0)
       file-small-refused h = record {
         answers = λ x has there. answers-bad _ 20 0 out (answer-small asked (length out) _ (free-of x has there) (sized .at) (m .size x has there) short h);
-        long = m .long;
-        past = m .past;
+        frame = m .frame;
       }
 
-      module _ (fits : sized .at + 20 ≤ length out) (version : ℕ) (is : version ≡ versionOf asked (sized .extended)) (work₂ out₁ : List ℕ) (laid : WriteEnd)
-          (body : BodyWritten b parts work₁ edit e version out work₂ out₁ laid) where
+      module _ (fits : sized .at + 20 ≤ length out) (version : ℕ) (is : version ≡ versionOf asked (sized .extended)) (work₂ out₁ : List ℕ) (written : WriteEnd)
+          (body : BodyWritten b parts work₁ edit e version out work₂ out₁ written) where
         version-of : (x : Records) → Has b parts x → Replaces edit (e .name) (x .entries) → version ≡ versionFor asked (changed edit e x .entries)
         version-of x has there = is ∙ ap (versionOf asked) (m .extended x has there) ∙ version-is asked (changed edit e x .entries)
 
-        pub same-size : (x : Records) → Has b parts x → Replaces edit (e .name) (x .entries) → laid .at ≡ sized .at
+        pub same-size : (x : Records) → Has b parts x → Replaces edit (e .name) (x .entries) → written .at ≡ sized .at
         same-size x has there =
             let w = body .wrote x has there in
             let long : length (writeBody 20 version (changed edit e x)) ≡ sized .at =
             rw (version-of x has there) (body-long asked (length out) (changed edit e x) (free-of x has there) (sized .at) (m .size x has there)) in
             omega (arith, w .end)
 
-        pub file-done : (out₂ : List ℕ) (r : ℕ) → Wrote out₁ (laid .at) (sha1 (take (laid .at) out₁)) out₂ r
+        pub file-done : (out₂ : List ℕ) (r : ℕ) → Wrote out₁ (written .at) (sha1 (take (written .at) out₁)) out₂ r
             → FileWritten b parts work asked edit e out work₂ out₂ (W.Done r)
         file-done out₂ r seal = record {
           answers = λ x has there.
               let y : Records = changed edit e x in
               let free₁ = free-of x has there in
               let size = m .size x has there in
-              let wrote : Wrote out 0 (writeBody 20 (versionFor asked (y .entries)) y) out₁ (laid .at) = rw (version-of x has there) at (body .wrote x has there) in
+              let wrote : Wrote out 0 (writeBody 20 (versionFor asked (y .entries)) y) out₁ (written .at) = rw (version-of x has there) at (body .wrote x has there) in
               let same = same-size x has there in
-              let whole = sealed (versionFor asked (y .entries)) y out out₁ out₂ (laid .at) r wrote seal (omega arith) in
+              let whole = sealed (versionFor asked (y .entries)) y out out₁ out₂ (written .at) r wrote seal (omega arith) in
               answers-good _ _ out out₂ r (answer-good asked (length out) y free₁ (sized .at) size short fits) whole
               (omega (arith, file-long asked (length out) y free₁ (sized .at) size));
-          long = body .long ∙ m .long;
-          past = body .past ∙ m .past;
+          frame = frame-then (m .frame) (body .frame);
         }

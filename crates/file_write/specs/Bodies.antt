@@ -4,14 +4,13 @@ use mathlib.Core.List.{List}
 use mathlib.Core.Bool.{Bool, true, false, cond}
 use mathlib.Core.Option.{Option, some}
 use Prim.Native.Nat.{ℕ, _+_, _-_, _≤_, _<_}
-use lib.ListN.{length, drop}
-use Rattle.format.specs.Records.{Entry, start, Tree, Records}
+use lib.ListN.{length}
+use Rattle.format.specs.Records.{Entry, Tree, Records}
 use Rattle.format.specs.Layout.{distinct}
-use Rattle.format.specs.Reading.{good}
-use Rattle.format.specs.Reader.{readEntries}
 use Rattle.format.specs.Writer.{writeBody}
 use Rattle.format.specs.Requests.{invalidCacheTree, anyWord}
-use Rattle.entries_run.specs.Steps.{Room}
+use Rattle.fields.specs.Workspace.{Frame}
+use Rattle.entries_run.specs.Steps.{EntriesRead, Room}
 use Rattle.output.specs.Output.{Wrote}
 use Rattle.extensions.specs.Found.{TreeFound, UndoFound}
 use Rattle.entries.specs.declared.record.Fields.{Fields}
@@ -54,9 +53,9 @@ countAfter (E.Remove k) count = count - 1
 abbrev pub Differ : Option Tree → Type 0
 Differ o = (t : Tree) → o ≡ some t → distinct (t .subtrees) ≡ true
 
--- it has the records r, of which parts tell where they stand
+-- it has the records r, of which parts tell where they are
 pub record Has (b : List ℕ) (parts : Parts) (r : Records) : Type 0 where
-  pub entries : readEntries 20 (parts .version) (parts .count) start 12 (drop 12 b) ≡ good (r .entries) (parts .end - 12)
+  pub entries : EntriesRead (parts .version) (parts .count) b (r .entries) (parts .end - 12)
   pub counted : length (r .entries) ≡ parts .count
   pub tree : TreeFound b (r .cacheTree) (parts .found .tree)
   pub undo : UndoFound b (r .resolveUndo) (parts .found .undo)
@@ -80,6 +79,5 @@ pub record BodyWritten (b : List ℕ) (parts : Parts) (work : List ℕ) (edit : 
   pub wrote : (x : Records) → Has b parts x → Replaces edit (e .name) (x .entries) → Wrote out 0 (writeBody 20 version (changed edit e x)) out′ (r .at)
   pub extended : (x : Records) → Has b parts x → Replaces edit (e .name) (x .entries) → r .extended ≡ anyWord (changed edit e x .entries)
   pub near : r .at ≤ 1125899906842624
-  pub long : length work′ ≡ length work
-  pub past : drop 8192 work′ ≡ drop 8192 work
+  pub frame : Frame work work′
   pub out-long : length out′ ≡ length out

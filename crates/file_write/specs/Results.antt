@@ -3,13 +3,14 @@ use mathlib.Core.Path.{_≡_}
 use mathlib.Core.List.{List}
 use mathlib.Core.Bool.{Bool, cond}
 use Prim.Native.Nat.{ℕ, _≤_}
-use lib.ListN.{length, drop}
+use lib.ListN.{length}
 use lib.Dec.{eqb}
 use Rattle.format.specs.Records.{Entry, Records}
 use Rattle.format.specs.Reading.{Read}
 use Rattle.format.specs.Writer.{writeBody}
 use Rattle.format.specs.Requests.{anyWord, writing}
 use Rattle.hash.specs.Sha1.{sha1}
+use Rattle.fields.specs.Workspace.{Frame}
 use Rattle.answers.specs.declared.Written.{Written}
 use Rattle.answers.specs.Writing.{writtenOf, outputAfter}
 use Rattle.file_read.specs.declared.Parts.{Parts}
@@ -23,8 +24,7 @@ pub record Measured (b : List ℕ) (parts : Parts) (work : List ℕ) (edit : Edi
   pub size : (x : Records) → Has b parts x → Replaces edit (e .name) (x .entries) → r .at ≡ length (writeBody 20 version (changed edit e x))
   pub extended : (x : Records) → Has b parts x → Replaces edit (e .name) (x .entries) → r .extended ≡ anyWord (changed edit e x .entries)
   pub near : r .at ≤ 1125899906842624
-  pub long : length work′ ≡ length work
-  pub past : drop 8192 work′ ≡ drop 8192 work
+  pub frame : Frame work work′
 
 -- the version for a request, where an entry needs the extended word or none does
 abbrev pub versionOf : ℕ → Bool → ℕ
@@ -43,5 +43,4 @@ pub record Answers (x : Read (List ℕ)) (out out′ : List ℕ) (r : Written) :
 pub record FileWritten (b : List ℕ) (parts : Parts) (work : List ℕ) (asked : ℕ) (edit : Edit) (e : Entry) (out work′ out′ : List ℕ) (r : Written) : Type 0 where
   pub answers : (x : Records) → Has b parts x → Replaces edit (e .name) (x .entries)
       → Answers (writing 20 sha1 asked (length out) (changed edit e x)) out out′ r
-  pub long : length work′ ≡ length work
-  pub past : drop 8192 work′ ≡ drop 8192 work
+  pub frame : Frame work work′

@@ -21,6 +21,7 @@ use extensions::UndoPlace;
 use file_read::Parts;
 use output::put_32;
 use output::put_bytes;
+use output::put_part;
 
 // Whether an edit changes entries.
 fn is_change(edit: Edit) -> bool
@@ -59,7 +60,7 @@ fn put_header(out: &mut [u8], version: u32, count: u32) -> usize
     put_32(out, middle, count)
 }
 
-// What stands before an extension's data: its signature and their size.
+// What is before an extension's data: its signature and their size.
 fn put_head(out: &mut [u8], at: usize, signature: &[u8], size: u32) -> usize
     requires { ⌜ (at ≤ 562949970198528) × (length (now signature) ≡ 4) ⌝ }
     ensures { λ r. ⌜ Wrote (now (out .entry)) at (now (signature .entry) ++ put32 size) (now (out .exit)) r ⌝ }
@@ -100,7 +101,7 @@ fn put_resolve_undo(b: &[u8], undo: UndoPlace, out: &mut [u8], at: usize) -> usi
         let from = undo.at;
         let end = undo.end;
         let content = put_head(&mut *out, at, b"REUC", (end - from) as u32);
-        return put_bytes(out, content, &b[from..end]);
+        return put_part(out, content, b, from, end);
     }
     at
 }
@@ -120,7 +121,7 @@ pub fn put_body(
     ensures { λ r. ⌜ BodyWritten (now (b .entry)) parts (now (work .entry)) edit (entryWith fields (now (name .entry))) version (now (out .entry)) (now (work .exit)) (now (out .exit)) r ⌝ }
 {
     let start = put_header(&mut *out, version, count_after(edit, parts.count));
-    let laid = entries_edit::put_edited(
+    let written = entries_edit::put_edited(
         b,
         parts.version,
         work,
@@ -138,11 +139,11 @@ pub fn put_body(
         is_change(edit),
         name,
         &mut *out,
-        laid.at,
+        written.at,
     );
     let end = put_resolve_undo(b, parts.found.undo, out, middle);
     WriteEnd {
         at: end,
-        extended: laid.extended,
+        extended: written.extended,
     }
 }

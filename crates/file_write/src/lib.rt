@@ -103,7 +103,7 @@ pub fn write(
         return Written::Refused(20, 0);
     }
     let version = version_for(asked, sized.extended);
-    let laid = put_body(b, parts, work, edit, fields, name, version, &mut *out);
-    let n = seal(out, laid.at);
+    let written = put_body(b, parts, work, edit, fields, name, version, &mut *out);
+    let n = seal(out, written.at);
     Written::Done(n)
 }

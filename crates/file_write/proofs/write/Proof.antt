@@ -79,7 +79,7 @@ put-body-requires c κs =
     let m = c .before .before .before .before .before .before .before .before .before .before .before in
     let p = m .before .before .before .before .before .before .before .pre in
     record {
-      room = record { least = p .room .least; most = p .room .most; room = omega (arith, measured m .long, p .room .room) };
+      room = record { least = p .room .least; most = p .room .most; room = omega (arith, measured m .frame, p .room .room) };
       few = p .few;
       reach = p .reach;
       stage = p .stage;

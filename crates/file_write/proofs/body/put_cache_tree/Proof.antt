@@ -8,7 +8,7 @@ use borrow.Author.Needs.{needs}
 use Rattle.file_write.proofs.body.put_cache_tree.Statement.{statement}
 use Rattle.file_write.proofs.body.put_cache_tree.Tie as tie
 
--- where the data stand
+-- where the data are
 inside : (c : tie.Then1) → let a = c .before .before .before .before .args in Within (a .b .now) (a .tree .at) (a .tree .end)
 inside c =
     let st = c .before .before .before .before in
