@@ -7,6 +7,7 @@ use lib.ListN.{length, drop, replicate, length-take}
 use borrow.Author.Tests.{ltb-false}
 use Rattle.format.specs.Reading.{Read, bad, good}
 use Rattle.format.specs.Reader.{Contents}
+use Rattle.fields.specs.Workspace.{Frame}
 use Rattle.entries_run.specs.Steps.{Room}
 use Rattle.answers.specs.Answers.{tooSmall, inRoom, cleared}
 use Rattle.answers.proofs.Laws.{small, large, room-small, room-large, room-inv, cleared-large}
@@ -19,8 +20,8 @@ file-long f h = let l = length-take (length f - 20) f in omega arith
 pub body-room : (f work : List ℕ) → 32 ≤ length f → length f ≤ 16777216 → 8192 ≤ length work → Room (bodyOf f) work
 body-room f work long short room = let l = length-take (length f - 20) f in record { least = omega arith; most = omega arith; room = room }
 
-pub cleared-by : (work after left : List ℕ) → 8192 ≤ length work → after ≡ replicate 8192 0 ++ left → left ≡ drop 8192 work → after ≡ cleared work
-cleared-by work after left room e rest = e ∙ rw (rest, cleared-large work room)
+pub cleared-by : (work written after : List ℕ) → 8192 ≤ length work → Frame work written → after ≡ replicate 8192 0 ++ drop 8192 written → after ≡ cleared work
+cleared-by work written after room frame e = e ∙ rw (frame .past, cleared-large work room)
 
 pub in-room : (work : List ℕ) (x : Read Contents) → 8192 ≤ length work → inRoom work x ≡ x
 in-room work x h = room-large work x (large work h)

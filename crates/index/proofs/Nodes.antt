@@ -39,7 +39,7 @@ use Rattle.index.proofs.Views.{part-of-body, item-some, pick-none, pick
 root : F.Tree → F.Item
 root t = record { node = t .root; level = 1; subtrees = 0 }
 
--- where the data stand
+-- where the data are
 pub record Within (f : List ℕ) (tree : TreePlace) : Type 0 where
   pub order : tree .at ≤ tree .end
   pub inside : tree .end ≤ length f

@@ -1,4 +1,4 @@
--- Where the parts of an accepted file stand, as the code finds them.
+-- Where the parts of an accepted file are, as the code finds them.
 use mathlib.Core.Path.{_≡_, sym, ap, _∙_}
 use mathlib.Core.List.{List, []}
 use mathlib.Core.Bool.{true}

@@ -30,7 +30,7 @@ item-is (suc n) [] = refl
 item-is zero (u ∷ us) = refl
 item-is (suc n) (u ∷ us) = item-is n us
 
--- where the data stand
+-- where the data are
 pub record Within (f : List ℕ) (undo : UndoPlace) : Type 0 where
   pub order : undo .at ≤ undo .end
   pub inside : undo .end ≤ length f

@@ -1,4 +1,4 @@
--- What the calls leave behind: what is shown, the answer whole. A name that is shown from the file stands at the place at.
+-- What the calls leave behind: what is shown, the answer whole. A name that is shown from the file is at the place at.
 use mathlib.Core.Path.{_≡_}
 use mathlib.Core.List.{List}
 use mathlib.Core.Bool.{false}

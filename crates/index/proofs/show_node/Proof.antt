@@ -11,7 +11,7 @@ use borrow.Author.Needs.{needs}
 use Rattle.index.proofs.show_node.Statement.{statement}
 use Rattle.index.proofs.show_node.Tie as tie
 
--- where the data stand
+-- where the data are
 inside : (c : tie.Else1) → let a = c .before .before .before .args in Within (a .file .now) (a .tree)
 inside c =
     let st = c .before .before .before in

@@ -6,7 +6,7 @@ use borrow.Author.Needs.{needs}
 use Rattle.index.proofs.show_record.Statement.{statement}
 use Rattle.index.proofs.show_record.Tie as tie
 
--- where the data stand
+-- where the data are
 inside : (c : tie.Else1) → let a = c .before .before .before .args in Within (a .file .now) (a .undo)
 inside c =
     let st = c .before .before .before in
