@@ -17,13 +17,14 @@ use Rattle.format.specs.Requests.{okAsked, putRecord, removeRecord, holds, writ
 use Rattle.format_laws.proofs.Tests.{and-inv, by-test}
 use Rattle.format_laws.proofs.Readings.{bad-good, good-inv}
 use Rattle.hash.specs.Sha1.{sha1}
+use Rattle.fields.specs.Workspace.{Frame}
 use Rattle.entries.specs.declared.record.Fields.{Fields}
 use Rattle.answers.specs.declared.Written.{Written}
 use Rattle.answers.specs.declared.Written.the-variants as W
 use Rattle.answers.specs.Answers.{inRoom, cleared}
 use Rattle.entries.specs.Record.{entryWith}
 use Rattle.answers.specs.Writing.{requested}
-use Rattle.answers.proofs.Laws.{cleared-past, cleared-long, cleared-same}
+use Rattle.answers.proofs.Laws.{cleared-frame, cleared-same}
 use Rattle.file_read.specs.declared.Parts.{Parts}
 use Rattle.file_read.specs.Contents.{bodyOf, Contains}
 use Rattle.file_read.proofs.Room.{room-of, in-room, cleared-by}
@@ -131,13 +132,12 @@ module _ (f work work₁ : List ℕ) (clear : work₁ ≡ cleared work) where
     room = room-of work (readFile 20 sha1 f) (h .contents) (h .taken) (h .read)
 
     same : cleared work₁ ≡ cleared work
-    same = rw clear (cleared-same work (cleared work) room (cleared-long work room) (cleared-past work room))
+    same = rw clear (cleared-same work (cleared work) room (cleared-frame work room))
 
     pub call-opened : Opened f work₁ parts × (work₁ ≡ cleared work₁)
     call-opened =
-        let long : length work₁ ≡ length work = rw clear (cleared-long work room) in
-        let r = room in
-        (record { room = omega arith; contains = rw (in-room work (readFile 20 sha1 f) r) at h }, clear ∙ sym same)
+        let frame : Frame work work₁ = rw clear (cleared-frame work room) in
+        (record { room = omega (arith, frame, room); contains = rw (in-room work (readFile 20 sha1 f) room) at h }, clear ∙ sym same)
 
     pub call-answered : (ask : Records → Read (List ℕ)) (out out′ work′ : List ℕ) (r : Written)
         → Writes (requested (readFile 20 sha1 f) ask) out work₁ out′ work′ r → Writes (requested (inRoom work (readFile 20 sha1 f)) ask) out work out′ work′ r
@@ -168,4 +168,4 @@ module _ (f work : List ℕ) (bytes : Bytes f) (parts : Parts) (edit : Edit) (fi
       let h = p .opened .contains in
       good-inv _ _ _ _ (sym (h .read) ∙ read) λ is taken.
       let a = w .answers (h .contents .records) (has-of f bytes parts h) (p .there) in
-      rw (← is) (record { said = a .said; filled = a .filled; after = cleared-by work work₂ (drop 8192 work₁) (p .opened .room) clear (w .past) })
+      rw (← is) (record { said = a .said; filled = a .filled; after = cleared-by work work₁ work₂ (p .opened .room) (w .frame) clear })

@@ -4,11 +4,10 @@ use mathlib.Core.List.{List}
 use mathlib.Core.Bool.{Bool, true, false}
 use mathlib.Core.Option.{some}
 use Prim.Native.Nat.{ℕ}
-use lib.ListN.{drop, getElem?}
-use Rattle.format.specs.Records.{Entry, Key, keyOf, start, Records}
-use Rattle.format.specs.Reading.{good}
-use Rattle.format.specs.Reader.{readEntries}
+use lib.ListN.{getElem?}
+use Rattle.format.specs.Records.{Entry, Key, keyOf, Records}
 use Rattle.format.specs.Requests.{putRecord, removeRecord, holds}
+use Rattle.entries_run.specs.Steps.{EntriesRead}
 use Rattle.entries_place.specs.declared.Place.{Place}
 use Rattle.entries_place.specs.Places.{PlaceFound}
 use Rattle.entries_place.proofs.Places.{there-inv, there-name, put-at, remove-at, holds-at}
@@ -22,7 +21,7 @@ unfolding changed treeAfter
 keep-changed e r = refl
 
 module _ (v : ℕ) (b work : List ℕ) (count : ℕ) (k : Key) (work′ : List ℕ) (p : Place) (h : PlaceFound v b work count k work′ p) (r : Records) (m : ℕ)
-    (q : readEntries 20 v count start 12 (drop 12 b) ≡ good (r .entries) m) where
+    (q : EntriesRead v count b (r .entries) m) where
   pub put-changed : (e : Entry) → keyOf e ≡ k → putRecord 20 e r ≡ changed (E.Put (p .before) (p .there)) e r
   unfolding putRecord changed treeAfter
   put-changed e is = rw (put-at v b work count k work′ p h (r .entries) m q e is)

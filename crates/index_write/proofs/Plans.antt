@@ -14,7 +14,7 @@ use Rattle.hash.specs.Sha1.{sha1}
 use Rattle.entries.specs.declared.record.Fields.{Fields}
 use Rattle.entries.specs.Record.{entryWith}
 use Rattle.entries_place.specs.declared.Place.{Place}
-use Rattle.entries_place.specs.Places.{Ranked}
+use Rattle.entries_place.specs.Places.{PlaceFound}
 use Rattle.entries_edit.specs.declared.Edit.the-variants as E
 use Rattle.file_read.specs.declared.Parts.{Parts}
 use Rattle.file_read.specs.Contents.{bodyOf, Contains}
@@ -56,13 +56,13 @@ module _ (f work : List ℕ) (parts : Parts) (opened : Opened f work parts) (nam
 
   -- the place that was found: p, which leaves work₁ of the workspace
   module _ (work₁ : List ℕ) (p : Place) where
-    pub plan-put : Ranked (parts .version) (bodyOf f) work (parts .count) (record { name = name; stage = fields .stage }) work₁ p
+    pub plan-put : PlaceFound (parts .version) (bodyOf f) work (parts .count) (record { name = name; stage = fields .stage }) work₁ p
         → recordNumber fields name ≡ 0 → Changes f work₁ parts Q.Put name fields (E.Put (p .before) (p .there))
     plan-put r sound =
         let (stage, named) = sound-record fields name sound in
         record {
           planned = record {
-            opened = record { room = omega (arith, r .long, opened .room); contains = h };
+            opened = record { room = omega (arith, r .frame, opened .room); contains = h };
             reach = r .few;
             stage = stage;
             short = name-short name named;
@@ -73,7 +73,7 @@ module _ (f work : List ℕ) (parts : Parts) (opened : Opened f work parts) (nam
               ∙ ap (writing 20 sha1 asked room) (put-changed _ _ _ _ _ _ _ r (h .contents .records) _ (h .entries) (entryWith fields name) refl);
         }
 
-    module _ (stage : ℕ) (r : Ranked (parts .version) (bodyOf f) work (parts .count) (record { name = name; stage = stage }) work₁ p) where
+    module _ (stage : ℕ) (r : PlaceFound (parts .version) (bodyOf f) work (parts .count) (record { name = name; stage = stage }) work₁ p) where
       abbrev key : Key
       key = record { name = name; stage = stage }
 
@@ -87,7 +87,7 @@ module _ (f work : List ℕ) (parts : Parts) (opened : Opened f work parts) (nam
       pub plan-remove : Bytes f → p .there ≡ true → fields .stage ≤ 3 → Changes f work₁ parts (Q.Remove stage) name fields (E.Remove (p .before))
       plan-remove bytes found low = record {
         planned = record {
-          opened = record { room = omega (arith, r .long, opened .room); contains = h };
+          opened = record { room = omega (arith, r .frame, opened .room); contains = h };
           reach = let few = rw found at (r .few) in few;
           stage = low;
           short = entry-there _ _ _ _ _ _ _ r (h .contents .records) _ (h .entries) found λ x at is. rw (← is) (item-short f bytes parts h _ x at);

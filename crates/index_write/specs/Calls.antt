@@ -3,7 +3,7 @@ use mathlib.Core.Path.{_≡_}
 use mathlib.Core.List.{List, []}
 use mathlib.Core.Bool.{true, cond}
 use Prim.Native.Nat.{ℕ, _≤_}
-use lib.ListN.{length, drop}
+use lib.ListN.{length}
 use lib.Dec.{ltb}
 use Rattle.format.specs.Bytes.{fit32}
 use Rattle.format.specs.Names.{okName}
@@ -13,6 +13,7 @@ use Rattle.format.specs.Reading.{Read, bad}
 use Rattle.format.specs.Requests.{okAsked, writing, rewriteRequest, putRequest, removeRequest}
 use Rattle.format.specs.Reader.{readFile}
 use Rattle.hash.specs.Sha1.{sha1}
+use Rattle.fields.specs.Workspace.{Frame}
 use Rattle.writing.specs.OneFile.{WritesBack}
 use Rattle.entries.specs.declared.record.Fields.{Fields}
 use Rattle.answers.specs.declared.Written.{Written}
@@ -47,7 +48,7 @@ pub record Typed (fields : Fields) : Type 0 where
 
 -- ---- between the reading of a file and the writing
 
--- the file f was read, and parts tell where its records stand; the workspace is long enough
+-- the file f was read, and parts tell where its records are; the workspace is long enough
 pub record Opened (f work : List ℕ) (parts : Parts) : Type 0 where
   pub room : 8192 ≤ length work
   pub contains : Contains (readFile 20 sha1 f) (bodyOf f) parts
@@ -88,8 +89,7 @@ planBy f work parts request name fields (P.Refused n) = Refuses f request name f
 planBy f work parts request name fields (P.Change edit) = Changes f work parts request name fields edit
 
 pub record PlanFor (f work : List ℕ) (parts : Parts) (request : Request) (name : List ℕ) (fields : Fields) (work′ : List ℕ) (r : Plan) : Type 0 where
-  pub long : length work′ ≡ length work
-  pub past : drop 8192 work′ ≡ drop 8192 work
+  pub frame : Frame work work′
   pub is : planBy f work′ parts request name fields r
 
 -- the refusal of a record that is to be put, 0 where it is sound

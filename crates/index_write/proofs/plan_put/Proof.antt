@@ -1,9 +1,10 @@
 -- The proof that `plan_put` meets its contract.
-use mathlib.Core.Path.{refl, sym}
+use mathlib.Core.Path.{sym}
 use Prim.Native.Nat.{_-_}
 use native.Mathlib.Omega.{arith}
 use lib.ListN.{length}
 use lib.Seq.{length-take-le}
+use Rattle.fields.proofs.Workspace.{frame-same}
 use Rattle.file_read.proofs.Room.{file-long}
 use Rattle.index_write.proofs.Plans.{plan-unsound, plan-put}
 use borrow.Author.Needs.{needs}
@@ -16,7 +17,7 @@ record-number-requires c κs = search needs
 returns : tie.Need-returns
 returns c =
     let st = c .before .before .before .before .before in
-    record { long = refl; past = refl; is = plan-unsound _ _ _ (st .pre) _ _ _ (c .before .record-number .ensures) (c .if1 .taken) }
+    record { frame = frame-same _; is = plan-unsound _ _ _ (st .pre) _ _ _ (c .before .record-number .ensures) (c .if1 .taken) }
 
 sub-n : tie.Need-sub-n
 sub-n c = let st = c .before .before .before .before .before in omega (arith, file-long (st .args .file .now) (st .pre .contains .least))
@@ -36,7 +37,7 @@ returns-2 c =
     let e = p .before .before .before in
     let st = e .before .before .before .before .before in
     let r = p .find-place .ensures in
-    record { long = r .long; past = r .past; is = plan-put _ _ _ (st .pre) _ _ _ _ r (omega (arith, e .before .record-number .ensures, e .if1 .left)) }
+    record { frame = r .frame; is = plan-put _ _ _ (st .pre) _ _ _ _ r (omega (arith, e .before .record-number .ensures, e .if1 .left)) }
 
 pub plan-put-spec : {M : Type 1} → statement M
 plan-put-spec =

@@ -27,7 +27,7 @@ returns c = λ fields low.
     let p = c .before .before .before in
     let k = p .before .before .before .before .before in
     let r = p .find-place .ensures in
-    record { long = r .long; past = r .past; is = plan-remove _ _ _ (k .before .pre) _ fields _ _ _ r (λ i. omega (arith, k .shared-slice-known .given i)) (c .if1 .taken) low }
+    record { frame = r .frame; is = plan-remove _ _ _ (k .before .pre) _ fields _ _ _ r (λ i. omega (arith, k .shared-slice-known .given i)) (c .if1 .taken) low }
 
 same-length-2 : tie.Need-same-length-2
 same-length-2 c = search needs
@@ -36,7 +36,7 @@ returns-2 : tie.Need-returns-2
 returns-2 c = λ fields low.
     let p = c .before .before .before in
     let r = p .find-place .ensures in
-    record { long = r .long; past = r .past; is = plan-absent _ _ _ (p .before .before .before .before .before .before .pre) _ fields _ _ _ r (c .if1 .left) }
+    record { frame = r .frame; is = plan-absent _ _ _ (p .before .before .before .before .before .before .pre) _ fields _ _ _ r (c .if1 .left) }
 
 pub plan-remove-spec : {M : Type 1} → statement M
 plan-remove-spec =

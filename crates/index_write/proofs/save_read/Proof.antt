@@ -33,7 +33,7 @@ returns c =
     let st = t .before .before .before .before .before .before in
     let r = p .plan-for .ensures in
     let refuses = rw (n .plan .given .1) at (r .is) in
-    writes-bad _ _ 0 _ _ _ (refuses .is _ _ (sym (t .before .asked-ok .ensures) ∙ t .if1 .taken)) (cleared-by _ _ _ (st .pre .0 .room) (c .before .before .clear .ensures) (r .past))
+    writes-bad _ _ 0 _ _ _ (refuses .is _ _ (sym (t .before .asked-ok .ensures) ∙ t .if1 .taken)) (cleared-by _ _ _ (st .pre .0 .room) (r .frame) (c .before .before .clear .ensures))
 
 enum-known-plan-2 : tie.Need-enum-known-plan-2
 enum-known-plan-2 c = search needs
@@ -61,7 +61,7 @@ returns-2 c =
     let r = p .plan-for .ensures in
     let changes = rw (n .plan2 .given .1) at (r .is) in
     let h = changes .planned .opened .contains in
-    writes-as _ _ _ _ _ _ _ _ (changes .is _ _ (sym (t .before .asked-ok .ensures) ∙ t .if1 .taken)) (cleared-same _ _ (st .pre .0 .room) (r .long) (r .past))
+    writes-as _ _ _ _ _ _ _ _ (changes .is _ _ (sym (t .before .asked-ok .ensures) ∙ t .if1 .taken)) (cleared-same _ _ (st .pre .0 .room) (r .frame))
     (w .write-edited .ensures (h .contents) (h .taken) (h .read))
 
 returns-3 : tie.Need-returns-3
