@@ -17,8 +17,8 @@ ghost use Rattle.tree_nodes.specs.Flat.{nameOf, namesOf, hasName, namesDiffer};
 ghost use Rattle.tree_table.specs.Keys.{keyIn};
 ghost use Rattle.cache_tree.specs.Chunks.{putIn, allHeld, apart, Filled};
 
-// Names of a chunk: three quarters of the slots, so that a search for a slot ends after some eight of them.
-const CHUNK: u32 = 2304;
+// Names of a chunk: more than four fifths of the slots, where a search for a slot ends after some six of them.
+const CHUNK: u32 = 2600;
 
 // Two names of a chunk are equal; or they differ, and this is the place after them.
 enum Chunk {
