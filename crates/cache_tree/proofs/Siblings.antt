@@ -12,12 +12,6 @@ use Rattle.tree_nodes.specs.Flat.{treesLength, nameOf, restOf, namesOf, hasName
 use Rattle.cache_tree.specs.Orders.{nameBelow, risesFrom, stillRises}
 use Rattle.cache_tree.proofs.Below.{rises-differ}
 
--- ---- a name and what follows its tree
-
-pub name-at : (d : List ℕ) (a e : ℕ) → e ≡ a + before 0 (drop a d) → take (e - a) (drop a d) ≡ nameOf (drop a d)
-unfolding nameOf
-name-at d a e is = let k : e - a ≡ before 0 (drop a d) = omega arith in ap (λ (n : ℕ). take n (drop a d)) k
-
 pub rest-at : (d : List ℕ) (a r : ℕ) → r ≡ a + treesLength 1 (drop a d) → drop r d ≡ restOf (drop a d)
 unfolding restOf
 rest-at d a r is = ap (λ (n : ℕ). drop n d) is ∙ sym (drop-drop (treesLength 1 (drop a d)) a d)

@@ -2,6 +2,7 @@
 use fields::find;
 use fields::same;
 use tree_nodes::passes::after_tree;
+use tree_nodes::passes::sibling_at;
 use tree_table::KEYS;
 use tree_table::Table;
 use tree_table::clear;
@@ -13,12 +14,12 @@ ghost use mathlib.Core.Bool.{true, false};
 ghost use Prim.Native.Nat.{_-_, _≤_, _<_};
 ghost use lib.ListN.{length, drop};
 ghost use Rattle.format.specs.Bytes.{eqList};
-ghost use Rattle.tree_nodes.specs.Flat.{nameOf, namesOf, hasName, namesDiffer};
+ghost use Rattle.tree_nodes.specs.Flat.{nameOf, namesOf, hasName, namesDiffer, EndsAt};
 ghost use Rattle.tree_table.specs.Keys.{keyIn};
 ghost use Rattle.cache_tree.specs.Chunks.{putIn, allHeld, apart, Filled};
 
-// Names of a chunk: three quarters of the slots, so that a search for a slot ends after some eight of them.
-const CHUNK: u32 = 2304;
+// Names of a chunk: more than four fifths of the slots, where a search for a slot ends after some six of them.
+const CHUNK: u32 = 2600;
 
 // Two names of a chunk are equal; or they differ, and this is the place after them.
 enum Chunk {
@@ -53,22 +54,21 @@ fn has_name(d: &[u8], a: usize, b: usize, k: u32) -> bool
     false
 }
 
-// The key of the name at a place.
-fn key_at(d: &[u8], a: usize, t: &Table) -> u32
-    requires { ⌜ a ≤ length (now d) ⌝ }
-    ensures { λ r. ⌜ r ≡ keyIn (now (t .entry)) (nameOf (drop a (now (d .entry)))) ⌝ }
+// The key of the name at a place, which ends at nul.
+fn key_at(d: &[u8], y: usize, nul: usize, t: &Table) -> u32
+    requires { ⌜ EndsAt (now d) y nul ⌝ }
+    ensures { λ r. ⌜ r ≡ keyIn (now (t .entry)) (nameOf (drop y (now (d .entry)))) ⌝ }
 {
-    let e = find(d, a, 0);
-    key_of(&d[a..e], t)
+    key_of(&d[y..nul], t)
 }
 
-// Whether the name at y is among the n from a on, whose keys are in the table. An empty slot says that it is not; one that is taken may have another
-// name's key.
-fn is_known(d: &[u8], y: usize, a: usize, n: u32, t: &Table) -> bool
-    requires { ⌜ (y ≤ length (now d)) × (a ≤ length (now d)) × (length (now d) ≤ 16777216) × (allHeld (now t) (namesOf n (drop a (now d))) ≡ true) ⌝ }
+// Whether the name at y, which ends at nul, is among the n from a on, whose keys are in the table. An empty slot says that it is not; one that is taken
+// may have another name's key.
+fn is_known(d: &[u8], y: usize, nul: usize, a: usize, n: u32, t: &Table) -> bool
+    requires { ⌜ EndsAt (now d) y nul × (y ≤ length (now d)) × (a ≤ length (now d)) × (length (now d) ≤ 16777216) × (allHeld (now t) (namesOf n (drop a (now d))) ≡ true) ⌝ }
     ensures { λ r. ⌜ r ≡ hasName (nameOf (drop y (now (d .entry)))) (namesOf n (drop a (now (d .entry)))) ⌝ }
 {
-    let slot = slot_of(t, 0, KEYS, key_at(d, y, t));
+    let slot = slot_of(t, 0, KEYS, key_at(d, y, nul, t));
     if t[slot] == 0 {
         return false;
     }
@@ -76,11 +76,11 @@ fn is_known(d: &[u8], y: usize, a: usize, n: u32, t: &Table) -> bool
 }
 
 // The same, and the name's own key is put in the table.
-fn put(d: &[u8], y: usize, a: usize, n: u32, t: &mut Table) -> bool
-    requires { ⌜ (y ≤ length (now d)) × (a ≤ length (now d)) × (length (now d) ≤ 16777216) × (allHeld (now t) (namesOf n (drop a (now d))) ≡ true) ⌝ }
+fn put(d: &[u8], y: usize, nul: usize, a: usize, n: u32, t: &mut Table) -> bool
+    requires { ⌜ EndsAt (now d) y nul × (y ≤ length (now d)) × (a ≤ length (now d)) × (length (now d) ≤ 16777216) × (allHeld (now t) (namesOf n (drop a (now d))) ≡ true) ⌝ }
     ensures { λ r. ⌜ (r ≡ hasName (nameOf (drop y (now (d .entry)))) (namesOf n (drop a (now (d .entry))))) × (now (t .exit) ≡ putIn (now (t .entry)) (nameOf (drop y (now (d .entry))))) ⌝ }
 {
-    let key = key_at(d, y, t);
+    let key = key_at(d, y, nul, t);
     let slot = slot_of(t, 0, KEYS, key);
     if t[slot] == 0 {
         t[slot] = key;
@@ -97,10 +97,11 @@ fn fill(d: &[u8], a: usize, k: u32, t: &mut Table) -> Chunk
     let mut y = a;
     let mut n: u32 = 0;
     while n < k {
-        if put(d, y, a, n, t) {
+        let sibling = sibling_at(d, y);
+        if put(d, y, sibling.nul, a, n, t) {
             return Chunk::Equal;
         }
-        y = after_tree(d, y);
+        y = sibling.next;
         n += 1;
     }
     Chunk::Next(y)
@@ -114,10 +115,11 @@ fn against(d: &[u8], a: usize, n: u32, b: usize, k: u32, t: &Table) -> bool
     let mut y = b;
     let mut left = k;
     while 0 < left {
-        if is_known(d, y, a, n, t) {
+        let sibling = sibling_at(d, y);
+        if is_known(d, y, sibling.nul, a, n, t) {
             return false;
         }
-        y = after_tree(d, y);
+        y = sibling.next;
         left -= 1;
     }
     true

@@ -16,7 +16,7 @@ module _ (from slots list : ℕ) (d t t′ : List ℕ)
     (seed₁ : getD t′ 3073 0 ≡ getD t 3073 0)
     (place : getD t′ list 0 ≡ getD t list 0)
     (number : getD t′ (list + 1) 0 ≡ getD t (list + 1) 0)
-    (some : 0 < slots)
+    (many : 512 ≤ slots)
   where
     keys-stay : SameKeys from slots t′ t
     keys-stay = record { keys = λ i a b. cells i a (omega arith); first = seed; second = seed₁ }
@@ -29,7 +29,7 @@ module _ (from slots list : ℕ) (d t t′ : List ℕ)
       inside = rw (place, number) λ h.
           let x = known .inside h in
           record { most = λ i a b. rw (number-stays i a b) (x .most i a b); least = λ i a b. rw (number-stays i a b) (x .least i a b) };
-      is = rw (place, number) λ h f m differ r. put-same from slots some d f t t′ nil keys-stay number-stays (known .is h f m differ r);
+      is = rw (place, number) λ h f m differ r. put-same from slots many d f t t′ nil keys-stay number-stays (known .is h f m differ r);
     }
 
 -- ---- a row of cursors

@@ -35,7 +35,7 @@ pub record Placing (from slots : ℕ) (d : List ℕ) (f : Forest) (t : List ℕ)
 
 -- ---- a table whose keys are from a slot on
 
-module _ (from slots : ℕ) (some-slots : 0 < slots) where
+module _ (from slots : ℕ) (many : 512 ≤ slots) where
   -- the slot of a name is one of the table's
   pub name-least : (t y : List ℕ) → from ≤ slotFor from slots t y
   unfolding slotFor slotIn
@@ -43,7 +43,7 @@ module _ (from slots : ℕ) (some-slots : 0 < slots) where
 
   pub name-most : (t y : List ℕ) → slotFor from slots t y < from + slots
   unfolding slotFor
-  name-most t y = slot-most from slots t (keyIn t y) some-slots
+  name-most t y = slot-most from slots t (keyIn t y) many
 
   module _ (t u : List ℕ) (same : SameKeys from slots t u) (y : List ℕ) where
     same-key : keyIn t y ≡ keyIn u y
@@ -51,7 +51,7 @@ module _ (from slots : ℕ) (some-slots : 0 < slots) where
 
     same-slot : slotFor from slots t y ≡ slotFor from slots u y
     unfolding slotFor
-    same-slot = slot-same from slots t u (same .keys) (keyIn t y) some-slots ∙ ap (slotIn from slots u) same-key
+    same-slot = slot-same from slots t u (same .keys) (keyIn t y) many ∙ ap (slotIn from slots u) same-key
 
     same-has : HasKey from slots t y → HasKey from slots u y
     same-has w = ap (λ (i : ℕ). getD u i 0) (sym same-slot) ∙ sym (same .keys (slotFor from slots t y) (name-least t y) (name-most t y)) ∙ w ∙ same-key

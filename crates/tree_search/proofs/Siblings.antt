@@ -127,8 +127,3 @@ module _ (d : List ℕ) (f : Forest) (name : List ℕ) where
 
     pub search-end : left ≤ 0 → child name f ≡ none
     search-end l = x .same ∙ ap (child name) (reads-empty _ _ _ _ (x .last .reads) l) ∙ child-none name
-
--- the bytes from a place to the NUL are the name of the node there
-pub name-is : (d : List ℕ) (at nul : ℕ) → nul ≡ at + before 0 (drop at d) → take (nul - at) (drop at d) ≡ nameOf (drop at d)
-unfolding nameOf
-name-is d at nul e = let i : nul - at ≡ before 0 (drop at d) = omega arith in rw i

@@ -21,9 +21,9 @@ use Rattle.tree_search.proofs.Places.{SameKeys, Placing, name-least, na
 
 -- ---- where a table is
 
-pub region-some : (region : Region) → 0 < slotsOf region
-region-some R.Short = omega arith
-region-some R.Long = omega arith
+pub region-many : (region : Region) → 512 ≤ slotsOf region
+region-many R.Short = omega arith
+region-many R.Long = omega arith
 
 pub region-fits : (region : Region) → firstSlot region + slotsOf region + slotsOf region ≤ 2560
 region-fits R.Short = omega arith
@@ -136,8 +136,8 @@ pub place-cells : (region : Region) (d : List ℕ) (place : ℕ) (t : List ℕ) 
 unfolding withPlace
 place-cells region d place t =
     let name = nameOf (drop place d) in
-    let a = name-least (firstSlot region) (slotsOf region) (region-some region) t name in
-    let b = name-most (firstSlot region) (slotsOf region) (region-some region) t name in
+    let a = name-least (firstSlot region) (slotsOf region) (region-many region) t name in
+    let b = name-most (firstSlot region) (slotsOf region) (region-many region) t name in
     by-test (eqb (getD t (slotFor (firstSlot region) (slotsOf region) t name) 0) (keyIn t name))
     (λ q. rw q (set-cell region t (slotsOf region + slotFor (firstSlot region) (slotsOf region) t name) _ (omega arith) (omega arith)))
     (λ q. rw q (record { long = refl; same = λ i h. refl }))
@@ -184,7 +184,7 @@ module _ (region : Region) (t : List ℕ) (at k : ℕ) (long : length t ≡ 3126
           most = λ i a b. rw (number-is i a b) (inside .most i a b);
           least = λ i a b. rw (number-is i a b, list-place) (inside .least i a b);
         };
-        is = λ some f m differ r. put-same (firstSlot region) (slotsOf region) (region-some region) d f t listed nil keys-same number-is (is f m differ (rw (list-place, list-number) at r));
+        is = λ some f m differ r. put-same (firstSlot region) (slotsOf region) (region-many region) d f t listed nil keys-same number-is (is f m differ (rw (list-place, list-number) at r));
       }
 
 -- ---- a pass that puts down the k siblings at a place has come to another place
@@ -207,8 +207,8 @@ module _ (region : Region) (d : List ℕ) (at k : ℕ) where
     most = l;
     vacant = vacant-stays region t t′ cells vacant;
     known = known-stays region t t′ cells vacant d known;
-    inside = clear-inside (firstSlot region) (slotsOf region) (region-some region) d t′ empty at;
-    is = λ f m differ r. placing-start (firstSlot region) (slotsOf region) (region-some region) d t′ empty f at k m differ r;
+    inside = clear-inside (firstSlot region) (slotsOf region) (region-many region) d t′ empty at;
+    is = λ f m differ r. placing-start (firstSlot region) (slotsOf region) (region-many region) d t′ empty f at k m differ r;
   }
     where
       cells : CellsOnly region t t′
@@ -224,14 +224,14 @@ module _ (region : Region) (d : List ℕ) (at k : ℕ) where
       most = l;
       vacant = vacant-stays region t _ (place-cells region d place t) (x .vacant);
       known = known-stays region t _ (place-cells region d place t) (x .vacant) d (x .known);
-      inside = place-inside (firstSlot region) (slotsOf region) (region-some region) t (omega (arith, region-fits region)) (x .vacant .long) d at place (x .least) (x .most) (x .inside);
-      is = λ f m differ r. placing-on (firstSlot region) (slotsOf region) (region-some region) t (omega (arith, region-fits region)) (x .vacant .long) d f place left (x .is f m differ r) some-left next is;
+      inside = place-inside (firstSlot region) (slotsOf region) (region-many region) t (omega (arith, region-fits region)) (x .vacant .long) d at place (x .least) (x .most) (x .inside);
+      is = λ f m differ r. placing-on (firstSlot region) (slotsOf region) (region-many region) t (omega (arith, region-fits region)) (x .vacant .long) d f place left (x .is f m differ r) some-left next is;
     }
 
     pub filling-end : left ≤ 0 → Known d (set (set t (listOf region) at) (listOf region + 1) k)
     filling-end l =
         list-known region t at k (x .vacant .long) d (x .known) (x .inside)
-        (λ f m differ r. placing-end (firstSlot region) (slotsOf region) (region-some region) d f t place left (x .is f m differ r) l)
+        (λ f m differ r. placing-end (firstSlot region) (slotsOf region) (region-many region) d f t place left (x .is f m differ r) l)
 
 -- ---- a table is of no list
 

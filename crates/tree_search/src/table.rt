@@ -60,7 +60,7 @@ fn first_slot(region: Region) -> usize
 }
 
 fn slots_of(region: Region) -> usize
-    ensures { λ r. ⌜ (r ≡ slotsOf region) × (0 < r) × (r ≤ 1024) ⌝ }
+    ensures { λ r. ⌜ (r ≡ slotsOf region) × (512 ≤ r) × (r ≤ 1024) ⌝ }
 {
     match region {
         Region::Short => SHORT_SLOTS,

@@ -1,15 +1,15 @@
 -- Laws of keys and their slots.
 use mathlib.Core.Path.{_≡_, refl, sym, ap, _∙_}
 use mathlib.Core.List.{List, [], _∷_}
-use Prim.Native.Nat.{ℕ, zero, suc, _+_, _*_, _-_, _%_, _≤_, _<_}
+use Prim.Native.Nat.{ℕ, zero, suc, _+_, _*_, _-_, _/_, _%_, _≤_, _<_}
 use native.Mathlib.Nat.{mod-lt}
 use native.Mathlib.Omega.{arith}
 use lib.ListN.{length, getD, set, drop, drop-of-length-le, length-set}
 use lib.Seq.{drop-cons, getD-set-same, getD-set-other}
-use lib.Dec.{eqb}
-use borrow.Author.Tests.{eq-eqb, ne-eqb, eqb-true, eqb-false}
+use lib.Dec.{eqb, ltb}
+use borrow.Author.Tests.{eq-eqb, ne-eqb, eqb-true, eqb-false, ltb-true, ltb-false}
 use Rattle.format_laws.proofs.Tests.{by-test}
-use Rattle.tree_table.specs.Keys.{fold, stepKey, lastKey, keyFrom, keyIn, nextSlot, probe, slotIn, SeedOnly}
+use Rattle.tree_table.specs.Keys.{fold, stepKey, lastKey, keyFrom, keyIn, stepOf, nextSlot, probe, slotIn, SeedOnly}
 
 -- ---- the key of a name, two bytes at a time
 
@@ -52,7 +52,7 @@ module _ (from slots : ℕ) where
         unfolding probe
         probe-empty e = rw (some-more, ne-eqb (getD t (from + i) 0) key other, eq-eqb (getD t (from + i) 0) 0 e)
 
-        pub probe-on : (getD t (from + i) 0 ≡ 0 → ⊥) → (j : ℕ) → j ≡ nextSlot slots i → probe from slots t key n i ≡ probe from slots t key (n - 1) j
+        pub probe-on : (getD t (from + i) 0 ≡ 0 → ⊥) → (j : ℕ) → j ≡ nextSlot slots (stepOf key) i → probe from slots t key n i ≡ probe from slots t key (n - 1) j
         unfolding probe
         probe-on e j is = ap (λ (x : ℕ). probe from slots t key x i) some-more ∙ rw (is, ne-eqb (getD t (from + i) 0) key other, ne-eqb (getD t (from + i) 0) 0 e)
 
@@ -60,9 +60,12 @@ module _ (from slots : ℕ) where
   unfolding slotIn
   slot-is t key i e = rw e
 
-  next-most : (i : ℕ) → i < slots → nextSlot slots i < slots
-  unfolding nextSlot
-  next-most i l = by-test (eqb (i + 1) slots) (λ e. rw e (omega arith)) (λ e. let z : i + 1 ≡ slots → ⊥ = eqb-false _ _ e in rw e (omega arith))
+  next-most : 512 ≤ slots → (key i : ℕ) → i < slots → nextSlot slots (stepOf key) i < slots
+  unfolding nextSlot stepOf
+  next-most many key i l =
+      by-test (ltb (i + (key / 65536 % 256 * 2 + 1)) slots)
+      (λ e. rw e (ltb-true (i + (key / 65536 % 256 * 2 + 1)) slots e))
+      (λ e. rw e (let z : slots ≤ i + (key / 65536 % 256 * 2 + 1) = ltb-false (i + (key / 65536 % 256 * 2 + 1)) slots e in omega arith))
 
   -- an empty slot gets a number: a key that had a slot which was not empty has one again
   module _ (t : List ℕ) (j x : ℕ) (empty : getD t (from + j) 0 ≡ 0) where
@@ -80,7 +83,7 @@ module _ (from slots : ℕ) where
         (λ here. let some₁ : getD t (from + i) 0 ≡ 0 → ⊥ = rw here at some in some₁ (sym (stays-at i some₁) ∙ (rw (stays-at i some₁, here) at e)))
         (λ other. by-test (eqb (getD t (from + i) 0) 0)
         (λ none. some (rw (other, none) (eqb-true _ _ none)))
-        (λ full. let some₁ : getD t (from + i) 0 ≡ 0 → ⊥ = eqb-false _ _ full in probe-stays key n (nextSlot slots i) (rw (other, full) at some) (rw (stays-at i some₁, other, full) at e)))
+        (λ full. let some₁ : getD t (from + i) 0 ≡ 0 → ⊥ = eqb-false _ _ full in probe-stays key n (nextSlot slots (stepOf key) i) (rw (other, full) at some) (rw (stays-at i some₁, other, full) at e)))
 
   -- an empty slot of a key gets that key, and stays its slot
   module _ (t : List ℕ) (key j : ℕ) (some : 0 < key) (room : from + j < length t) (empty : getD t (from + j) 0 ≡ 0) where
@@ -102,7 +105,7 @@ module _ (from slots : ℕ) where
         let is : i ≡ j = rw (other, none) at e in
         let k : getD filled (from + i) 0 ≡ key = ap (λ (a : ℕ). getD filled (from + a) 0) is ∙ getD-set-same t (from + j) key 0 room in
         rw (eq-eqb (getD filled (from + i) 0) key k) is)
-        (λ full. rw (stays-at t j key empty i (eqb-false _ _ full), other, full) (probe-put n (nextSlot slots i) (rw (other, full) at e))))
+        (λ full. rw (stays-at t j key empty i (eqb-false _ _ full), other, full) (probe-put n (nextSlot slots (stepOf key) i) (rw (other, full) at e))))
 
     probe-own : (n i : ℕ) → probe from slots t key n i ≡ j → getD filled (from + probe from slots filled key n i) 0 ≡ key
     probe-own n i e = rw (probe-put n i e) (getD-set-same t (from + j) key 0 room)
@@ -117,28 +120,28 @@ module _ (from slots : ℕ) where
     unfolding slotIn
     slot-own some room = probe-own t key _ some room empty (slots - 1) (key % slots) refl
 
-  probe-most : (t : List ℕ) (key n i : ℕ) → i < slots → probe from slots t key n i < slots
+  probe-most : 512 ≤ slots → (t : List ℕ) (key n i : ℕ) → i < slots → probe from slots t key n i < slots
   unfolding probe
-  probe-most t key zero i l = l
-  probe-most t key (suc n) i l =
+  probe-most many t key zero i l = l
+  probe-most many t key (suc n) i l =
       by-test (eqb (getD t (from + i) 0) key)
       (λ e. rw e l)
-      (λ e. by-test (eqb (getD t (from + i) 0) 0) (λ q. rw (e, q) l) (λ q. rw (e, q) (probe-most t key n (nextSlot slots i) (next-most i l))))
+      (λ e. by-test (eqb (getD t (from + i) 0) 0) (λ q. rw (e, q) l) (λ q. rw (e, q) (probe-most many t key n (nextSlot slots (stepOf key) i) (next-most many key i l))))
 
-  pub slot-most : (t : List ℕ) (key : ℕ) → 0 < slots → slotIn from slots t key < from + slots
+  pub slot-most : (t : List ℕ) (key : ℕ) → 512 ≤ slots → slotIn from slots t key < from + slots
   unfolding slotIn
-  slot-most t key some = let l : probe from slots t key (slots - 1) (key % slots) < slots = probe-most t key (slots - 1) (key % slots) (mod-lt key some) in omega arith
+  slot-most t key many = let l : probe from slots t key (slots - 1) (key % slots) < slots = probe-most many t key (slots - 1) (key % slots) (mod-lt key (omega arith)) in omega arith
 
   -- only its keys decide the slot of a key
   module _ (t u : List ℕ) (same : (i : ℕ) → from ≤ i → i < from + slots → getD t i 0 ≡ getD u i 0) where
-    probe-same : (key n i : ℕ) → i < slots → probe from slots t key n i ≡ probe from slots u key n i
+    probe-same : 512 ≤ slots → (key n i : ℕ) → i < slots → probe from slots t key n i ≡ probe from slots u key n i
     unfolding probe
-    probe-same key zero i l = refl
-    probe-same key (suc n) i l = rw (same (from + i) (omega arith) (omega arith), probe-same key n (nextSlot slots i) (next-most i l))
+    probe-same many key zero i l = refl
+    probe-same many key (suc n) i l = rw (same (from + i) (omega arith) (omega arith), probe-same many key n (nextSlot slots (stepOf key) i) (next-most many key i l))
 
-    pub slot-same : (key : ℕ) → 0 < slots → slotIn from slots t key ≡ slotIn from slots u key
+    pub slot-same : (key : ℕ) → 512 ≤ slots → slotIn from slots t key ≡ slotIn from slots u key
     unfolding slotIn
-    slot-same key some = ap (λ (i : ℕ). from + i) (probe-same key (slots - 1) (key % slots) (mod-lt key some))
+    slot-same key many = ap (λ (i : ℕ). from + i) (probe-same many key (slots - 1) (key % slots) (mod-lt key (omega arith)))
 
 -- ---- the seed decides the key, and no slot is part of it
 

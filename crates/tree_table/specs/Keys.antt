@@ -4,7 +4,7 @@ use mathlib.Core.List.{List, [], _∷_}
 use mathlib.Core.Bool.{Bool, cond, not, _&&_}
 use Prim.Native.Nat.{ℕ, zero, suc, _+_, _*_, _-_, _/_, _%_}
 use lib.ListN.{length, getD}
-use lib.Dec.{eqb}
+use lib.Dec.{eqb, ltb}
 
 -- a number with the same rest by 2 ^ 31 - 1, a prime
 unfoldable pub fold : ℕ → ℕ
@@ -32,16 +32,20 @@ pub record SeedOnly (t t′ : List ℕ) : Type 0 where
   pub long : length t′ ≡ length t
   pub same : (i : ℕ) → (i ≡ 3072 → ⊥) → (i ≡ 3073 → ⊥) → getD t′ i 0 ≡ getD t i 0
 
--- ---- the slot of a key among so many from a place on
+-- ---- the slot of a key among those from a place on, as many as slots
 
--- the slot after another; the first one after the last
-unfoldable pub nextSlot : ℕ → ℕ → ℕ
-nextSlot slots i = cond (eqb (i + 1) slots) 0 (i + 1)
+-- how far apart the slots are that are tried for a key
+unfoldable pub stepOf : ℕ → ℕ
+stepOf key = key / 65536 % 256 * 2 + 1
 
--- the first of n slots from i on that has the key or is empty, else the one after them
+-- the slot that is tried after another; from the first one on again after the last
+unfoldable pub nextSlot : ℕ → ℕ → ℕ → ℕ
+nextSlot slots step i = cond (ltb (i + step) slots) (i + step) (i + step - slots)
+
+-- the first of n slots that are tried from i on that has the key or is empty, else the one after them
 unfoldable pub probe : ℕ → ℕ → List ℕ → ℕ → ℕ → ℕ → ℕ
 probe from slots t key zero i = i
-probe from slots t key (suc n) i = cond (eqb (getD t (from + i) 0) key) i (cond (eqb (getD t (from + i) 0) 0) i (probe from slots t key n (nextSlot slots i)))
+probe from slots t key (suc n) i = cond (eqb (getD t (from + i) 0) key) i (cond (eqb (getD t (from + i) 0) 0) i (probe from slots t key n (nextSlot slots (stepOf key) i)))
 
 unfoldable pub slotIn : ℕ → ℕ → List ℕ → ℕ → ℕ
 slotIn from slots t key = from + probe from slots t key (slots - 1) (key % slots)

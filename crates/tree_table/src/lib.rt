@@ -5,7 +5,7 @@ use fields::wide64;
 ghost use mathlib.Core.Path.{_≡_};
 ghost use Prim.Native.Nat.{ℕ, _+_, _*_, _%_, _≤_, _<_};
 ghost use lib.ListN.{length, getD, set};
-ghost use Rattle.tree_table.specs.Keys.{stepKey, lastKey, keyIn, nextSlot, slotIn, SeedOnly, isOf};
+ghost use Rattle.tree_table.specs.Keys.{stepKey, lastKey, keyIn, stepOf, nextSlot, slotIn, SeedOnly, isOf};
 
 // How many numbers the array of a table has. A contract cannot name a constant of the code, so contracts say 4150.
 pub const NUMBERS: usize = 3126;
@@ -82,23 +82,31 @@ pub fn make_seed(d: &[u8], t: &mut Table)
     }
 }
 
-// The slot after another; the first one after the last.
-fn next_slot(i: usize, slots: usize) -> usize
-    requires { ⌜ (i < slots) × (slots ≤ 3072) ⌝ }
-    ensures { λ r. ⌜ (r ≡ nextSlot slots i) × (r < slots) ⌝ }
+// How far apart the slots are that are tried for a key (double hashing): an odd number below 512.
+fn step_of(key: u32) -> usize
+    ensures { λ r. ⌜ (r ≡ stepOf key) × (r < 512) ⌝ }
 {
-    if i + 1 == slots {
-        return 0;
-    }
-    i + 1
+    (key / 65536 % 256) as usize * 2 + 1
 }
 
-// The slot of a key among those from a place on, so many: that of the key itself or an empty one, from the key's own on; the last tried where there is
-// neither.
+// The slot that is tried after another, as many slots further as step, and from the first one on again after the last.
+fn next_slot(i: usize, step: usize, slots: usize) -> usize
+    requires { ⌜ (i < slots) × (step < 512) × (512 ≤ slots) × (slots ≤ 3072) ⌝ }
+    ensures { λ r. ⌜ (r ≡ nextSlot slots step i) × (r < slots) ⌝ }
+{
+    if i + step < slots {
+        return i + step;
+    }
+    i + step - slots
+}
+
+// The slot of a key among those from a place on, as many as slots: that of the key itself or an empty one, of those that are tried for it; the last tried
+// where there is neither.
 pub fn slot_of(t: &Table, from: usize, slots: usize, key: u32) -> usize
-    requires { ⌜ (0 < slots) × (from + slots ≤ 3072) ⌝ }
+    requires { ⌜ (512 ≤ slots) × (from + slots ≤ 3072) ⌝ }
     ensures { λ r. ⌜ (r ≡ slotIn from slots (now (t .entry)) key) × (from ≤ r) × (r < from + slots) ⌝ }
 {
+    let step = step_of(key);
     let mut i = key as usize % slots;
     let mut left = slots - 1;
     while 0 < left {
@@ -108,7 +116,7 @@ pub fn slot_of(t: &Table, from: usize, slots: usize, key: u32) -> usize
         if t[from + i] == 0 {
             return from + i;
         }
-        i = next_slot(i, slots);
+        i = next_slot(i, step, slots);
         left -= 1;
     }
     from + i

@@ -1,18 +1,21 @@
 use borrow.Author.Needs.{needs}
 use Rattle.tree_table.proofs.Slots.{probe-end, probe-here, probe-empty, probe-on, slot-is}
-use Rattle.tree_table.specs.Keys.{probe}
+use Rattle.tree_table.specs.Keys.{probe, nextSlot}
 use native.Mathlib.Omega.{arith}
 use native.Mathlib.Nat.{mod-lt}
-use Prim.Native.Nat.{_-_, _%_, _<_}
-use mathlib.Core.Path.{_≡_, refl, _∙_}
+use Prim.Native.Nat.{ℕ, _-_, _%_, _<_}
+use mathlib.Core.Path.{_≡_, refl, ap, _∙_}
 use Rattle.tree_table.proofs.slot_of.Statement.{statement}
 use Rattle.tree_table.proofs.slot_of.Tie as tie
 
 abbrev Inv-loop : tie.InvT-loop
-Inv-loop t from slots key i₀ left₀ i left = (i < slots) × (probe from slots t key (slots - 1) (key % slots) ≡ probe from slots t key left i)
+Inv-loop t from slots key step i₀ left₀ i left = (i < slots) × (probe from slots t key (slots - 1) (key % slots) ≡ probe from slots t key left i)
 
 abbrev μ-loop : tie.MeasureT-loop
-μ-loop t from slots key i₀ left₀ i left = left
+μ-loop t from slots key step i₀ left₀ i left = left
+
+step-of-requires : tie.Need-step-of-requires Inv-loop μ-loop
+step-of-requires c κs = search needs
 
 rem-i : tie.Need-rem-i Inv-loop μ-loop
 rem-i c = search needs
@@ -21,7 +24,7 @@ sub-left : tie.Need-sub-left Inv-loop μ-loop
 sub-left c = search needs
 
 loop-holds : tie.Need-loop-holds Inv-loop μ-loop
-loop-holds c = (mod-lt _ (c .pre .0), refl)
+loop-holds c = (mod-lt _ (omega arith), refl)
 
 add-if1 : tie.Need-add-if1 Inv-loop μ-loop
 add-if1 c = search needs
@@ -63,7 +66,7 @@ loop-less : tie.Need-loop-less Inv-loop μ-loop
 loop-less c = search needs
 
 loop-again : tie.Need-loop-again Inv-loop μ-loop
-loop-again c = let l = c .before .before .before .before .before .before in let n = l .loop .left in (c .next-slot .ensures .1, l .loop .inv .1 ∙ probe-on _ _ _ _ _ n (omega arith) (c .before .before .before .if1 .left) (c .before .if2 .left) _ (c .next-slot .ensures .0))
+loop-again c = let l = c .before .before .before .before .before .before in let n = l .loop .left in (c .next-slot .ensures .1, l .loop .inv .1 ∙ probe-on _ _ _ _ _ n (omega arith) (c .before .before .before .if1 .left) (c .before .if2 .left) _ (c .next-slot .ensures .0 ∙ ap (λ (x : ℕ). nextSlot (l .before .before .args .slots) x (l .loop .i)) (l .before .step-of .ensures .0)))
 
 add-result-3 : tie.Need-add-result-3 Inv-loop μ-loop
 add-result-3 c = search needs
@@ -77,6 +80,7 @@ slot-of-spec =
     (tie.spec
     Inv-loop
     μ-loop
+    step-of-requires
     rem-i
     sub-left
     loop-holds

@@ -1,3 +1,4 @@
+-- The proof that `against` meets its contract.
 use Rattle.cache_tree.proofs.Apart.{apart-end, apart-not, apart-next}
 use Rattle.cache_tree.specs.Chunks.{apart}
 use Rattle.tree_nodes.specs.Flat.{namesOf}
@@ -17,16 +18,19 @@ abbrev μ-loop : tie.MeasureT-loop
 loop-holds : tie.Need-loop-holds Inv-loop μ-loop
 loop-holds c = (c .before .pre .0, refl)
 
+sibling-at-requires : tie.Need-sibling-at-requires Inv-loop μ-loop
+sibling-at-requires c κs = (c .before .loop .inv .0, c .before .before .before .pre .2)
+
 is-known-requires : tie.Need-is-known-requires Inv-loop μ-loop
-is-known-requires c κs = let p = c .before .before .before .pre in (c .before .loop .inv .0, p .1, p .2, p .3)
+is-known-requires c κs =
+    let l = c .before .before in
+    let p = l .before .before .pre in
+    (c .sibling-at .ensures .ends, l .loop .inv .0, p .1, p .2, p .3)
 
 returns : tie.Need-returns Inv-loop μ-loop
 returns c =
-    let l = c .before .before .before in
-    sym (l .loop .inv .1 ∙ apart-not _ (c .before .before .before .before .before .args .d .now) (l .loop .y) _ (c .before .before .loop-test .taken) (sym (c .before .is-known .ensures) ∙ c .if1 .taken))
-
-after-tree-requires : tie.Need-after-tree-requires Inv-loop μ-loop
-after-tree-requires c κs = (c .before .before .before .loop .inv .0, c .before .before .before .before .before .pre .2)
+    let l = c .before .before .before .before in
+    sym (l .loop .inv .1 ∙ apart-not _ (l .before .before .args .d .now) (l .loop .y) _ (c .before .before .before .loop-test .taken) (sym (c .before .is-known .ensures) ∙ c .if1 .taken))
 
 sub-left : tie.Need-sub-left Inv-loop μ-loop
 sub-left c = omega arith
@@ -37,7 +41,8 @@ loop-less c = omega arith
 loop-again : tie.Need-loop-again Inv-loop μ-loop
 loop-again c =
     let l = c .before .before .before .before in
-    (c .after-tree .ensures .1, l .loop .inv .1 ∙ apart-next _ (c .before .before .before .before .before .before .args .d .now) (l .loop .y) _ (c .before .before .before .loop-test .taken) _ (c .after-tree .ensures .0) (sym (c .before .before .is-known .ensures) ∙ c .before .if1 .left))
+    let next = c .before .before .sibling-at .ensures in
+    (next .within, l .loop .inv .1 ∙ apart-next _ (l .before .before .args .d .now) (l .loop .y) _ (c .before .before .before .loop-test .taken) _ (next .after) (sym (c .before .is-known .ensures) ∙ c .if1 .left))
 
 returns-2 : tie.Need-returns-2 Inv-loop μ-loop
 returns-2 c = sym (c .before .loop .inv .1 ∙ apart-end _ (c .before .before .before .args .d .now) (c .before .loop .y) _ (c .loop-test .left))
@@ -49,9 +54,9 @@ against-spec =
     Inv-loop
     μ-loop
     loop-holds
+    sibling-at-requires
     is-known-requires
     returns
-    after-tree-requires
     sub-left
     loop-less
     loop-again

@@ -1,3 +1,4 @@
+-- The proof that `fill` meets its contract.
 use Rattle.cache_tree.proofs.Apart.{after-start, differ-start, held-start, fill-equal, fill-differ, fill-rest, fill-held, put-length, filled-equal, filled-next}
 use Rattle.cache_tree.specs.Chunks.{allHeld, restAfter}
 use Rattle.tree_nodes.specs.Flat.{namesOf, namesDiffer}
@@ -24,16 +25,19 @@ abbrev μ-loop : tie.MeasureT-loop
 loop-holds : tie.Need-loop-holds Inv-loop μ-loop
 loop-holds c = let p = c .before .pre in (p .0, omega arith, after-start _, differ-start _, held-start _ _, p .2)
 
+sibling-at-requires : tie.Need-sibling-at-requires Inv-loop μ-loop
+sibling-at-requires c κs = (c .before .loop .inv .0, c .before .before .before .pre .1)
+
 put-requires : tie.Need-put-requires Inv-loop μ-loop
-put-requires c κs = let p = c .before .before .before .before .pre in let l = c .before .before in (l .loop .inv .0, p .0, p .1, l .loop .inv .4)
+put-requires c κs =
+    let l = c .before .before .before in
+    let p = l .before .before .pre in
+    (c .before .sibling-at .ensures .ends, l .loop .inv .0, p .0, p .1, l .loop .inv .4)
 
 returns : tie.Need-returns Inv-loop μ-loop
 returns c =
-    let l = c .before .before .before .before in
-    (put-length _ _ _ (c .before .put .ensures .1) ∙ l .loop .inv .5, filled-equal _ _ _ _ (fill-equal (l .loop .n) _ _ (l .loop .inv .2) _ (c .before .before .before .loop-test .taken) (l .loop .inv .3) (sym (c .before .put .ensures .0) ∙ c .if1 .taken)))
-
-after-tree-requires : tie.Need-after-tree-requires Inv-loop μ-loop
-after-tree-requires c κs = (c .before .before .before .before .loop .inv .0, c .before .before .before .before .before .before .pre .1)
+    let l = c .before .before .before .before .before in
+    (put-length _ _ _ (c .before .put .ensures .1) ∙ l .loop .inv .5, filled-equal _ _ _ _ (fill-equal (l .loop .n) _ _ (l .loop .inv .2) _ (c .before .before .before .before .loop-test .taken) (l .loop .inv .3) (sym (c .before .put .ensures .0) ∙ c .if1 .taken)))
 
 add-n : tie.Need-add-n Inv-loop μ-loop
 add-n c = omega arith
@@ -44,16 +48,17 @@ loop-less c = omega arith
 loop-again : tie.Need-loop-again Inv-loop μ-loop
 loop-again c =
     let l = c .before .before .before .before .before in
-    let d = c .before .before .before .before .before .before .before .args .d .now in
+    let next = c .before .before .before .sibling-at .ensures in
+    let d = l .before .before .args .d .now in
     let at = l .loop .inv .2 in
     let same = l .loop .inv .5 in
     let room : 3072 ≤ length (l .loop .t) = omega arith in (
-      c .after-tree .ensures .1,
+      next .within,
       omega arith,
-      fill-rest (l .loop .n) _ _ at d (l .loop .y) _ refl (c .after-tree .ensures .0),
-      fill-differ (l .loop .n) _ _ at (l .loop .inv .3) (sym (c .before .before .put .ensures .0) ∙ c .before .if1 .left),
-      fill-held (l .loop .n) _ _ at _ _ room (c .before .before .put .ensures .1) (l .loop .inv .4),
-      put-length _ _ _ (c .before .before .put .ensures .1) ∙ same,
+      fill-rest (l .loop .n) _ _ at d (l .loop .y) _ refl (next .after),
+      fill-differ (l .loop .n) _ _ at (l .loop .inv .3) (sym (c .before .put .ensures .0) ∙ c .if1 .left),
+      fill-held (l .loop .n) _ _ at _ _ room (c .before .put .ensures .1) (l .loop .inv .4),
+      put-length _ _ _ (c .before .put .ensures .1) ∙ same,
     )
 
 returns-2 : tie.Need-returns-2 Inv-loop μ-loop
@@ -66,9 +71,9 @@ fill-spec =
     Inv-loop
     μ-loop
     loop-holds
+    sibling-at-requires
     put-requires
     returns
-    after-tree-requires
     add-n
     loop-less
     loop-again

@@ -17,7 +17,7 @@ element-copy-out-if1 : tie.Need-element-copy-out-if1
 element-copy-out-if1 c = search needs
 
 returns : tie.Need-returns
-returns c = sym (free-other _ _ _ _ (c .before .before .before .key-at .ensures) (c .before .before .slot-of .ensures .0) (c .if1 .taken) _ (c .before .before .before .before .before .pre .3))
+returns c = sym (free-other _ _ _ _ (c .before .before .before .key-at .ensures) (c .before .before .slot-of .ensures .0) (c .if1 .taken) _ (c .before .before .before .before .before .pre .4))
 
 has-name-requires : tie.Need-has-name-requires
 has-name-requires c κs = search needs

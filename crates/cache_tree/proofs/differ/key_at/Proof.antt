@@ -1,12 +1,10 @@
-use Rattle.cache_tree.proofs.Siblings.{name-at}
-use Rattle.tree_table.specs.Keys.{keyIn}
+-- The proof that `key_at` meets its contract.
 use mathlib.Core.Path.{ap, _∙_}
+use native.Mathlib.Omega.{arith}
+use Rattle.tree_table.specs.Keys.{keyIn}
 use borrow.Author.Needs.{needs}
 use Rattle.cache_tree.proofs.differ.key_at.Statement.{statement}
 use Rattle.cache_tree.proofs.differ.key_at.Tie as tie
-
-find-requires : tie.Need-find-requires
-find-requires c κs = search needs
 
 sub-key-of : tie.Need-sub-key-of
 sub-key-of c = search needs
@@ -21,9 +19,7 @@ key-of-requires : tie.Need-key-of-requires
 key-of-requires c κs = search needs
 
 returns : tie.Need-returns
-returns c = c .key-of .ensures .0 ∙ ap (keyIn (c .before .before .before .before .args .t .now)) (name-at _ _ _ (c .before .before .find .ensures .0))
+returns c = c .key-of .ensures .0 ∙ ap (keyIn _) (c .before .before .before .pre .name)
 
 pub key-at-spec : {M : Type 1} → statement M
-key-at-spec =
-    tie.close
-    (tie.spec find-requires sub-key-of part-key-of-start part-key-of-end key-of-requires returns)
+key-at-spec = tie.close (tie.spec sub-key-of part-key-of-start part-key-of-end key-of-requires returns)

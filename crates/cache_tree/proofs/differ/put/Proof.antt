@@ -26,7 +26,7 @@ returns : tie.Need-returns
 returns c =
     let key = c .before .before .before .before .key-at .ensures in
     let slot = c .before .before .slot-of .ensures .0 in
-    (sym (free-other _ _ _ _ key slot (c .if1 .taken) _ (c .before .before .before .before .before .before .before .pre .3)), put-new _ _ _ _ key slot (c .if1 .taken))
+    (sym (free-other _ _ _ _ key slot (c .if1 .taken) _ (c .before .before .before .before .before .before .before .pre .4)), put-new _ _ _ _ key slot (c .if1 .taken))
 
 has-name-requires : tie.Need-has-name-requires
 has-name-requires c κs = search needs

@@ -2,7 +2,7 @@
 use mathlib.Core.Path.{ap₂, _∙_}
 use borrow.Author.Needs.{needs}
 use Rattle.format.specs.Bytes.{eqList}
-use Rattle.cache_tree.proofs.Siblings.{name-at}
+use Rattle.tree_nodes.proofs.Trees.{name-is}
 use Rattle.cache_tree.proofs.differ.same_at.Statement.{statement}
 use Rattle.cache_tree.proofs.differ.same_at.Tie as tie
 
@@ -34,7 +34,7 @@ same-requires : tie.Need-same-requires
 same-requires c κs = search needs
 
 returns : tie.Need-returns
-returns c = c .same .ensures ∙ ap₂ eqList (name-at _ _ _ (c .before .before .before .before .find .ensures .0)) (name-at _ _ _ (c .before .before .before .find2 .ensures .0))
+returns c = c .same .ensures ∙ ap₂ eqList (name-is _ _ _ (c .before .before .before .before .find .ensures .0)) (name-is _ _ _ (c .before .before .before .find2 .ensures .0))
 
 pub same-at-spec : {M : Type 1} → statement M
 same-at-spec =

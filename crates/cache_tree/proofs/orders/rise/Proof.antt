@@ -1,4 +1,5 @@
-use Rattle.cache_tree.proofs.Siblings.{name-at, still-same, still-other}
+use Rattle.cache_tree.proofs.Siblings.{still-same, still-other}
+use Rattle.tree_nodes.proofs.Trees.{name-is}
 use Rattle.cache_tree.specs.Orders.{slashBelow, lengthBelow}
 use mathlib.Core.Bool.{true, false}
 use mathlib.Core.Path.{ap₂, _∙_}
@@ -45,8 +46,8 @@ length-below-requires c κs = search needs
 returns-2 : tie.Need-returns-2
 returns-2 c =
     let d = c .before .before .before .before .before .before .before .before .before .before .before .args .d .now in
-    let s = name-at d _ _ (c .before .before .before .before .before .before .before .before .find .ensures .0) in
-    let t = name-at d _ _ (c .before .before .before .before .before .before .before .find2 .ensures .0) in
+    let s = name-is d _ _ (c .before .before .before .before .before .before .before .before .find .ensures .0) in
+    let t = name-is d _ _ (c .before .before .before .before .before .before .before .find2 .ensures .0) in
     let other = c .before .before .before .before .before .before .before .before .before .if1 .left in
     (still-other false d _ _ _ other _ (c .before .before .before .slash-below .ensures ∙ ap₂ slashBelow s t), still-other true d _ _ _ other _ (c .before .before .length-below .ensures ∙ ap₂ lengthBelow s t))
 

@@ -4,7 +4,7 @@ use Prim.Native.Nat.{ℕ}
 use native.Mathlib.Omega.{arith}
 use borrow.Author.Needs.{needs}
 use Rattle.format_laws.proofs.Lists.{eq-eqList}
-use Rattle.tree_search.proofs.Siblings.{name-is}
+use Rattle.tree_nodes.proofs.Trees.{name-is}
 use Rattle.tree_search.proofs.cursors.order_at.Statement.{statement}
 use Rattle.tree_search.proofs.cursors.order_at.Tie as tie
 

@@ -1,7 +1,7 @@
 -- The proof that `key_at` meets its contract.
 use mathlib.Core.Path.{ap, _∙_}
 use Rattle.tree_table.specs.Keys.{keyIn}
-use Rattle.tree_search.proofs.Siblings.{name-is}
+use Rattle.tree_nodes.proofs.Trees.{name-is}
 use borrow.Author.Needs.{needs}
 use Rattle.tree_search.proofs.table.key_at.Statement.{statement}
 use Rattle.tree_search.proofs.table.key_at.Tie as tie

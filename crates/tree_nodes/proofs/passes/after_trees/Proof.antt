@@ -1,4 +1,4 @@
--- The proof that `after_tree` meets its contract. The loop keeps the place after the tree. Each node takes a byte or more, so the
+-- The proof that `after_trees` meets its contract. The loop keeps the place after the trees. Each node takes a byte or more, so the
 -- nodes that are still to pass stay far below 2 ^ 64.
 use mathlib.Core.Path.{_≡_, refl, sym, _∙_}
 use Prim.Native.Nat.{_+_, _*_, _-_, _≤_}
@@ -8,14 +8,14 @@ use lib.ListN.{length, drop}
 use Rattle.tree_nodes.specs.Flat.{treesLength}
 use Rattle.tree_nodes.proofs.Nodes.{NodeIs, node-is}
 use Rattle.tree_nodes.proofs.Flat.{trees-end, trees-more, trees-stop}
-use Rattle.tree_nodes.proofs.passes.after_tree.Statement.{statement}
-use Rattle.tree_nodes.proofs.passes.after_tree.Tie as tie
+use Rattle.tree_nodes.proofs.passes.after_trees.Statement.{statement}
+use Rattle.tree_nodes.proofs.passes.after_trees.Tie as tie
 
 abbrev Inv-loop : tie.InvT-loop
-Inv-loop d at place₀ pending₀ place pending = (at ≤ place) × (place ≤ length d) × (pending ≤ 1 + (place - at) * 4294967296) × (at + treesLength 1 (drop at d) ≡ place + treesLength pending (drop place d))
+Inv-loop d at k place₀ pending₀ place pending = (at ≤ place) × (place ≤ length d) × (pending ≤ (1 + (place - at)) * 4294967296) × (at + treesLength k (drop at d) ≡ place + treesLength pending (drop place d))
 
 abbrev μ-loop : tie.MeasureT-loop
-μ-loop d at place₀ pending₀ place pending = length d - place
+μ-loop d at k place₀ pending₀ place pending = length d - place
 
 loop-holds : tie.Need-loop-holds Inv-loop μ-loop
 loop-holds c = (omega arith, omega arith, omega arith, refl)
@@ -70,8 +70,8 @@ loop-again c =
 returns-2 : tie.Need-returns-2 Inv-loop μ-loop
 returns-2 c = (sym (c .before .loop .inv .3 ∙ trees-end _ _ _ (c .loop-test .left)), c .before .loop .inv .1)
 
-pub after-tree-spec : {M : Type 1} → statement M
-after-tree-spec =
+pub after-trees-spec : {M : Type 1} → statement M
+after-trees-spec =
     tie.close
     (tie.spec
     Inv-loop
