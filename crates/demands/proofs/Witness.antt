@@ -23,7 +23,7 @@ use Rattle.format.specs.Places.{entryPlace, namePlace, entryNamePlace, dataFrom
 use Rattle.format.proofs.Cases.{a-b, a/b, a/c}
 use Rattle.format.specs.Records.{Records, Entry, modeOf, Key, valid, Node, nil, tree, Undo, width, items, treeItems}
 use Rattle.format.specs.Writer.{needsWord, writePlain, writePacked, writeName, writeRest, writeEntry, writeEntries, digitsOf, decimalOf, writeCount, writeObject, writeNode, writeForest, writeTree, writeStage, writeUndo, writeUndos, writeExtension, writeCacheTree, writeResolveUndo, writeExtensions, writeHeader, writeBody, writeFile}
-use Rattle.format.specs.Requests.{goesBefore, sameKey, putEntry, removeEntry, holds, invalidNode, invalidWay, invalidTree, invalidCacheTree, putRecord, removeRecord, anyWord, okAsked, versionFor, fitting, writing, rewriteRequest, putRequest, removeRequest}
+use Rattle.format.specs.Requests.{goesBefore, sameKey, putEntry, removeEntry, holds, invalidNode, invalidPath, invalidTree, invalidCacheTree, putRecord, removeRecord, anyWord, okAsked, versionFor, fitting, writing, rewriteRequest, putRequest, removeRequest}
 use Rattle.format_laws.proofs.Tests.{and-inv}
 use Rattle.answers.specs.declared.Summary.{Summary}
 use Rattle.answers.specs.declared.Count.the-variants.{Absent, Present}
@@ -38,7 +38,7 @@ work = replicate 8192 0
 
 -- what the closed cases look through, said once: where this unfolds, all that its line names does
 closed : Bool
-unfolding work word bytes4 words be64 padded pad quarter f K H0 nextWord extended schedule round rounds chain block absorb digest sha1 put16 put32 put32s putN be16 be32 be32s two eqList before lacks zeros digits decimal valueFrom value componentsFrom components okComponent okComponents okName lengthField compare common modeOf width items treeItems okMode fixedLength entryLength flagsOf wordOf okNodeName has distinct under inside files allValid sum okCount okCounts okTreeCounts modeText someStage optional trees undos names need shift bind isSet okWord plainLength readPlain readN joined readSuffix readPacked readName entryOf readTail readFixed readEntry readEntries readText countIn needSome readCount readSubtrees readObject readNode readSiblings readForest readNodes readTree modeIn readMode readStage readStages readUndo readUndos readData readExtension readExtensions readBody readFile needsWord writePlain writePacked writeName writeRest writeEntry writeEntries digitsOf decimalOf writeCount writeObject writeNode writeForest writeTree writeStage writeUndo writeUndos writeExtension writeCacheTree writeResolveUndo writeExtensions writeHeader writeBody writeFile goesBefore sameKey putEntry removeEntry holds invalidNode invalidWay invalidTree invalidCacheTree putRecord removeRecord anyWord okAsked versionFor fitting writing rewriteRequest putRequest removeRequest tooSmall inRoom checkAnswer entryAnswer nodeAnswer undoAnswer rewriteAnswer putAnswer removeAnswer
+unfolding work word bytes4 words be64 padded pad quarter f K H0 nextWord extended schedule round rounds chain block absorb digest sha1 put16 put32 put32s putN be16 be32 be32s two eqList before lacks zeros digits decimal valueFrom value componentsFrom components okComponent okComponents okName lengthField compare common modeOf width items treeItems okMode fixedLength entryLength flagsOf wordOf okNodeName has distinct under inside files allValid sum okCount okCounts okTreeCounts modeText someStage optional trees undos names need shift bind isSet okWord plainLength readPlain readN joined readSuffix readPacked readName entryOf readTail readFixed readEntry readEntries readText countIn needSome readCount readSubtrees readObject readNode readSiblings readForest readNodes readTree modeIn readMode readStage readStages readUndo readUndos readData readExtension readExtensions readBody readFile needsWord writePlain writePacked writeName writeRest writeEntry writeEntries digitsOf decimalOf writeCount writeObject writeNode writeForest writeTree writeStage writeUndo writeUndos writeExtension writeCacheTree writeResolveUndo writeExtensions writeHeader writeBody writeFile goesBefore sameKey putEntry removeEntry holds invalidNode invalidPath invalidTree invalidCacheTree putRecord removeRecord anyWord okAsked versionFor fitting writing rewriteRequest putRequest removeRequest tooSmall inRoom checkAnswer entryAnswer nodeAnswer undoAnswer rewriteAnswer putAnswer removeAnswer
 closed = true
 
 room : tooSmall work ≡ false

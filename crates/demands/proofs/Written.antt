@@ -14,10 +14,10 @@ use Rattle.answers.specs.Answers.{tooSmall, inRoom}
 use Rattle.answers.specs.Writing.{requested, rewriteAnswer, putAnswer, removeAnswer, outputAfter}
 use Rattle.format_laws.proofs.Readings.{bad-good}
 use Rattle.answers.proofs.Laws.{room-small, room-large}
-use Rattle.writing.specs.Sound.{Sound}
+use Rattle.writing.specs.Sound.{SoundRecords}
 use Rattle.writing.specs.OneFile.{OneFile, WritesBack}
 use Rattle.writing.proofs.File.{read-sound}
-use Rattle.writing.proofs.Answers.{Answered, answered-one, rewrite-answers, put-answers, remove-answers}
+use Rattle.writing.proofs.Answers.{FileAnswered, answered-one, rewrite-answers, put-answers, remove-answers}
 use Rattle.demands.proofs.Statements.{rewrite, put, remove}
 
 pub filled : (out bytes : List ℕ) (n : ℕ) → n ≡ length bytes
@@ -27,7 +27,7 @@ filled out bytes n e = (take-at bytes (drop n out) n (sym e), drop-at bytes (dro
 module _ (w : ℕ) (hash : List ℕ → List ℕ) (work : List ℕ) (width : (b : List ℕ) → length (hash b) ≡ w) (f : List ℕ) (asked most : ℕ) (is : Bytes f) where
   -- a request of the records that were read, where what it answers is the one file of the changed records
   back : (ask : Records → Read (List ℕ)) (change : Records → Records)
-      → ((r : Records) (bytes : List ℕ) (n : ℕ) → Sound w r → ask r ≡ good bytes n → Answered w hash (versionFor asked (change r .entries)) (change r) most bytes n)
+      → ((r : Records) (bytes : List ℕ) (n : ℕ) → SoundRecords w r → ask r ≡ good bytes n → FileAnswered w hash (versionFor asked (change r .entries)) (change r) most bytes n)
       → WritesBack w hash f asked change (requested (inRoom work (readFile w hash f)) ask)
   back ask change law = record {
     result = λ c m bytes n e. by c m bytes n e (tooSmall work) refl;

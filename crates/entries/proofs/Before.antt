@@ -19,7 +19,7 @@ use Rattle.entries.specs.declared.Head.{Head}
 use Rattle.entries.specs.declared.Fixed.{Fixed}
 use Rattle.entries.specs.declared.Fixed.the-variants as F
 use Rattle.entries.specs.Answers.{readHead, fixedOf, Size, HeadPassed}
-use Rattle.entries.proofs.Reading.{Kept, kept-need, kept-cond, Alike, alike-need, alike-cond, enough, cut}
+use Rattle.entries.proofs.Reading.{AnswerKept, kept-need, kept-cond, SameAnswer, alike-need, alike-cond, enough, cut}
 
 -- an entry is what stands before its name, and the rest
 pub readEntry-head : (w v : ℕ) (k : Key) (p : ℕ) (s : List ℕ)
@@ -31,15 +31,15 @@ headRead : ℕ → Fixed → Read Head
 headRead p (F.Bad n) = bad n p
 headRead p (F.Good h) = good h (h .length)
 
-head-bad : (n p : ℕ) → Kept fixedOf (headRead p) (bad n p)
+head-bad : (n p : ℕ) → AnswerKept fixedOf (headRead p) (bad n p)
 unfolding fixedOf headRead
 head-bad n p = record { same = refl }
 
-head-good : (p : ℕ) (h : Head) → Kept fixedOf (headRead p) (good h (h .length))
+head-good : (p : ℕ) (h : Head) → AnswerKept fixedOf (headRead p) (good h (h .length))
 unfolding fixedOf headRead
 head-good p h = record { same = refl }
 
-head-kept : (w v p : ℕ) (s : List ℕ) → Kept fixedOf (headRead p) (readHead w v p s)
+head-kept : (w v p : ℕ) (s : List ℕ) → AnswerKept fixedOf (headRead p) (readHead w v p s)
 unfolding readHead
 head-kept w v p s =
     kept-need _ (head-bad 6 p)
@@ -97,7 +97,7 @@ module _ (s : List ℕ) (x : ℕ) (flags : x ≡ be16 s 60) where
 pub head-size : (v p : ℕ) (s : List ℕ) (h : Head) → fixedOf (readHead 20 v p s) ≡ F.Good h → Size s h
 head-size v p s h e = head-inv v p s h e (λ set longer is. rw (← is) (size-set s _ refl _ set)) (λ clear is. rw (← is) (size-clear s _ refl clear))
 
-head-bads : (n p q : ℕ) → Alike fixedOf (bad n p) (bad n q)
+head-bads : (n p q : ℕ) → SameAnswer fixedOf (bad n p) (bad n q)
 unfolding fixedOf
 head-bads n p q = record { same = refl }
 
@@ -105,7 +105,7 @@ head-bads n p q = record { same = refl }
 pub head-place : (w v p q : ℕ) (s : List ℕ) → fixedOf (readHead w v p s) ≡ fixedOf (readHead w v q s)
 unfolding readHead
 head-place w v p q s =
-    let same : Alike fixedOf (readHead w v p s) (readHead w v q s) =
+    let same : SameAnswer fixedOf (readHead w v p s) (readHead w v q s) =
     alike-need _ (head-bads 6 p q)
     (alike-need _ (head-bads 7 p q)
     (alike-need _ (head-bads 8 p q)

@@ -28,9 +28,9 @@ Added b at found f (resolveUndo us) = (found .undo .there ≡ false) × UndoIs b
 Added b at found f (other s d) = f ≡ found
 
 -- the reading x of the extension at a place, answered
-abbrev pub Answered : List ℕ → ℕ → Found → Read Extension → One → Type 0
-Answered b at found x (O.Bad n) = x ≡ bad n at
-Answered b at found x (O.Good next f) = (e : Extension) × (x ≡ good e (next - at)) × Added b at found f e
+abbrev pub OneAnswered : List ℕ → ℕ → Found → Read Extension → One → Type 0
+OneAnswered b at found x (O.Bad n) = x ≡ bad n at
+OneAnswered b at found x (O.Good next f) = (e : Extension) × (x ≡ good e (next - at)) × Added b at found f e
 
 -- the place after it is in the body
 abbrev pub OneInside : List ℕ → ℕ → One → Type 0
@@ -38,8 +38,8 @@ OneInside b at (O.Bad n) = Unit
 OneInside b at (O.Good next f) = Inside b at next
 
 -- what a function leaves behind that reads the extension at a place as read does of the entries' names
-pub record Passed (read : List (List ℕ) → Read Extension) (v count : ℕ) (b work : List ℕ) (at : ℕ) (found : Found) (work′ : List ℕ) (r : One) : Type 0 where
-  pub answered : (es : List Entry) (m : ℕ) → EntriesRead v count b es m → Answered b at found (read (names es)) r
+pub record ExtensionPassed (read : List (List ℕ) → Read Extension) (v count : ℕ) (b work : List ℕ) (at : ℕ) (found : Found) (work′ : List ℕ) (r : One) : Type 0 where
+  pub answered : (es : List Entry) (m : ℕ) → EntriesRead v count b es m → OneAnswered b at found (read (names es)) r
   pub inside : OneInside b at r
   pub frame : Frame work work′
 
@@ -59,7 +59,7 @@ AllAnswered b at x (E.Bad n p) = x ≡ bad n p
 AllAnswered b at x (E.Good f) = Whole b at x f
 
 -- what the reading of all extensions from a place on leaves behind
-pub record Ran (v count : ℕ) (b work : List ℕ) (at : ℕ) (work′ : List ℕ) (r : Extended) : Type 0 where
+pub record ExtensionsPassed (v count : ℕ) (b work : List ℕ) (at : ℕ) (work′ : List ℕ) (r : Extended) : Type 0 where
   pub answered : (es : List Entry) (m : ℕ) → EntriesRead v count b es m
       → AllAnswered b at (readExtensions 20 (names es) (length (drop at b)) noneSeen at (drop at b)) r
   pub frame : Frame work work′

@@ -7,7 +7,7 @@ ghost use Rattle.format.specs.Reader.{readTree, readExtension};
 ghost use Rattle.entries_run.specs.Steps.{Room};
 ghost use Rattle.extensions.specs.Heads.{part, undosIn, known, Headed, Inside};
 ghost use Rattle.extensions.specs.Found.{nothing, seenOf};
-ghost use Rattle.extensions.specs.Steps.{Answered, OneInside, Passed, Ran};
+ghost use Rattle.extensions.specs.Steps.{OneAnswered, OneInside, ExtensionPassed, ExtensionsPassed};
 use cache_tree::TreeRead;
 use resolve_undo::RecordsRead;
 use tree_check::counts::counts_ok;
@@ -108,7 +108,7 @@ fn none_found() -> Found
 // The resolve-undo extension at a place, whose data end at end.
 fn add_undo(b: &[u8], at: usize, end: usize, found: Found) -> One
     requires { ⌜ Inside (now b) at end × (length (now b) ≤ 16777216) ⌝ }
-    ensures { λ r. ⌜ Answered (now (b .entry)) at found (known (found .undo .there) at (undosIn at (part (now (b .entry)) (at + 8) end)) resolveUndo) r × OneInside (now (b .entry)) at r ⌝ }
+    ensures { λ r. ⌜ OneAnswered (now (b .entry)) at found (known (found .undo .there) at (undosIn at (part (now (b .entry)) (at + 8) end)) resolveUndo) r × OneInside (now (b .entry)) at r ⌝ }
 {
     if found.undo.there {
         return One::Bad(14);
@@ -144,7 +144,7 @@ fn add_tree(
     work: &mut [u8],
 ) -> One
     requires { ⌜ Inside (now b) at end × Room (now b) (now work) ⌝ }
-    ensures { λ r. ⌜ Passed (λ ns. known (found .tree .there) at (readTree 20 ns at (part (now (b .entry)) (at + 8) end)) cacheTree) v count (now (b .entry)) (now (work .entry)) at found (now (work .exit)) r ⌝ }
+    ensures { λ r. ⌜ ExtensionPassed (λ ns. known (found .tree .there) at (readTree 20 ns at (part (now (b .entry)) (at + 8) end)) cacheTree) v count (now (b .entry)) (now (work .entry)) at found (now (work .exit)) r ⌝ }
 {
     if found.tree.there {
         return One::Bad(14);
@@ -178,7 +178,7 @@ fn add_tree(
 // The extension at a place.
 fn read_extension(b: &[u8], at: usize, found: Found, v: u32, count: u32, work: &mut [u8]) -> One
     requires { ⌜ (at ≤ length (now b)) × Room (now b) (now work) ⌝ }
-    ensures { λ r. ⌜ Passed (λ ns. readExtension 20 ns (seenOf found) at (drop at (now (b .entry)))) v count (now (b .entry)) (now (work .entry)) at found (now (work .exit)) r ⌝ }
+    ensures { λ r. ⌜ ExtensionPassed (λ ns. readExtension 20 ns (seenOf found) at (drop at (now (b .entry)))) v count (now (b .entry)) (now (work .entry)) at found (now (work .exit)) r ⌝ }
 {
     let head = read_head(b, at);
     match head {
@@ -192,7 +192,7 @@ fn read_extension(b: &[u8], at: usize, found: Found, v: u32, count: u32, work: &
 // All extensions of a body, from a place on. v and count are the version and the number of entries.
 pub fn read_extensions(b: &[u8], at: usize, v: u32, count: u32, work: &mut [u8]) -> Extended
     requires { ⌜ (at ≤ length (now b)) × Room (now b) (now work) ⌝ }
-    ensures { λ r. ⌜ Ran v count (now (b .entry)) (now (work .entry)) at (now (work .exit)) r ⌝ }
+    ensures { λ r. ⌜ ExtensionsPassed v count (now (b .entry)) (now (work .entry)) at (now (work .exit)) r ⌝ }
 {
     let mut place = at;
     let mut found = none_found();

@@ -256,12 +256,12 @@ rest-other : (part s : List ℕ) (b : ℕ) → (b ≡ 0 → ⊥) → (b ≡ 47 �
 rest-other part s b z w = okRest-other part (b ∷ s) 0 (omega arith) z w
 
 -- q is sound as far as it goes: what follows decides, after being what was read of its component in hand
-record Passed (part q : List ℕ) : Type 0 where
+record BeginningPassed (part q : List ℕ) : Type 0 where
   after : List ℕ
   same : (s : List ℕ) → okRest part (q ++ s) ≡ okRest after s
 
 -- the beginning of what is sound is so
-passed : (part q rest : List ℕ) → okRest part (q ++ rest) ≡ true → Passed part q
+passed : (part q rest : List ℕ) → okRest part (q ++ rest) ≡ true → BeginningPassed part q
 passed part [] rest e = record { after = part; same = λ s. refl }
 passed part (b ∷ q) rest e =
     by-byte b

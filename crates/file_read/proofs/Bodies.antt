@@ -69,9 +69,9 @@ module _ (v : ℕ) (b : List ℕ) (count : ℕ) (counted : count ≡ be32 b 8) w
 
   -- after the run of entries, which ends at a place
   module _ (end : ℕ) (run : R.Good end ≡ runOf (readEntries 20 v count F.start 12 (drop 12 b))) (work work′ : List ℕ) where
-    pub body-refused : (n p : ℕ) → E.Ran v count b work end work′ (X.Bad n p) → readBody 20 v b ≡ bad n p
+    pub body-refused : (n p : ℕ) → E.ExtensionsPassed v count b work end work′ (X.Bad n p) → readBody 20 v b ≡ bad n p
     body-refused n p h = runOf-good _ end run λ es m e last. body-no-extensions es m e end last n p (h .answered es m e)
 
-    pub body-accepted : (found : Found) → 12 ≤ length b → length b ≤ 16777216 → E.Ran v count b work end work′ (X.Good found)
+    pub body-accepted : (found : Found) → 12 ≤ length b → length b ≤ 16777216 → E.ExtensionsPassed v count b work end work′ (X.Good found)
         → Contains (readBody 20 v b) b (record { version = v; count = count; end = end; found = found })
     body-accepted found least most h = runOf-good _ end run λ es m e last. body-contains es m e end last least most found (h .answered es m e)

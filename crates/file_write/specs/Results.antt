@@ -17,12 +17,12 @@ use Rattle.file_read.specs.declared.Parts.{Parts}
 use Rattle.entries_edit.specs.declared.Edit.{Edit}
 use Rattle.entries_edit.specs.declared.rest.WriteEnd.{WriteEnd}
 use Rattle.entries_edit.specs.Edits.{Replaces}
-use Rattle.file_write.specs.Bodies.{changed, Has}
+use Rattle.file_write.specs.Bodies.{changed, BodyHas}
 
 -- how long the body of a version is with an edit, and whether an entry needs the extended word; e is what is put
 pub record Measured (b : List ℕ) (parts : Parts) (work : List ℕ) (edit : Edit) (e : Entry) (version : ℕ) (work′ : List ℕ) (r : WriteEnd) : Type 0 where
-  pub size : (x : Records) → Has b parts x → Replaces edit (e .name) (x .entries) → r .at ≡ length (writeBody 20 version (changed edit e x))
-  pub extended : (x : Records) → Has b parts x → Replaces edit (e .name) (x .entries) → r .extended ≡ anyWord (changed edit e x .entries)
+  pub size : (x : Records) → BodyHas b parts x → Replaces edit (e .name) (x .entries) → r .at ≡ length (writeBody 20 version (changed edit e x))
+  pub extended : (x : Records) → BodyHas b parts x → Replaces edit (e .name) (x .entries) → r .extended ≡ anyWord (changed edit e x .entries)
   pub near : r .at ≤ 1125899906842624
   pub frame : Frame work work′
 
@@ -31,8 +31,8 @@ abbrev pub versionOf : ℕ → Bool → ℕ
 versionOf asked extended = cond (eqb asked 0) (cond extended 3 2) asked
 
 -- a version in which the body is as long as in the version for a request
-abbrev pub likeOf : ℕ → ℕ
-likeOf asked = cond (eqb asked 4) 4 3
+abbrev pub measuredVersion : ℕ → ℕ
+measuredVersion asked = cond (eqb asked 4) 4 3
 
 -- a request's answer x as the code gives it, and the output after it
 pub record Answers (x : Read (List ℕ)) (out out′ : List ℕ) (r : Written) : Type 0 where
@@ -41,6 +41,6 @@ pub record Answers (x : Read (List ℕ)) (out out′ : List ℕ) (r : Written) :
 
 -- the file for a request, with an edit; e is what is put
 pub record FileWritten (b : List ℕ) (parts : Parts) (work : List ℕ) (asked : ℕ) (edit : Edit) (e : Entry) (out work′ out′ : List ℕ) (r : Written) : Type 0 where
-  pub answers : (x : Records) → Has b parts x → Replaces edit (e .name) (x .entries)
+  pub answers : (x : Records) → BodyHas b parts x → Replaces edit (e .name) (x .entries)
       → Answers (writing 20 sha1 asked (length out) (changed edit e x)) out out′ r
   pub frame : Frame work work′

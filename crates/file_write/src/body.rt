@@ -12,7 +12,7 @@ ghost use Rattle.extensions.specs.Found.{TreeFound, UndoFound};
 ghost use Rattle.entries.specs.Record.{entryWith};
 ghost use Rattle.output.specs.Output.{Wrote};
 ghost use Rattle.entries_edit.specs.Edits.{passes};
-ghost use Rattle.file_write.specs.Bodies.{changes, treeAfter, countAfter, Differ, Ready, BodyWritten};
+ghost use Rattle.file_write.specs.Bodies.{changes, treeAfter, countAfter, SiblingsDiffer, WriteReady, BodyWritten};
 use entries::record::Fields;
 use entries_edit::Edit;
 use entries_edit::rest::WriteEnd;
@@ -69,23 +69,23 @@ fn put_head(out: &mut [u8], at: usize, signature: &[u8], size: u32) -> usize
     put_32(out, middle, size)
 }
 
-// The cache tree, made invalid on the way to a name or not. Its size is known once its data are written.
+// The cache tree, made invalid on the path to a name or not. Its size is known once its data are written.
 fn put_cache_tree(
     b: &[u8],
     tree: TreePlace,
-    way: bool,
+    touched: bool,
     name: &[u8],
     out: &mut [u8],
     at: usize,
 ) -> usize
-    requires { ⌜ (length (now b) ≤ 16777216) × (at < 562949953421304) × ((o : Option Tree) × TreeFound (now b) o tree × Differ o) ⌝ }
-    ensures { λ r. ⌜ ((o : Option Tree) → TreeFound (now (b .entry)) o tree → Differ o → Wrote (now (out .entry)) at (writeCacheTree (treeAfter way (now (name .entry)) o)) (now (out .exit)) r) × (r ≤ at + 16777224) × (length (now (out .exit)) ≡ length (now (out .entry))) ⌝ }
+    requires { ⌜ (length (now b) ≤ 16777216) × (at < 562949953421304) × ((o : Option Tree) × TreeFound (now b) o tree × SiblingsDiffer o) ⌝ }
+    ensures { λ r. ⌜ ((o : Option Tree) → TreeFound (now (b .entry)) o tree → SiblingsDiffer o → Wrote (now (out .entry)) at (writeCacheTree (treeAfter touched (now (name .entry)) o)) (now (out .exit)) r) × (r ≤ at + 16777224) × (length (now (out .exit)) ≡ length (now (out .entry))) ⌝ }
 {
     if tree.there {
         let from = tree.at;
         let end = tree.end;
         let content = at + 8;
-        let after = tree_write::put_tree(&b[from..end], way, name, &mut *out, content);
+        let after = tree_write::put_tree(&b[from..end], touched, name, &mut *out, content);
         put_head(out, at, b"TREE", (after - content) as u32);
         return after;
     }
@@ -117,7 +117,7 @@ pub fn put_body(
     version: u32,
     out: &mut [u8],
 ) -> WriteEnd
-    requires { ⌜ Ready (now b) (now work) parts edit fields (now name) ⌝ }
+    requires { ⌜ WriteReady (now b) (now work) parts edit fields (now name) ⌝ }
     ensures { λ r. ⌜ BodyWritten (now (b .entry)) parts (now (work .entry)) edit (entryWith fields (now (name .entry))) version (now (out .entry)) (now (work .exit)) (now (out .exit)) r ⌝ }
 {
     let start = put_header(&mut *out, version, count_after(edit, parts.count));

@@ -76,7 +76,7 @@ unfoldable pub afterUndo : Read Undo → (Undo → ℕ → ℕ) → ℕ
 afterUndo (bad n p) k = 0
 afterUndo (good u m) k = m + k u m
 
--- the place in s of record number k, counted from 0, where one of the path previous stands before s; 0 where a record on the way is refused
+-- the place in s of record number k, counted from 0, where one of the path previous stands before s; 0 where a record before it is refused
 unfoldable pub undoStart : ℕ → ℕ → ℕ → List ℕ → List ℕ → ℕ
 undoStart w p zero previous s = 0
 undoStart w p (suc k) previous s = afterUndo (readUndo w p previous s) (λ u m. undoStart w p k (u .path) (drop m s))

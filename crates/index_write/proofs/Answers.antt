@@ -29,7 +29,7 @@ use Rattle.file_read.specs.declared.Parts.{Parts}
 use Rattle.file_read.specs.Contents.{bodyOf, Contains}
 use Rattle.file_read.proofs.Room.{room-of, in-room, cleared-by}
 use Rattle.entries_edit.specs.declared.Edit.{Edit}
-use Rattle.file_write.specs.Bodies.{changed, Ready}
+use Rattle.file_write.specs.Bodies.{changed, WriteReady}
 use Rattle.file_write.specs.Results.{FileWritten}
 use Rattle.index_write.specs.Calls.{Writes, Opened, Planned, recordNumber}
 use Rattle.index_write.proofs.Files.{has-of, count-few}
@@ -147,7 +147,7 @@ module _ (f work work₁ : List ℕ) (clear : work₁ ≡ cleared work) where
 -- ---- an edit, written
 
 module _ (f work : List ℕ) (bytes : Bytes f) (parts : Parts) (edit : Edit) (fields : Fields) (name : List ℕ) (p : Planned f work parts edit fields name) where
-  pub edit-ready : Ready (bodyOf f) work parts edit fields name
+  pub edit-ready : WriteReady (bodyOf f) work parts edit fields name
   edit-ready =
       let h = p .opened .contains in
       record {

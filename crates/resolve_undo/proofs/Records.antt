@@ -104,10 +104,10 @@ place-end p at left previous d h = let none : left ≡ 0 = omega arith in rw non
 -- ---- the record at a place
 
 -- r is the record at the place at, after one of the path previous
-abbrev pub Told : ℕ → List ℕ → List ℕ → RecordRead → Type 0
-Told at previous d r = ((p : ℕ) → r ≡ recordRead at (readUndo 20 p previous (drop at d))) × RecordWithin at (length d) r
+abbrev pub IsRecordAt : ℕ → List ℕ → List ℕ → RecordRead → Type 0
+IsRecordAt at previous d r = ((p : ℕ) → r ≡ recordRead at (readUndo 20 p previous (drop at d))) × RecordWithin at (length d) r
 
-module _ (at : ℕ) (previous d : List ℕ) (r : RecordRead) (told : Told at previous d r) where
+module _ (at : ℕ) (previous d : List ℕ) (r : RecordRead) (told : IsRecordAt at previous d r) where
   -- it is refused
   module _ (e : r ≡ R.Bad) (p : ℕ) where
     pub refusal {ℓ} : {X : Type ℓ} → ((n m : ℕ) → readUndo 20 p previous (drop at d) ≡ bad n m → X) → X

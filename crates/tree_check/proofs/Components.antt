@@ -11,7 +11,7 @@ use Rattle.format.specs.Records.{Forest}
 use Rattle.format.specs.Layout.{distinct}
 use Rattle.format_laws.proofs.Texts.{lacks-end}
 use Rattle.entries_run.specs.Steps.{nameAt}
-use Rattle.tree_counts.specs.Judge.{child}
+use Rattle.tree_counts.specs.Counts.{child}
 use Rattle.tree_nodes.specs.Flat.{Reads}
 use Rattle.tree_search.specs.declared.child.Child.{Child}
 use Rattle.tree_search.specs.declared.child.Child.the-variants as C

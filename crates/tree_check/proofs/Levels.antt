@@ -15,8 +15,8 @@ use Rattle.format_laws.proofs.Tests.{by-test}
 use Rattle.format_laws.proofs.Readings.{none-some}
 use Rattle.tree_nodes.specs.Flat.{Reads}
 use Rattle.tree_nodes.proofs.Flat.{Levels, levels-none, levels-more}
-use Rattle.tree_counts.specs.Judge.{says, weight, child, judge, matched, Sound}
-use Rattle.tree_counts.specs.Runs.{Passed}
+use Rattle.tree_counts.specs.Counts.{says, weight, child, countsHold, matched, SoundForest}
+use Rattle.tree_counts.specs.Runs.{NamesPassed}
 use Rattle.entries_directory.specs.Names.{sortedFrom, begins, enter}
 use Rattle.tree_check.specs.declared.walk.Directory.{Directory}
 
@@ -41,7 +41,7 @@ child-levels _ c _ t (levels-more {l = l} {n = n} {kids = kids} {after = after} 
 -- the siblings f are in the data d, and the names in the directory are whole and those after them
 pub record Here (d : List ℕ) (level : ℕ) (dir : Directory) (f : Forest) (q : List ℕ) (whole : List (List ℕ)) : Type 0 where
   pub long : length q ≡ dir .q
-  pub sound : Sound f
+  pub sound : SoundForest f
   pub taken : ℕ
   pub reads : Reads (drop (dir .at) d) f (dir .k) taken
   pub levels : Levels (127 - level) f
@@ -50,7 +50,7 @@ pub record Here (d : List ℕ) (level : ℕ) (dir : Directory) (f : Forest) (q :
 
 -- below the directory q, of whose names done were passed, the one of the component c, whose node is the root of the tree t
 pub record Entrance (f : Forest) (q : List ℕ) (whole done : List (List ℕ)) (c x : List ℕ) (xs : List (List ℕ)) (t : Tree) (dir : Directory) : Type 0 where
-  pub passed : Passed f q whole done (x ∷ xs)
+  pub passed : NamesPassed f q whole done (x ∷ xs)
   pub in-it : begins q x ≡ true
   pub plain : lacks 47 c ≡ true
   pub part : under c (drop (length q) x) ≡ true
@@ -71,7 +71,7 @@ pub data Walking (d : List ℕ) (above : List Directory) (root : Directory) (f�
   at-root :
       {done : List (List ℕ)} {ok : Bool} {found : ℕ} →
       Here d 0 root f₀ [] all →
-      ok ≡ judge (root .valid) done f₀ →
+      ok ≡ countsHold (root .valid) done f₀ →
       found ≡ matched done f₀ →
       Walking d above root f₀ all 0 root f₀ [] all done ok found
   below :
@@ -80,7 +80,7 @@ pub data Walking (d : List ℕ) (above : List Directory) (root : Directory) (f�
       getD above level nowhere ≡ up →
       Entrance f q whole done c x xs t dir →
       Here d (suc level) dir (t .subtrees) (enter q c) (x ∷ xs) →
-      now-ok ≡ (ok && judge (dir .valid) now-done (t .subtrees)) →
+      now-ok ≡ (ok && countsHold (dir .valid) now-done (t .subtrees)) →
       now-found ≡ found + matched now-done (t .subtrees) →
       Walking d above root f₀ all (suc level) dir (t .subtrees) (enter q c) (x ∷ xs) now-done now-ok now-found
 
@@ -93,7 +93,7 @@ module _ (d : List ℕ) (root : Directory) (f₀ : Forest) (all : List (List ℕ
   -- one part more was passed
   pub walking-moved : (above : List Directory) (level : ℕ) (dir : Directory) (f : Forest) (q : List ℕ) (whole done : List (List ℕ)) (ok : Bool) (found : ℕ)
       → Walking d above root f₀ all level dir f q whole done ok found
-      → (now-done : List (List ℕ)) (holds now-ok : Bool) (n now-found : ℕ) → judge (dir .valid) now-done f ≡ (judge (dir .valid) done f && holds)
+      → (now-done : List (List ℕ)) (holds now-ok : Bool) (n now-found : ℕ) → countsHold (dir .valid) now-done f ≡ (countsHold (dir .valid) done f && holds)
       → matched now-done f ≡ matched done f + n → now-ok ≡ (ok && holds) → now-found ≡ found + n
       → Walking d above root f₀ all level dir f q whole now-done now-ok now-found
   walking-moved above _ _ _ _ _ done ok found (at-root here o s) now-done holds now-ok n now-found j m i l =
@@ -102,7 +102,7 @@ module _ (d : List ℕ) (root : Directory) (f₀ : Forest) (all : List (List ℕ
   walking-moved above _ dir _ _ _ done ok found (below {t = t} {ok = up-ok} {found = up-found} w g e here o s) now-done holds now-ok n now-found j m i l =
       let sum : now-found ≡ up-found + matched now-done (t .subtrees) = omega (arith, s, m, l) in
       below w g e here
-      (i ∙ ap (λ (y : Bool). y && holds) o ∙ and-assoc up-ok (judge (dir .valid) done (t .subtrees)) holds ∙ ap (λ (y : Bool). up-ok && y) (sym j))
+      (i ∙ ap (λ (y : Bool). y && holds) o ∙ and-assoc up-ok (countsHold (dir .valid) done (t .subtrees)) holds ∙ ap (λ (y : Bool). up-ok && y) (sym j))
       sum
 
   -- a directory is held on a level further down

@@ -16,7 +16,7 @@ use Rattle.entries_directory.specs.declared.Front.{Front}
 use Rattle.entries_directory.specs.Ahead.{FrontFits}
 use Rattle.entries_directory.proofs.Ahead.{stays-some, stays-long}
 use Rattle.tree_check.specs.declared.walk.Directory.{Directory}
-use Rattle.tree_check.specs.Steps.{entered, Ready, PartPassed, PartEntered}
+use Rattle.tree_check.specs.Steps.{entered, WalkReady, PartPassed, PartEntered}
 use Rattle.tree_check.proofs.Levels.{nowhere}
 use Rattle.tree_check.proofs.Turns.{turns, turns-most, turns-passed, turns-entered, turns-left}
 use Rattle.tree_check.proofs.Walks.{inDirectory}
@@ -41,7 +41,7 @@ pub record Looping (d b work₀ : List ℕ) (above : List Directory) (work : Lis
   pub sum : found + turns (s .ahead) (dir .ahead) level ≤ 8796093022208
   pub frame : Frame work₀ work
 
-pub loop-start : (d b work : List ℕ) (above : List Directory) (root : Directory) (s : Front) → Ready d root b work s → root .ahead ≡ s .ahead → length above ≡ 128
+pub loop-start : (d b work : List ℕ) (above : List Directory) (root : Directory) (s : Front) → WalkReady d root b work s → root .ahead ≡ s .ahead → length above ≡ 128
     → Looping d b work above work 0 root s 0
 loop-start d b work above root s ready same levels = record {
   levels = levels;
@@ -59,7 +59,7 @@ loop-start d b work above root s ready same levels = record {
 }
 
 module _ (d b work₀ : List ℕ) (above : List Directory) (work : List ℕ) (level : ℕ) (dir : Directory) (s : Front) (found : ℕ) (h : Looping d b work₀ above work level dir s found) where
-  pub loop-ready : inDirectory dir s ≡ true → Ready d dir b work s
+  pub loop-ready : inDirectory dir s ≡ true → WalkReady d dir b work s
   loop-ready on =
       let first : (1 ≤ s .ahead) × (dir .q ≤ s .cursor .len) =
       or-inv (eqb (s .ahead) (dir .ahead)) (ltb 0 (s .ahead) && leb (dir .q) (s .common)) on

@@ -14,7 +14,7 @@ use Rattle.tree_nodes.specs.declared.node.NodeRead.the-variants as R
 use Rattle.tree_nodes.specs.Answers.{nodeAt}
 use Rattle.tree_nodes.specs.Flat.{Reads}
 use Rattle.entries_run.specs.Steps.{nameAt}
-use Rattle.tree_counts.specs.Judge.{Sound}
+use Rattle.tree_counts.specs.Counts.{SoundForest}
 use Rattle.entries_directory.specs.Names.{enter}
 use Rattle.entries_directory.proofs.Directory.{component-lacks, component-under}
 use Rattle.entries_directory.specs.declared.Front.{Front}
@@ -23,7 +23,7 @@ use Rattle.tree_check.specs.declared.look.Look.the-variants as L
 use Rattle.tree_check.specs.declared.walk.Directory.{Directory}
 use Rattle.entries_directory.specs.Ahead.{Ahead, File, FrontPassed, FrontPassedFiles}
 use Rattle.tree_check.specs.Components.{component, Component, Looked, LookedUp}
-use Rattle.tree_check.specs.Steps.{Ready, PartPassed}
+use Rattle.tree_check.specs.Steps.{WalkReady, PartPassed}
 use Rattle.tree_nodes.proofs.Trees.{no-bad}
 use Rattle.entries_directory.proofs.Ahead.{fits-end}
 use Rattle.tree_check.proofs.Steps.{moved-files, part-in, moved-missing}
@@ -46,12 +46,12 @@ module _ (p x : List ℕ) (e : ℕ) (is : Component (length p) x e) where
 module _ (d : List ℕ) (dir : Directory) (b : List ℕ) (v : ℕ) (work : List ℕ) (s : Front) where
   -- what was found, of the name x in the directory p
   pub looked : (r : Look) → LookedUp d (dir .at) (dir .k) (nameAt v b work (s .cursor .start) (s .cursor .len)) (s .cursor .len) (dir .q) r
-      → (f : Forest) (m : ℕ) → Sound f → Reads (drop (dir .at) d) f (dir .k) m
+      → (f : Forest) (m : ℕ) → SoundForest f → Reads (drop (dir .at) d) f (dir .k) m
       → (p x : List ℕ) (xs : List (List ℕ)) → Ahead v b work s x xs → length p ≡ dir .q
       → Looked d f (length p) x r
   looked r look f m sound reads p x xs ahead e = rw (← (ahead .name), e) (look .is f m (sound .differ) reads)
 
-  module _ (work′ : List ℕ) (ready : Ready d dir b work s) where
+  module _ (work′ : List ℕ) (ready : WalkReady d dir b work s) where
     pub part-files : LookedUp d (dir .at) (dir .k) (nameAt v b work (s .cursor .start) (s .cursor .len)) (s .cursor .len) (dir .q) L.File
         → (r : Front) → FrontPassedFiles v b work s (dir .q) work′ r → PartPassed d dir b v work s work′ true r
     part-files look r went = record {
@@ -86,5 +86,5 @@ module _ (d : List ℕ) (dir : Directory) (b : List ℕ) (v : ℕ) (work : List 
       frame = frame-same work;
       moved = λ f m sound reads p x xs ahead i n whole done passed.
           let (is, found) = looked (L.Found e place) look f m sound reads p x xs ahead n in
-          absurd (no-bad place (found .stands .own) _ _ (found .stands .node) bad-node);
+          absurd (no-bad place (found .tree .own) _ _ (found .tree .node) bad-node);
     }

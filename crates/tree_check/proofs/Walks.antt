@@ -16,9 +16,9 @@ use Rattle.format_laws.proofs.Tests.{by-test, false-true, or-inv}
 use Rattle.format_laws.proofs.Lists.{drop-to}
 use Rattle.tree_nodes.proofs.Flat.{Levels, forest-shape}
 use Rattle.tree_nodes.proofs.Trees.{NodeAt, node-at, reads-at}
-use Rattle.tree_counts.specs.Judge.{says, weight, judge, matched, Sound}
-use Rattle.tree_counts.specs.Runs.{Passed}
-use Rattle.tree_counts.proofs.Walk.{child-sound, judge-start, matched-start}
+use Rattle.tree_counts.specs.Counts.{says, weight, countsHold, matched, SoundForest}
+use Rattle.tree_counts.specs.Runs.{NamesPassed}
+use Rattle.tree_counts.proofs.Walk.{child-sound, counts-hold-start, matched-start}
 use Rattle.tree_counts.proofs.Runs.{passed-start, passed-end}
 use Rattle.entries_run.proofs.Steps.{entries-length}
 use Rattle.entries_directory.specs.Names.{sortedFrom, begins, leads, span, beyond, within, enter}
@@ -63,7 +63,7 @@ pub data Position (v : ℕ) (b work : List ℕ) (s : Front) (dir : Directory) (f
   later :
       {last : List ℕ} {whole done rest : List (List ℕ)} →
       s .ahead < dir .ahead →
-      Passed f q whole done rest →
+      NamesPassed f q whole done rest →
       begins q last ≡ true →
       After v b work s last rest →
       Position v b work s dir f q whole done
@@ -72,7 +72,7 @@ pub data Position (v : ℕ) (b work : List ℕ) (s : Front) (dir : Directory) (f
 pub record Standing (v : ℕ) (b work : List ℕ) (s : Front) (f : F.Forest) (q : List ℕ) (whole done : List (List ℕ)) : Type 0 where
   pub next : List ℕ
   pub rest : List (List ℕ)
-  pub passed : Passed f q whole done (next ∷ rest)
+  pub passed : NamesPassed f q whole done (next ∷ rest)
   pub in-it : begins q next ≡ true
   pub ahead : Ahead v b work s next rest
 
@@ -90,7 +90,7 @@ module _ (v : ℕ) (b work : List ℕ) (s : Front) (dir : Directory) (f : F.Fore
       (λ same. absurd (omega (arith, eqb-true (s .ahead) (dir .ahead) same)))
       (λ stays.
       stays-in v b work s last q rest after i (ap (λ (n : ℕ). ltb 0 (s .ahead) && leb n (s .common)) long ∙ stays) λ y ys is ahead c in-it.
-      record { next = y; rest = ys; passed = subst (Passed f q whole done) is passed; in-it = in-it; ahead = ahead })
+      record { next = y; rest = ys; passed = subst (NamesPassed f q whole done) is passed; in-it = in-it; ahead = ahead })
 
   pub position-out : (whole done : List (List ℕ)) → Position v b work s dir f q whole done → inDirectory dir s ≡ false → dir .ahead ≡ length whole → Ended v b work s dir q whole done
   position-out _ _ (fresh same ahead i) off count = false-true (sym off ∙ ap (λ (t : Bool). t || (ltb 0 (s .ahead) && leb (dir .q) (s .common))) (eq-eqb _ _ same))
@@ -141,12 +141,12 @@ module _ (d : List ℕ) (above : List Directory) (b : List ℕ) (v : ℕ) (root 
       let up-here = here-of d root f₀ all above j up f q whole up-done up-ok up-found w in
       let m = moved-found (up .valid) f q x xs whole up-done v b work s (e .in-it) (e .passed) (up-here .sound) c (e .plain) (e .part) (ended .left) t (e .found) [] (up-here .sorted) in
       let run = within (enter q c) (x ∷ xs) in
-      let judged : judge (dir .valid) done (t .subtrees) ≡ judge (isValid (t .root .count)) run (t .subtrees) =
-      ap (λ (y : Bool). judge y done (t .subtrees)) (e .is-valid) ∙ ap (λ (l : List (List ℕ)). judge (isValid (t .root .count)) l (t .subtrees)) (ended .all) in
+      let tested : countsHold (dir .valid) done (t .subtrees) ≡ countsHold (isValid (t .root .count)) run (t .subtrees) =
+      ap (λ (y : Bool). countsHold y done (t .subtrees)) (e .is-valid) ∙ ap (λ (l : List (List ℕ)). countsHold (isValid (t .root .count)) l (t .subtrees)) (ended .all) in
       let counted : agrees ≡ says (t .root .count) (length run) = agrees-is ∙ e .agrees (dir .ahead - s .ahead) ∙ ap (λ (i : ℕ). says (t .root .count) i) (ended .count) in
-      let now-ok : (ok && agrees) ≡ (up-ok && (says (t .root .count) (length run) && judge (isValid (t .root .count)) run (t .subtrees))) =
-      ap (λ (y : Bool). y && agrees) o ∙ ap₂ (λ (y z : Bool). (up-ok && y) && z) judged counted
-      ∙ and-turned up-ok (judge (isValid (t .root .count)) run (t .subtrees)) (says (t .root .count) (length run)) in
+      let now-ok : (ok && agrees) ≡ (up-ok && (says (t .root .count) (length run) && countsHold (isValid (t .root .count)) run (t .subtrees))) =
+      ap (λ (y : Bool). y && agrees) o ∙ ap₂ (λ (y z : Bool). (up-ok && y) && z) tested counted
+      ∙ and-turned up-ok (countsHold (isValid (t .root .count)) run (t .subtrees)) (says (t .root .count) (length run)) in
       let now-found : found + n ≡ up-found + (weight (t .root .count) + matched run (t .subtrees)) =
       omega (arith, sum, n-is, e .weighs, ap (λ (l : List (List ℕ)). matched l (t .subtrees)) (ended .all)) in
       let down : j ≡ suc j - 1 = omega arith in
@@ -157,23 +157,23 @@ module _ (d : List ℕ) (above : List Directory) (b : List ℕ) (v : ℕ) (root 
         name = q;
         whole = whole;
         done = m .now-done;
-        walking = walking-moved d root f₀ all above j up f q whole up-done up-ok up-found w (m .now-done) _ (ok && agrees) _ (found + n) (m .judged) (m .sum) now-ok now-found;
+        walking = walking-moved d root f₀ all above j up f q whole up-done up-ok up-found w (m .now-done) _ (ok && agrees) _ (found + n) (m .tested) (m .sum) now-ok now-found;
         position = later less (m .passed) (m .in-it) (m .after);
       }))
 
   end-at : (level : ℕ) (dir : Directory) (f : F.Forest) (q : List ℕ) (whole done : List (List ℕ)) (ok : Bool) (found : ℕ)
       → Walking d above root f₀ all level dir f q whole done ok found → Ended v b work s dir q whole done → level ≡ 0
       → (agrees r : Bool) (expected : ℕ) → agrees ≡ cond (dir .valid) (eqb (dir .count) (dir .ahead - s .ahead)) true → r ≡ ((ok && agrees) && eqb found expected)
-      → r ≡ (cond (root .valid) (eqb (root .count) (length all)) true && (judge (root .valid) all f₀ && eqb (matched all f₀) expected))
+      → r ≡ (cond (root .valid) (eqb (root .count) (length all)) true && (countsHold (root .valid) all f₀ && eqb (matched all f₀) expected))
   end-at _ _ _ _ _ done ok found (at-root h o sum) ended z agrees r expected agrees-is r-is =
       let top = ended .all ∙ within-top all in
-      let judged : ok ≡ judge (root .valid) all f₀ = o ∙ ap (λ (l : List (List ℕ)). judge (root .valid) l f₀) top in
+      let tested : ok ≡ countsHold (root .valid) all f₀ = o ∙ ap (λ (l : List (List ℕ)). countsHold (root .valid) l f₀) top in
       let counted : agrees ≡ cond (root .valid) (eqb (root .count) (length all)) true = agrees-is ∙ rw (ended .count, within-top all) refl in
       let sums : eqb found expected ≡ eqb (matched all f₀) expected = ap (λ (i : ℕ). eqb i expected) (sum ∙ ap (λ (l : List (List ℕ)). matched l f₀) top) in
       r-is
-      ∙ ap₂ (λ (y z : Bool). (y && z) && eqb found expected) judged counted
-      ∙ and-first (judge (root .valid) all f₀) (cond (root .valid) (eqb (root .count) (length all)) true) (eqb found expected)
-      ∙ ap (λ (y : Bool). cond (root .valid) (eqb (root .count) (length all)) true && (judge (root .valid) all f₀ && y)) sums
+      ∙ ap₂ (λ (y z : Bool). (y && z) && eqb found expected) tested counted
+      ∙ and-first (countsHold (root .valid) all f₀) (cond (root .valid) (eqb (root .count) (length all)) true) (eqb found expected)
+      ∙ ap (λ (y : Bool). cond (root .valid) (eqb (root .count) (length all)) true && (countsHold (root .valid) all f₀ && y)) sums
   end-at _ dir _ _ _ done ok found (below w g e h o sum) ended z agrees r expected agrees-is r-is = absurd (omega arith)
 
 sorted-all : (v : ℕ) (b work : List ℕ) (s : Front) (x : List ℕ) (xs : List (List ℕ)) → Ahead v b work s x xs → sortedFrom [] (x ∷ xs) ≡ true
@@ -185,7 +185,7 @@ unfolding begins
 begins-all x = refl
 
 pub walk-start : (d : List ℕ) (above : List Directory) (b : List ℕ) (v : ℕ) (work : List ℕ) (root : Directory) (s : Front) → root .q ≡ 0 → root .ahead ≡ s .ahead
-    → (f : F.Forest) (n : ℕ) → Sound f → readForest 20 0 127 (root .k) (drop (root .at) d) ≡ good f n
+    → (f : F.Forest) (n : ℕ) → SoundForest f → readForest 20 0 127 (root .k) (drop (root .at) d) ≡ good f n
     → (x : List ℕ) (xs : List (List ℕ)) → Ahead v b work s x xs → Walk d above b v root f (x ∷ xs) work 0 root s true 0
 walk-start d above b v work root s z same f n sound reads x xs ahead =
     let shape = forest-shape 127 (root .k) (drop (root .at) d) f n reads in
@@ -204,7 +204,7 @@ walk-start d above b v work root s z same f n sound reads x xs ahead =
             ahead = same ∙ ahead-length v b work s x xs ahead;
             sorted = sorted-all v b work s x xs ahead;
           })
-          (sym (judge-start (root .valid) f)) (sym (matched-start f));
+          (sym (counts-hold-start (root .valid) f)) (sym (matched-start f));
       position = fresh (sym same) ahead (begins-all x);
     }
 
@@ -227,7 +227,7 @@ module _ (d : List ℕ) (above : List Directory) (b : List ℕ) (v : ℕ) (root 
           name = w .name;
           whole = w .whole;
           done = m .now-done;
-          walking = walking-moved d root f₀ all above level dir (w .siblings) (w .name) (w .whole) (w .done) ok found (w .walking) (m .now-done) holds (ok && holds) 0 found (m .judged) (m .sum) refl same;
+          walking = walking-moved d root f₀ all above level dir (w .siblings) (w .name) (w .whole) (w .done) ok found (w .walking) (m .now-done) holds (ok && holds) 0 found (m .tested) (m .sum) refl same;
           position = later (omega (arith, part .less)) (m .passed) (m .in-it) (m .after);
         }
 
@@ -237,8 +237,8 @@ module _ (d : List ℕ) (above : List Directory) (b : List ℕ) (v : ℕ) (root 
           looked d dir b v work s (L.Found (under .q) (part .place)) (part .look) (w .siblings) (here .taken) (here .sound) (here .reads)
           (w .name) (standing .next) (standing .rest) (standing .ahead) (here .long)
 
-      node-here : NodeAt (part .node) (part .place) (here-found .1 .stands .own) (record { node = here-found .1 .found .root; subtrees = here-found .1 .stands .subtrees })
-      node-here = node-at (part .node) (part .place) (here-found .1 .stands .own) _ _ (here-found .1 .stands .node) (part .read)
+      node-here : NodeAt (part .node) (part .place) (here-found .1 .tree .own) (record { node = here-found .1 .found .root; subtrees = here-found .1 .tree .subtrees })
+      node-here = node-at (part .node) (part .place) (here-found .1 .tree .own) _ _ (here-found .1 .tree .node) (part .read)
 
       deeper : (1 ≤ 127 - level) × Levels (127 - level - 1) (here-found .1 .found .subtrees)
       deeper = child-levels (127 - level) _ (w .siblings) (here-found .1 .found) (here .levels) (here-found .1 .is)
@@ -275,13 +275,13 @@ module _ (d : List ℕ) (above : List Directory) (b : List ℕ) (v : ℕ) (root 
                 (record {
                   long = part-length (w .name) (standing .next) (under .q) (here-found .0);
                   sound = child-sound c (w .siblings) t (here .sound) (here-found .1 .is);
-                  taken = here-found .1 .stands .below;
-                  reads = reads-at _ _ _ _ _ _ (here-found .1 .stands .kids) (drop-to d (part .place) (here-found .1 .stands .own) (part .node .next) (node-here .next)) (sym (node-here .subtrees));
+                  taken = here-found .1 .tree .below;
+                  reads = reads-at _ _ _ _ _ _ (here-found .1 .tree .kids) (drop-to d (part .place) (here-found .1 .tree .own) (part .node .next) (node-here .next)) (sym (node-here .subtrees));
                   levels = subst (λ (n : ℕ). Levels n (t .subtrees)) level-down (deeper .1);
                   ahead = ahead-length v b work s (standing .next) (standing .rest) (standing .ahead);
                   sorted = sorted-all v b work s (standing .next) (standing .rest) (standing .ahead);
                 })
-                (sym (ap (λ (y : Bool). ok && y) (judge-start (part .node .valid) (t .subtrees)) ∙ and-true ok))
+                (sym (ap (λ (y : Bool). ok && y) (counts-hold-start (part .node .valid) (t .subtrees)) ∙ and-true ok))
                 sum;
             position = fresh refl (standing .ahead) (part-in (w .name) c (standing .next) (standing .in-it) inner);
           }
@@ -304,6 +304,6 @@ module _ (d : List ℕ) (above : List Directory) (b : List ℕ) (v : ℕ) (root 
         left-at d above b v root f₀ all work s level dir (w .siblings) (w .name) (w .whole) (w .done) ok found (w .walking) ended some agrees n agrees-is n-is less
 
     pub walk-end : level ≡ 0 → (agrees r : Bool) (expected : ℕ) → agrees ≡ cond (dir .valid) (eqb (dir .count) (dir .ahead - s .ahead)) true → r ≡ ((ok && agrees) && eqb found expected)
-        → r ≡ (cond (root .valid) (eqb (root .count) (length all)) true && (judge (root .valid) all f₀ && eqb (matched all f₀) expected))
+        → r ≡ (cond (root .valid) (eqb (root .count) (length all)) true && (countsHold (root .valid) all f₀ && eqb (matched all f₀) expected))
     walk-end z agrees r expected agrees-is r-is =
         end-at d above b v root f₀ all work s level dir (w .siblings) (w .name) (w .whole) (w .done) ok found (w .walking) ended z agrees r expected agrees-is r-is

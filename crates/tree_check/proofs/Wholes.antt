@@ -21,10 +21,10 @@ use Rattle.tree_nodes.specs.Answers.{nodeAt}
 use Rattle.tree_nodes.specs.Flat.{Reads}
 use Rattle.entries_run.specs.Steps.{nameAt, firstCursor, runFrom, EntriesRead, Room}
 use Rattle.entries_run.proofs.Steps.{run-first, inside-first}
-use Rattle.tree_counts.specs.Judge.{says, tidy, positive, judge, matched, countsAll, Sound}
+use Rattle.tree_counts.specs.Counts.{says, validBelow, positive, countsHold, matched, countsAll, SoundForest}
 use Rattle.tree_counts.proofs.Readings.{nodes-plain}
-use Rattle.tree_counts.proofs.Counts.{counts-judged}
-use Rattle.tree_counts.proofs.Walk.{judge-start, matched-start}
+use Rattle.tree_counts.proofs.Counts.{counts-tested}
+use Rattle.tree_counts.proofs.Walk.{counts-hold-start, matched-start}
 use Rattle.entries_directory.proofs.Directory.{entries-sorted}
 use Rattle.entries_directory.specs.declared.Front.{Front}
 use Rattle.tree_check.specs.declared.survey.Survey.{Survey}
@@ -61,15 +61,15 @@ fits-first count b work room few = record { inside = inside-first b work room; s
 module _ (d : List ℕ) (root : Node) (expected v : ℕ) (b work : List ℕ) (f : Forest) (front : Front) (r : Bool) where
   pub root-none : (ns : List (List ℕ)) → After v b work front [] ns → front .ahead ≡ 0 → (agrees : Bool) → agrees ≡ cond (root .valid) (eqb (root .count) (front .ahead - front .ahead)) true
       → r ≡ (agrees && eqb expected 0)
-      → r ≡ (cond (root .valid) (eqb (root .count) (length ns)) true && (judge (root .valid) ns f && eqb (matched ns f) expected))
+      → r ≡ (cond (root .valid) (eqb (root .count) (length ns)) true && (countsHold (root .valid) ns f && eqb (matched ns f) expected))
   root-none _ (after-none z) none agrees agrees-is r-is =
       let gone : front .ahead - front .ahead ≡ 0 = omega arith in
-      rw (judge-start (root .valid) f, matched-start f) (r-is ∙ rw (agrees-is, gone, eqb-swap expected 0))
+      rw (counts-hold-start (root .valid) f, matched-start f) (r-is ∙ rw (agrees-is, gone, eqb-swap expected 0))
   root-none _ (after-some h e) none agrees agrees-is r-is = absurd (omega (arith, h .some))
 
-  pub root-some : (ns : List (List ℕ)) → After v b work front [] ns → (front .ahead ≡ 0 → ⊥) → (n : ℕ) → Sound f → readForest 20 0 127 (root .subtrees) (drop (root .next) d) ≡ good f n
+  pub root-some : (ns : List (List ℕ)) → After v b work front [] ns → (front .ahead ≡ 0 → ⊥) → (n : ℕ) → SoundForest f → readForest 20 0 127 (root .subtrees) (drop (root .next) d) ≡ good f n
       → (work′ : List ℕ) → Walked d (entered root 0 front) expected b v work front work′ r
-      → r ≡ (cond (root .valid) (eqb (root .count) (length ns)) true && (judge (root .valid) ns f && eqb (matched ns f) expected))
+      → r ≡ (cond (root .valid) (eqb (root .count) (length ns)) true && (countsHold (root .valid) ns f && eqb (matched ns f) expected))
   root-some _ (after-none z) some n sound reads work′ walked = absurd (some z)
   root-some _ (after-some {x} {xs} h e) some n sound reads work′ walked = walked .is f n sound reads x xs h
 
@@ -80,28 +80,28 @@ counts-says (valid c) ns f = refl
 counts-says invalid ns f = refl
 
 -- the root's count, the pass over the nodes, and the walk
-counts-parts : (ns : List (List ℕ)) (t : Tree) → Sound (t .subtrees)
+counts-parts : (ns : List (List ℕ)) (t : Tree) → SoundForest (t .subtrees)
     → okTreeCounts ns t
     ≡ (says (t .root .count) (length ns)
-    && ((cond (isValid (t .root .count)) (allValid (t .subtrees)) true && tidy (t .subtrees))
-    && (judge (isValid (t .root .count)) ns (t .subtrees) && eqb (matched ns (t .subtrees)) (positive (t .subtrees)))))
-counts-parts ns t h = counts-judged ns t (h .plainly) (h .differ) ∙ rw (counts-says (t .root .count) ns (t .subtrees)) (simp and-assoc)
+    && ((cond (isValid (t .root .count)) (allValid (t .subtrees)) true && validBelow (t .subtrees))
+    && (countsHold (isValid (t .root .count)) ns (t .subtrees) && eqb (matched ns (t .subtrees)) (positive (t .subtrees)))))
+counts-parts ns t h = counts-tested ns t (h .plainly) (h .differ) ∙ rw (counts-says (t .root .count) ns (t .subtrees)) (simp and-assoc)
 
 -- ---- by what the pass over the nodes says
 
-survey-untidy : (v : Bool) (f : Forest) → S.Untidy ≡ surveyOf v f → (cond v (allValid f) true && tidy f) ≡ false
+survey-inconsistent : (v : Bool) (f : Forest) → S.Inconsistent ≡ surveyOf v f → (cond v (allValid f) true && validBelow f) ≡ false
 unfolding surveyOf
-survey-untidy v f e = go (cond v (allValid f) true && tidy f) e
+survey-inconsistent v f e = go (cond v (allValid f) true && validBelow f) e
   where
-    go : (t : Bool) → S.Untidy ≡ cond t (S.Tidy (positive f)) S.Untidy → t ≡ false
+    go : (t : Bool) → S.Inconsistent ≡ cond t (S.Consistent (positive f)) S.Inconsistent → t ≡ false
     go true e = let z : _≡_ {A = ℕ} 0 1 = cc in absurd (omega arith)
     go false e = refl
 
-survey-tidy : (v : Bool) (f : Forest) (met : ℕ) → S.Tidy met ≡ surveyOf v f → ((cond v (allValid f) true && tidy f) ≡ true) × (positive f ≡ met)
+survey-consistent : (v : Bool) (f : Forest) (nodes : ℕ) → S.Consistent nodes ≡ surveyOf v f → ((cond v (allValid f) true && validBelow f) ≡ true) × (positive f ≡ nodes)
 unfolding surveyOf
-survey-tidy v f met e = go (cond v (allValid f) true && tidy f) e
+survey-consistent v f nodes e = go (cond v (allValid f) true && validBelow f) e
   where
-    go : (t : Bool) → S.Tidy met ≡ cond t (S.Tidy (positive f)) S.Untidy → (t ≡ true) × (positive f ≡ met)
+    go : (t : Bool) → S.Consistent nodes ≡ cond t (S.Consistent (positive f)) S.Inconsistent → (t ≡ true) × (positive f ≡ nodes)
     go true e = (refl, cc)
     go false e = let z : _≡_ {A = ℕ} 0 1 = cc in absurd (omega arith)
 
@@ -123,7 +123,7 @@ tree-read d t n e =
     rw (← same) (record { subtrees = h .subtrees; own = a; below = b; node = q; kids = q₁ })
 
 module _ (d : List ℕ) (t : Tree) (n : ℕ) (q : readNodes 20 0 d ≡ good t n) (differ : distinct (t .subtrees) ≡ true) (ns : List (List ℕ)) where
-  sound-tree : Sound (t .subtrees)
+  sound-tree : SoundForest (t .subtrees)
   sound-tree = record { plainly = nodes-plain 20 0 d t n q; differ = differ }
 
   parts : TreeRead d t
@@ -145,16 +145,16 @@ module _ (d : List ℕ) (t : Tree) (n : ℕ) (q : readNodes 20 0 d ≡ good t n)
       survey-here : found ≡ surveyOf (isValid (t .root .count)) (t .subtrees)
       survey-here = survey (t .subtrees) (parts .below) (forest-reads _ _ _ _ _ below-root) ∙ ap (λ (v : Bool). surveyOf v (t .subtrees)) (root-here .is-valid)
 
-      pub answer-untidy : found ≡ S.Untidy → false ≡ okTreeCounts ns t
-      answer-untidy e =
-          sym (counts-parts ns t sound-tree ∙ rw (survey-untidy _ _ (sym e ∙ survey-here)) (and-false (says (t .root .count) (length ns))))
+      pub answer-inconsistent : found ≡ S.Inconsistent → false ≡ okTreeCounts ns t
+      answer-inconsistent e =
+          sym (counts-parts ns t sound-tree ∙ rw (survey-inconsistent _ _ (sym e ∙ survey-here)) (and-false (says (t .root .count) (length ns))))
 
-      pub answer-tidy : (met : ℕ) → found ≡ S.Tidy met → (r : Bool)
-          → ((f : Forest) (m : ℕ) → Sound f → readForest 20 0 127 (root .subtrees) (drop (root .next) d) ≡ good f m
-          → r ≡ (cond (root .valid) (eqb (root .count) (length ns)) true && (judge (root .valid) ns f && eqb (matched ns f) met)))
+      pub answer-consistent : (nodes : ℕ) → found ≡ S.Consistent nodes → (r : Bool)
+          → ((f : Forest) (m : ℕ) → SoundForest f → readForest 20 0 127 (root .subtrees) (drop (root .next) d) ≡ good f m
+          → r ≡ (cond (root .valid) (eqb (root .count) (length ns)) true && (countsHold (root .valid) ns f && eqb (matched ns f) nodes)))
           → r ≡ okTreeCounts ns t
-      answer-tidy met e r walk =
-          let (tidily, sum) = survey-tidy _ _ met (sym e ∙ survey-here) in
+      answer-consistent nodes e r walk =
+          let (consistent, sum) = survey-consistent _ _ nodes (sym e ∙ survey-here) in
           walk (t .subtrees) (parts .below) sound-tree below-root
           ∙ rw (node-says _ _ _ _ root-here (length ns), root-here .is-valid)
-          (sym (counts-parts ns t sound-tree ∙ rw (tidily, sum)))
+          (sym (counts-parts ns t sound-tree ∙ rw (consistent, sum)))

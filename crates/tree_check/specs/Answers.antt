@@ -12,14 +12,14 @@ use Rattle.format.specs.Reader.{readForest, readNodes}
 use Rattle.fields.specs.Workspace.{Frame}
 use Rattle.entries_run.specs.Steps.{EntriesRead}
 use Rattle.tree_nodes.specs.declared.node.Node.{Node}
-use Rattle.tree_counts.specs.Judge.{judge, matched, Sound}
+use Rattle.tree_counts.specs.Counts.{countsHold, matched, SoundForest}
 
 -- of the walk over all entries, where of the nodes below the root expected ones have a count of at least 1
 pub record RootWalked (d : List ℕ) (root : Node) (expected : ℕ) (b : List ℕ) (v count : ℕ) (work work′ : List ℕ) (r : Bool) : Type 0 where
   pub frame : Frame work work′
   pub is : (es : List Entry) (m : ℕ) → EntriesRead v count b es m
-      → (f : Forest) (n : ℕ) → Sound f → readForest 20 0 127 (root .subtrees) (drop (root .next) d) ≡ good f n
-      → r ≡ (cond (root .valid) (eqb (root .count) (length (names es))) true && (judge (root .valid) (names es) f && eqb (matched (names es) f) expected))
+      → (f : Forest) (n : ℕ) → SoundForest f → readForest 20 0 127 (root .subtrees) (drop (root .next) d) ≡ good f n
+      → r ≡ (cond (root .valid) (eqb (root .count) (length (names es))) true && (countsHold (root .valid) (names es) f && eqb (matched (names es) f) expected))
 
 -- of the whole
 pub record CountsTold (d b : List ℕ) (v count : ℕ) (work work′ : List ℕ) (r : Bool) : Type 0 where

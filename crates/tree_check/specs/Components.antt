@@ -8,7 +8,7 @@ use lib.ListN.{length, take, drop}
 use Rattle.format.specs.Bytes.{before, lacks}
 use Rattle.format.specs.Records.{Forest}
 use Rattle.format.specs.Layout.{distinct}
-use Rattle.tree_counts.specs.Judge.{child}
+use Rattle.tree_counts.specs.Counts.{child}
 use Rattle.tree_nodes.specs.Flat.{Reads}
 use Rattle.tree_check.specs.declared.look.Look.{Look}
 use Rattle.tree_check.specs.declared.look.Look.the-variants as L

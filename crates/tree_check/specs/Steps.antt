@@ -15,9 +15,9 @@ use Rattle.tree_nodes.specs.declared.node.NodeRead.the-variants as R
 use Rattle.tree_nodes.specs.Answers.{nodeAt}
 use Rattle.tree_nodes.specs.Flat.{Reads}
 use Rattle.entries_run.specs.Steps.{nameAt}
-use Rattle.tree_counts.specs.Judge.{judge, matched, Sound}
+use Rattle.tree_counts.specs.Counts.{countsHold, matched, SoundForest}
 use Rattle.entries_directory.specs.Names.{begins}
-use Rattle.tree_counts.specs.Runs.{Passed}
+use Rattle.tree_counts.specs.Runs.{NamesPassed}
 use Rattle.entries_directory.specs.declared.Front.{Front}
 use Rattle.tree_check.specs.declared.look.Look.the-variants as L
 use Rattle.tree_check.specs.declared.walk.Directory.{Directory}
@@ -33,7 +33,7 @@ abbrev pub entered : Node → ℕ → Front → Directory
 entered node q s = record { at = node .next; k = node .subtrees; valid = node .valid; count = node .count; q = q; ahead = s .ahead }
 
 -- its subtrees are in the data d, and the first of the entries ahead has as many bytes as its name
-pub record Ready (d : List ℕ) (dir : Directory) (b work : List ℕ) (s : Front) : Type 0 where
+pub record WalkReady (d : List ℕ) (dir : Directory) (b work : List ℕ) (s : Front) : Type 0 where
   pub inside : dir .at ≤ length d
   pub small : length d ≤ 16777216
   pub fits : FrontFits b s
@@ -49,8 +49,8 @@ pub record Moved (valid : Bool) (f : Forest) (q : List ℕ) (whole done : List (
   pub now-done : List (List ℕ)
   pub rest : List (List ℕ)
   pub last : List ℕ
-  pub passed : Passed f q whole now-done rest
-  pub judged : judge valid now-done f ≡ (judge valid done f && holds)
+  pub passed : NamesPassed f q whole now-done rest
+  pub tested : countsHold valid now-done f ≡ (countsHold valid done f && holds)
   pub sum : matched now-done f ≡ matched done f + found
   pub in-it : begins q last ≡ true
   pub after : After v b work front last rest
@@ -60,9 +60,9 @@ pub record PartPassed (d : List ℕ) (dir : Directory) (b : List ℕ) (v : ℕ) 
   pub fits : FrontFits b r
   pub less : r .ahead < s .ahead
   pub frame : Frame work work′
-  pub moved : (f : Forest) (m : ℕ) → Sound f → Reads (drop (dir .at) d) f (dir .k) m
+  pub moved : (f : Forest) (m : ℕ) → SoundForest f → Reads (drop (dir .at) d) f (dir .k) m
       → (p x : List ℕ) (xs : List (List ℕ)) → Ahead v b work s x xs → begins p x ≡ true → length p ≡ dir .q
-      → (whole done : List (List ℕ)) → Passed f p whole done (x ∷ xs)
+      → (whole done : List (List ℕ)) → NamesPassed f p whole done (x ∷ xs)
       → Moved (dir .valid) f p whole done v b work′ holds 0 r
 
 -- it is in the directory below, of the node at a place
@@ -86,6 +86,6 @@ pub record Taken (d : List ℕ) (dir : Directory) (b : List ℕ) (v : ℕ) (work
 -- the root's directory has all names, and of the nodes below the root expected ones have a count of at least 1
 pub record Walked (d : List ℕ) (root : Directory) (expected : ℕ) (b : List ℕ) (v : ℕ) (work : List ℕ) (s : Front) (work′ : List ℕ) (r : Bool) : Type 0 where
   pub frame : Frame work work′
-  pub is : (f : Forest) (n : ℕ) → Sound f → readForest 20 0 127 (root .k) (drop (root .at) d) ≡ good f n
+  pub is : (f : Forest) (n : ℕ) → SoundForest f → readForest 20 0 127 (root .k) (drop (root .at) d) ≡ good f n
       → (x : List ℕ) (xs : List (List ℕ)) → Ahead v b work s x xs
-      → r ≡ (cond (root .valid) (eqb (root .count) (length (x ∷ xs))) true && (judge (root .valid) (x ∷ xs) f && eqb (matched (x ∷ xs) f) expected))
+      → r ≡ (cond (root .valid) (eqb (root .count) (length (x ∷ xs))) true && (countsHold (root .valid) (x ∷ xs) f && eqb (matched (x ∷ xs) f) expected))

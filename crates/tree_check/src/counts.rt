@@ -58,8 +58,8 @@ pub fn counts_ok(d: &[u8], b: &[u8], v: u32, count: u32, work: &mut [u8], t: &mu
         NodeRead::Good(root) => {
             let found = survey_trees(d, root.next, root.subtrees, root.valid);
             match found {
-                Survey::Untidy => false,
-                Survey::Tidy(expected) => walk_root(d, root, expected, b, v, count, work, t),
+                Survey::Inconsistent => false,
+                Survey::Consistent(expected) => walk_root(d, root, expected, b, v, count, work, t),
             }
         }
     }

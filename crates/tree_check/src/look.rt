@@ -17,7 +17,7 @@ ghost use mathlib.Core.Path.{_≡_};
 ghost use Prim.Native.Nat.{_≤_};
 ghost use lib.ListN.{length};
 ghost use Rattle.entries_run.specs.Steps.{nameAt};
-ghost use Rattle.tree_search.specs.Siblings.{Told, Finds};
+ghost use Rattle.tree_search.specs.Siblings.{AnswerHolds, Finds};
 ghost use Rattle.tree_search.specs.Table.{Known};
 ghost use Rattle.entries_directory.specs.Ahead.{FrontFits};
 ghost use Rattle.tree_check.specs.Components.{lookOf, LookedUp};
@@ -75,7 +75,7 @@ fn find_by_table(
 // The same by the cursors of the level and by the tables as they are.
 fn find_soon(d: &[u8], at: usize, k: u32, name: &[u8], level: u32, t: &mut Table) -> Answer
     requires { ⌜ (at ≤ length (now d)) × (length (now d) ≤ 16777216) × Known (now d) (now t) ⌝ }
-    ensures { λ r. ⌜ Told (now (d .entry)) at k (now (name .entry)) r × Known (now (d .entry)) (now (t .exit)) ⌝ }
+    ensures { λ r. ⌜ AnswerHolds (now (d .entry)) at k (now (name .entry)) r × Known (now (d .entry)) (now (t .exit)) ⌝ }
 {
     let next = find_in_order(d, at, k, name, level, t);
     if let Answer::Known(_) = next {

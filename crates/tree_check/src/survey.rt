@@ -14,8 +14,8 @@ ghost use Rattle.tree_check.specs.Survey.{surveyOf};
 
 // Whether a node below a valid one is invalid, or how many nodes have a count of at least 1.
 pub enum Survey {
-    Untidy,
-    Tidy(u32),
+    Inconsistent,
+    Consistent(u32),
 }
 
 // 1 for a valid count of at least 1.
@@ -62,19 +62,19 @@ pub fn survey_trees(d: &[u8], at: usize, k: u32, valid: bool) -> Survey
     let mut place = at;
     let mut pending = k as u64;
     let mut strict = demand(0, valid, k);
-    let mut met: u32 = 0;
+    let mut nodes: u32 = 0;
     while 0 < pending {
         let read = read_node(d, place);
         let NodeRead::Good(node) = read else {
-            return Survey::Untidy;
+            return Survey::Inconsistent;
         };
         if is_wrong(strict, node.valid) {
-            return Survey::Untidy;
+            return Survey::Inconsistent;
         }
         strict = demand(strict, node.valid, node.subtrees);
-        met += weight(node.valid, node.count);
+        nodes += weight(node.valid, node.count);
         pending = pending - 1 + node.subtrees as u64;
         place = node.next;
     }
-    Survey::Tidy(met)
+    Survey::Consistent(nodes)
 }

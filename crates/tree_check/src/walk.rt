@@ -16,7 +16,7 @@ ghost use Prim.Native.Nat.{_-_, _≤_, _<_};
 ghost use lib.ListN.{length};
 ghost use lib.Dec.{eqb, leb, ltb};
 ghost use Rattle.tree_search.specs.Table.{Known};
-ghost use Rattle.tree_check.specs.Steps.{entered, Ready, Taken, Walked};
+ghost use Rattle.tree_check.specs.Steps.{entered, WalkReady, Taken, Walked};
 
 // The most levels that a tree has, the root's included.
 const LEVELS: usize = 128;
@@ -98,7 +98,7 @@ fn take_part(
     s: Front,
     t: &mut Table,
 ) -> Part
-    requires { ⌜ Ready (now d) dir (now b) (now work) s × Known (now d) (now t) ⌝ }
+    requires { ⌜ WalkReady (now d) dir (now b) (now work) s × Known (now d) (now t) ⌝ }
     ensures { λ r. ⌜ Taken (now (d .entry)) dir (now (b .entry)) v (now (work .entry)) s (now (work .exit)) r × Known (now (d .entry)) (now (t .exit)) ⌝ }
 {
     let q = dir.q as usize;
@@ -128,7 +128,7 @@ pub(crate) fn walk_directories(
     s: Front,
     t: &mut Table,
 ) -> bool
-    requires { ⌜ Ready (now d) root (now b) (now work) s × Known (now d) (now t) × (root .q ≡ 0) × (root .ahead ≡ s .ahead) ⌝ }
+    requires { ⌜ WalkReady (now d) root (now b) (now work) s × Known (now d) (now t) × (root .q ≡ 0) × (root .ahead ≡ s .ahead) ⌝ }
     ensures { λ r. ⌜ Walked (now (d .entry)) root expected (now (b .entry)) v (now (work .entry)) s (now (work .exit)) r ⌝ }
 {
     let mut above = [root; LEVELS];

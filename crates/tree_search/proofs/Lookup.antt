@@ -11,14 +11,14 @@ use borrow.Author.Tests.{eqb-true, eqb-false, not-true}
 use Rattle.format.specs.Bytes.{eqList}
 use Rattle.format.specs.Records.{Forest, nil}
 use Rattle.format.specs.Layout.{distinct}
-use Rattle.tree_counts.specs.Judge.{child}
+use Rattle.tree_counts.specs.Counts.{child}
 use Rattle.format_laws.proofs.Tests.{and-inv₃}
 use Rattle.tree_nodes.specs.Flat.{nameOf, Reads}
 use Rattle.tree_table.specs.Keys.{keyIn, slotIn, isOf}
 use Rattle.tree_search.specs.declared.child.Child.the-variants as C
 use Rattle.tree_search.specs.declared.child.Answer.the-variants as A
 use Rattle.tree_search.specs.declared.table.Region.{Region}
-use Rattle.tree_search.specs.Siblings.{FoundAt, Told}
+use Rattle.tree_search.specs.Siblings.{FoundAt, AnswerHolds}
 use Rattle.tree_search.specs.Table.{placeAt, Inside, PutDown, TableKnown, Known, firstSlot, slotsOf, listOf}
 use Rattle.tree_search.proofs.Siblings.{child-none, last-here}
 use Rattle.tree_search.proofs.Places.{has-key, number-for}
@@ -84,13 +84,13 @@ module _ (region : Region) (d t : List ℕ) (known : Known d t) (at k : ℕ) (na
   }
 
 module _ (d : List ℕ) (at k : ℕ) (name : List ℕ) (number : ℕ) (x : Tells d at k name number) where
-  pub tells-none : at ≤ length d → number ≡ 0 → Told d at k name (A.Known C.Missing)
+  pub tells-none : at ≤ length d → number ≡ 0 → AnswerHolds d at k name (A.Known C.Missing)
   tells-none l e = record { least = l; most = omega arith; is = λ f m differ r. x .missing f m differ r e }
 
   -- the place of one
   module _ (some : 2 ≤ number) (place : ℕ) (is : place ≡ number - 2) where
-    pub tells-here : eqList name (nameOf (drop place d)) ≡ true → Told d at k name (A.Known (C.Found place))
+    pub tells-here : eqList name (nameOf (drop place d)) ≡ true → AnswerHolds d at k name (A.Known (C.Found place))
     tells-here e = record { least = omega (arith, x .least some); most = omega (arith, x .most); is = λ f m differ r. rw is (x .here f m differ r some (rw is at e)) }
 
-    pub tells-other : at ≤ length d → eqList name (nameOf (drop place d)) ≡ false → Told d at k name (A.Known C.Missing)
+    pub tells-other : at ≤ length d → eqList name (nameOf (drop place d)) ≡ false → AnswerHolds d at k name (A.Known C.Missing)
     tells-other l e = record { least = l; most = omega arith; is = λ f m differ r. x .other f m differ r some (rw is at e) }

@@ -11,7 +11,7 @@ use borrow.Author.Tests.{eqb-true, eqb-false, eq-eqb, ne-eqb}
 use Rattle.format.specs.Bytes.{eqList}
 use Rattle.format.specs.Records.{Forest, nil}
 use Rattle.format.specs.Layout.{distinct}
-use Rattle.tree_counts.specs.Judge.{child}
+use Rattle.tree_counts.specs.Counts.{child}
 use Rattle.format_laws.proofs.Tests.{by-test}
 use Rattle.format_laws.proofs.Lists.{eqList-true}
 use Rattle.tree_nodes.specs.Flat.{treesLength, nameOf, Reads}

@@ -11,7 +11,7 @@ use borrow.Author.Tests.{not-true}
 use Rattle.format.specs.Bytes.{eqList, before}
 use Rattle.format.specs.Records.{Node, Forest, nil, tree, Tree}
 use Rattle.format.specs.Layout.{has, distinct}
-use Rattle.tree_counts.specs.Judge.{child}
+use Rattle.tree_counts.specs.Counts.{child}
 use Rattle.format_laws.proofs.Tests.{clash, by-test, and-inv₃}
 use Rattle.format_laws.proofs.Lists.{eqList-true}
 use Rattle.format_laws.proofs.Readings.{none-some}
@@ -104,7 +104,7 @@ module _ (d : List ℕ) (f : Forest) where
       last-here e = record {
         found = record { root = first-of .head .node; subtrees = first-of .kids };
         is = l .part name _ (ap (child name) (first-of .is) ∙ child-here name (first-of .head .node) (first-of .kids) (first-of .after) (sym same-name ∙ e));
-        stands = record { subtrees = first-of .head .subtrees; own = first-of .own; below = first-of .below; node = first-of .node; kids = first-of .reads-kids };
+        tree = record { subtrees = first-of .head .subtrees; own = first-of .own; below = first-of .below; node = first-of .node; kids = first-of .reads-kids };
       }
 
       pub last-on : eqList name (nameOf (drop place d)) ≡ false → (next : ℕ) (is : next ≡ place + treesLength 1 (drop place d)) → child name (l .siblings) ≡ child name (last-next next is .siblings)

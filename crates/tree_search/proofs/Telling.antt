@@ -11,7 +11,7 @@ use Rattle.format.specs.Layout.{distinct}
 use Rattle.tree_nodes.specs.Flat.{treesLength, nameOf, Reads}
 use Rattle.tree_search.specs.declared.child.Child.the-variants as C
 use Rattle.tree_search.specs.declared.child.Answer.the-variants as A
-use Rattle.tree_search.specs.Siblings.{Cursor, Told}
+use Rattle.tree_search.specs.Siblings.{Cursor, AnswerHolds}
 use Rattle.tree_search.proofs.Siblings.{last-all, last-next, last-here, Searching, search-start, search-on, search-end}
 
 -- ---- the last of some siblings
@@ -28,14 +28,14 @@ module _ (d : List ℕ) (at k : ℕ) where
       last = λ f m differ r. last-next d f place left (cursor .last f m differ r) some-left next is;
     }
 
-    pub cursor-here : (name : List ℕ) → eqList name (nameOf (drop place d)) ≡ true → Told d at k name (A.Known (C.Found place))
+    pub cursor-here : (name : List ℕ) → eqList name (nameOf (drop place d)) ≡ true → AnswerHolds d at k name (A.Known (C.Found place))
     cursor-here name e = record {
       least = cursor .least;
       most = cursor .most;
       is = λ f m differ r. last-here d f place left (cursor .last f m differ r) some-left name e;
     }
 
-  pub told-unknown : (name : List ℕ) → at ≤ length d → Told d at k name A.Unknown
+  pub told-unknown : (name : List ℕ) → at ≤ length d → AnswerHolds d at k name A.Unknown
   told-unknown name l = record { least = l; most = omega arith; is = λ f m differ r. _ }
 
 -- ---- a scan that has come to a place: the name is not before it
@@ -58,11 +58,11 @@ module _ (d : List ℕ) (at k : ℕ) (name : List ℕ) where
       is = λ f m differ r. search-on d f name place left (x .is f m differ r) some-left e next is;
     }
 
-    pub scan-here : 0 < left → eqList name (nameOf (drop place d)) ≡ true → Told d at k name (A.Known (C.Found place))
+    pub scan-here : 0 < left → eqList name (nameOf (drop place d)) ≡ true → AnswerHolds d at k name (A.Known (C.Found place))
     scan-here some-left e =
         cursor-here d at k place left
         (record { least = x .least; most = x .most; last = λ f m differ r. x .is f m differ r .last })
         some-left name e
 
-    pub scan-end : left ≤ 0 → Told d at k name (A.Known C.Missing)
+    pub scan-end : left ≤ 0 → AnswerHolds d at k name (A.Known C.Missing)
     scan-end l = record { least = omega arith; most = omega arith; is = λ f m differ r. search-end d f name place left (x .is f m differ r) l }

@@ -7,7 +7,7 @@ use Prim.Native.Nat.{ℕ, _≤_}
 use lib.ListN.{length, drop}
 use Rattle.format.specs.Records.{Forest, Tree}
 use Rattle.format.specs.Layout.{distinct}
-use Rattle.tree_counts.specs.Judge.{child}
+use Rattle.tree_counts.specs.Counts.{child}
 use Rattle.tree_nodes.specs.Flat.{Reads, TreeAt}
 use Rattle.tree_search.specs.declared.child.Child.{Child}
 use Rattle.tree_search.specs.declared.child.Child.the-variants as C
@@ -26,7 +26,7 @@ pub record Last (d : List ℕ) (f : Forest) (place left : ℕ) : Type 0 where
 pub record FoundAt (d : List ℕ) (f : Forest) (name : List ℕ) (place : ℕ) : Type 0 where
   pub found : Tree
   pub is : child name f ≡ some found
-  pub stands : TreeAt d place found
+  pub tree : TreeAt d place found
 
 -- none of the siblings f has the name, or the one that has it was found
 abbrev pub Sought : List ℕ → Forest → List ℕ → Child → Type 0
@@ -39,9 +39,9 @@ placeIn end C.Missing = end
 placeIn end (C.Found place) = place
 
 -- the same of what can be told at once
-abbrev pub Answered : List ℕ → Forest → List ℕ → Answer → Type 0
-Answered d f name A.Unknown = Unit {0}
-Answered d f name (A.Known c) = Sought d f name c
+abbrev pub AnswerFits : List ℕ → Forest → List ℕ → Answer → Type 0
+AnswerFits d f name A.Unknown = Unit {0}
+AnswerFits d f name (A.Known c) = Sought d f name c
 
 abbrev pub placeOfAnswer : ℕ → Answer → ℕ
 placeOfAnswer end A.Unknown = end
@@ -54,10 +54,10 @@ pub record Cursor (d : List ℕ) (at k place left : ℕ) : Type 0 where
   pub last : (f : Forest) (m : ℕ) → distinct f ≡ true → Reads (drop at d) f k m → Last d f place left
 
 -- what is told of a name among the k siblings at a place is so, and lies in the data, from that place on
-pub record Told (d : List ℕ) (at k : ℕ) (name : List ℕ) (r : Answer) : Type 0 where
+pub record AnswerHolds (d : List ℕ) (at k : ℕ) (name : List ℕ) (r : Answer) : Type 0 where
   pub least : at ≤ placeOfAnswer (length d) r
   pub most : placeOfAnswer (length d) r ≤ length d
-  pub is : (f : Forest) (m : ℕ) → distinct f ≡ true → Reads (drop at d) f k m → Answered d f name r
+  pub is : (f : Forest) (m : ℕ) → distinct f ≡ true → Reads (drop at d) f k m → AnswerFits d f name r
 
 abbrev pub Finds : List ℕ → ℕ → ℕ → List ℕ → Child → Type 0
-Finds d at k name r = Told d at k name (A.Known r)
+Finds d at k name r = AnswerHolds d at k name (A.Known r)

@@ -11,7 +11,7 @@ use lib.Dec.{eqb}
 use Rattle.format.specs.Bytes.{eqList}
 use Rattle.format.specs.Records.{Forest, nil}
 use Rattle.format.specs.Layout.{distinct}
-use Rattle.tree_counts.specs.Judge.{child}
+use Rattle.tree_counts.specs.Counts.{child}
 use Rattle.tree_nodes.specs.Flat.{nameOf, Reads}
 use Rattle.tree_table.specs.Keys.{keyIn, slotIn}
 use Rattle.tree_search.specs.Siblings.{Last, Cursor}

@@ -21,7 +21,7 @@ ghost use lib.ListN.{length, getD, drop};
 ghost use Rattle.format.specs.Bytes.{eqList};
 ghost use Rattle.format.specs.declared.Order.the-variants as O;
 ghost use Rattle.tree_nodes.specs.Flat.{nameOf};
-ghost use Rattle.tree_search.specs.Siblings.{Cursor, Told};
+ghost use Rattle.tree_search.specs.Siblings.{Cursor, AnswerHolds};
 ghost use Rattle.tree_search.specs.Table.{Known};
 ghost use Rattle.tree_search.specs.Rows.{Moved, RowOf};
 
@@ -142,7 +142,7 @@ fn find_by_cursor(
     t: &mut Table,
 ) -> Answer
     requires { ⌜ (c < 16) × (length (now d) ≤ 16777216) × RowOf (now d) (getD (now t) (3078 + level * 3) 0) (getD (now t) (3078 + level * 3 + 1) 0) level (now t) ⌝ }
-    ensures { λ r. ⌜ ((at k : ℕ) → RowOf (now (d .entry)) at k level (now (t .entry)) → Told (now (d .entry)) at k (now (name .entry)) r × RowOf (now (d .entry)) at k level (now (t .exit))) ⌝ }
+    ensures { λ r. ⌜ ((at k : ℕ) → RowOf (now (d .entry)) at k level (now (t .entry)) → AnswerHolds (now (d .entry)) at k (now (name .entry)) r × RowOf (now (d .entry)) at k level (now (t .exit))) ⌝ }
 {
     let i = cell_of(level, c);
     let count = t[i + 1];
@@ -205,7 +205,7 @@ fn set_cursors(d: &[u8], at: usize, k: u32, level: usize, t: &mut Table)
 // one for the index's order, and where that does not tell, those for lengths are set.
 fn find_in_row(d: &[u8], at: usize, k: u32, name: &[u8], level: usize, t: &mut Table) -> Answer
     requires { ⌜ (length (now d) ≤ 16777216) × RowOf (now d) at k level (now t) ⌝ }
-    ensures { λ r. ⌜ Told (now (d .entry)) at k (now (name .entry)) r × Known (now (d .entry)) (now (t .exit)) ⌝ }
+    ensures { λ r. ⌜ AnswerHolds (now (d .entry)) at k (now (name .entry)) r × Known (now (d .entry)) (now (t .exit)) ⌝ }
 {
     let c = cursor_for(name.len());
     if t[list_of(level) + 2] == 1 {
@@ -226,7 +226,7 @@ fn find_in_row(d: &[u8], at: usize, k: u32, name: &[u8], level: usize, t: &mut T
 // The one of k siblings at a place that has this name, by the cursors of their level, if that has a row and its cursors tell.
 pub fn find_in_order(d: &[u8], at: usize, k: u32, name: &[u8], level: u32, t: &mut Table) -> Answer
     requires { ⌜ (at ≤ length (now d)) × (length (now d) ≤ 16777216) × Known (now d) (now t) ⌝ }
-    ensures { λ r. ⌜ Told (now (d .entry)) at k (now (name .entry)) r × Known (now (d .entry)) (now (t .exit)) ⌝ }
+    ensures { λ r. ⌜ AnswerHolds (now (d .entry)) at k (now (name .entry)) r × Known (now (d .entry)) (now (t .exit)) ⌝ }
 {
     if k == 0 {
         return Answer::Known(Child::Missing);

@@ -19,7 +19,7 @@ ghost use Prim.Native.Nat.{ℕ, _≤_, _<_};
 ghost use lib.ListN.{length, drop};
 ghost use Rattle.tree_nodes.specs.Flat.{nameOf};
 ghost use Rattle.tree_table.specs.Keys.{keyIn};
-ghost use Rattle.tree_search.specs.Siblings.{Told};
+ghost use Rattle.tree_search.specs.Siblings.{AnswerHolds};
 ghost use Rattle.tree_search.specs.Table.{Known, Vacant, withPlace, firstSlot, slotsOf, listOf};
 ghost use Rattle.tree_search.specs.declared.table.Region.{Region};
 
@@ -176,7 +176,7 @@ pub fn put_places(d: &[u8], at: usize, k: u32, region: Region, t: &mut Table)
 // What a table says of a name among the k siblings at a place.
 pub fn find_in_table(d: &[u8], at: usize, k: u32, name: &[u8], region: Region, t: &Table) -> Answer
     requires { ⌜ (at ≤ length (now d)) × (length (now d) ≤ 16777216) × Known (now d) (now t) ⌝ }
-    ensures { λ r. ⌜ Told (now (d .entry)) at k (now (name .entry)) r ⌝ }
+    ensures { λ r. ⌜ AnswerHolds (now (d .entry)) at k (now (name .entry)) r ⌝ }
 {
     if !is_of(t, list_of(region), at, k) {
         return Answer::Unknown;

@@ -33,20 +33,20 @@ use Rattle.entries.proofs.Fields.{fields-are}
 use Rattle.walk.specs.declared.Sight.{Sight}
 use Rattle.walk.specs.declared.Sight.the-variants.{Nothing, Found}
 use Rattle.walk.specs.Walks.{placeAt, walkable, or18, walkRead, walkAnswer, nameShown, placeAfter, StepShows}
-use Rattle.walk.specs.Sights.{sightRead, Stands, Sees}
+use Rattle.walk.specs.Sights.{sightRead, PartsInside, Sees}
 use Rattle.walk.proofs.Plain.{tail-bad, tail-start}
 use Rattle.walk.proofs.Steps.{walk-on, view-is, place-is}
 
 -- ---- nothing, or an entry
 
 sees-nothing : (x : Read Entry) (b : List ℕ) (at : ℕ) → x ≡ bad 18 0 → Sees x b at Nothing
-sees-nothing x b at e = record { same = e; stands = λ h n m q. let z : _≡_ {A = ℕ} 0 1 = cc in absurd (omega arith) }
+sees-nothing x b at e = record { same = e; parts = λ h n m q. let z : _≡_ {A = ℕ} 0 1 = cc in absurd (omega arith) }
 
-sees-found : (x : Read Entry) (b : List ℕ) (at : ℕ) (h : Head) (n m : ℕ) → x ≡ sightRead b at (Found h n m) → Stands b at h n m → Sees x b at (Found h n m)
+sees-found : (x : Read Entry) (b : List ℕ) (at : ℕ) (h : Head) (n m : ℕ) → x ≡ sightRead b at (Found h n m) → PartsInside b at h n m → Sees x b at (Found h n m)
 sees-found x b at h n m e s =
     record {
       same = e;
-      stands = λ h′ n′ m′ q.
+      parts = λ h′ n′ m′ q.
           let head : h ≡ h′ = cc in
           let name : n ≡ n′ = cc in
           let taken : m ≡ m′ = cc in rw (head, name, taken) at s;
@@ -153,18 +153,18 @@ module _ (f : List ℕ) (at left : ℕ) where
     pub place-moves : (end less : ℕ) → end ≡ at + h .length + m → less ≡ left - 1 → placeAt end less ≡ placeAfter 20 f at left
     place-moves end less e l = let sum : end ≡ at + (h .length + m) = omega arith in rw (place-is 20 f at left _ (s .same), sum, l)
 
-    pub found-stands : Stands (bodyIn 20 f) at h n m
-    found-stands = s .stands h n m refl
+    pub found-parts : PartsInside (bodyIn 20 f) at h n m
+    found-parts = s .parts h n m refl
 
     pub body-long : length (bodyIn 20 f) + 20 ≤ length f
-    body-long = let l = length-take (length f - 20) f in let t = found-stands in omega arith
+    body-long = let l = length-take (length f - 20) f in let t = found-parts in omega arith
 
     pub step-shows : (x : Fields) → ((name : List ℕ) → entryWith x name ≡ entryOf 20 (drop at (bodyIn 20 f)) (h .flags) (h .word) name)
         → StepShows (namePlace 20 at (bodyIn 20 f)) (walkAnswer 20 f at left) f (record { shown = S.InFile (at + h .length) n; fields = x })
     unfolding entrySaid nameIn entryOf
     step-shows x fields =
         let v = view-is 20 f at left _ (s .same) in
-        let t = found-stands in
+        let t = found-parts in
         let long = body-long in
         let within : at + h .length + n ≤ length f - 20 = omega arith in
         let bytes : List ℕ = take n (drop (at + h .length) (bodyIn 20 f)) in

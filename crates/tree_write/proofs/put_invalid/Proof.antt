@@ -3,18 +3,18 @@ use Prim.Native.Nat.{_+_, _≤_}
 use native.Mathlib.Omega.{arith}
 use borrow.Author.Needs.{needs}
 use lib.ListN.{length, length-take, length-drop}
-use Rattle.tree_write.proofs.Nodes.{Stands, stands, nul-in, space-in, invalid-written}
+use Rattle.tree_write.proofs.Nodes.{NodeCut, cut-here, nul-in, space-in, invalid-written}
 use Rattle.tree_write.proofs.put_invalid.Statement.{statement}
 use Rattle.tree_write.proofs.put_invalid.Tie as tie
 
-stands-of : (c : tie.Start) → Stands (c .args .d .now) (c .args .place) (c .args .node)
-stands-of c = stands _ _ (c .pre .0 .inside) _ (c .pre .1)
+cut-of : (c : tie.Start) → NodeCut (c .args .d .now) (c .args .place) (c .args .node)
+cut-of c = cut-here _ _ (c .pre .0 .inside) _ (c .pre .1)
 
 nul-of : (c : tie.Start) → (c .args .place ≤ c .args .node .nul) × (c .args .node .nul + 1 ≤ length (c .args .d .now))
-nul-of c = nul-in _ _ _ (stands-of c)
+nul-of c = nul-in _ _ _ (cut-of c)
 
 space-of : (c : tie.After-find) → (c .find .result ≤ c .before .before .before .before .args .node .object) × (c .before .before .before .before .args .node .object ≤ length (c .before .before .before .before .args .d .now))
-space-of c = space-in _ _ _ (stands-of (c .before .before .before .before)) _ (c .find .ensures .0)
+space-of c = space-in _ _ _ (cut-of (c .before .before .before .before)) _ (c .find .ensures .0)
 
 add-count : tie.Need-add-count
 add-count c = let nul = nul-of (c .before .before .before) in omega arith
@@ -56,7 +56,7 @@ returns c =
     let one = two .before .before .before .before in
     let first = one .before .before .before .before in
     let find = first .before .before in
-    invalid-written _ _ _ (stands-of (find .before .before .before .before)) _ (find .find .ensures .0) _ _ _ _ _ _ _ _ _ _ (first .put-part .ensures) (one .put-byte .ensures) (two .put-byte2 .ensures) (l .put-part2 .ensures)
+    invalid-written _ _ _ (cut-of (find .before .before .before .before)) _ (find .find .ensures .0) _ _ _ _ _ _ _ _ _ _ (first .put-part .ensures) (one .put-byte .ensures) (two .put-byte2 .ensures) (l .put-part2 .ensures)
 
 pub put-invalid-spec : {M : Type 1} → statement M
 put-invalid-spec =

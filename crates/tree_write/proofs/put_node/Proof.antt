@@ -1,16 +1,16 @@
 -- The proof that `put_node` meets its contract: a valid node is copied, an invalid one is written as one made invalid.
 use native.Mathlib.Omega.{arith}
 use borrow.Author.Needs.{needs}
-use Rattle.tree_write.proofs.Nodes.{Stands, stands, valid-written, invalid-kept}
+use Rattle.tree_write.proofs.Nodes.{NodeCut, cut-here, valid-written, invalid-kept}
 use Rattle.tree_write.proofs.put_node.Statement.{statement}
 use Rattle.tree_write.proofs.put_node.Tie as tie
 
-stands-of : (c : tie.Start) → Stands (c .args .d .now) (c .args .place) (c .args .node)
-stands-of c = stands _ _ (c .pre .0 .inside) _ (c .pre .1)
+cut-of : (c : tie.Start) → NodeCut (c .args .d .now) (c .args .place) (c .args .node)
+cut-of c = cut-here _ _ (c .pre .0 .inside) _ (c .pre .1)
 
 put-part-requires : tie.Need-put-part-requires
 put-part-requires c κs =
-    let x = stands-of (c .before .before .before .before) in
+    let x = cut-of (c .before .before .before .before) in
     let next = x .next in
     let within = x .within in
     (omega arith, omega arith, omega arith)
@@ -22,7 +22,7 @@ returns : tie.Need-returns
 returns c =
     let put = c .before .before in
     let yes = put .before .before in
-    valid-written _ _ _ (stands-of (yes .before .before .before)) _ _ _ _ (yes .if1 .taken) (put .put-part .ensures)
+    valid-written _ _ _ (cut-of (yes .before .before .before)) _ _ _ _ (yes .if1 .taken) (put .put-part .ensures)
 
 put-invalid-requires : tie.Need-put-invalid-requires
 put-invalid-requires c κs = search needs
@@ -34,7 +34,7 @@ returns-2 : tie.Need-returns-2
 returns-2 c =
     let put = c .before .before in
     let no = put .before .before in
-    invalid-kept _ _ _ (stands-of (no .before .before .before)) _ _ _ _ (no .if1 .left) (put .put-invalid .ensures)
+    invalid-kept _ _ _ (cut-of (no .before .before .before)) _ _ _ _ (no .if1 .left) (put .put-invalid .ensures)
 
 pub put-node-spec : {M : Type 1} → statement M
 put-node-spec =

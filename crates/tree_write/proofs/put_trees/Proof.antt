@@ -11,7 +11,7 @@ use Rattle.tree_nodes.specs.Flat.{treesLength, Reads}
 use Rattle.tree_nodes.proofs.Nodes.{node-is}
 use Rattle.tree_nodes.proofs.Flat.{trees-end, trees-more, trees-stop}
 use Rattle.tree_write.specs.Written.{NodeHere}
-use Rattle.tree_write.proofs.Trees.{Left, left-start, left-end, left-stop, left-on}
+use Rattle.tree_write.proofs.Trees.{TreesToWrite, left-start, left-end, left-stop, left-on}
 use Rattle.tree_write.proofs.put_trees.Statement.{statement}
 use Rattle.tree_write.proofs.put_trees.Tie as tie
 
@@ -19,7 +19,7 @@ abbrev Inv-loop : tie.InvT-loop
 Inv-loop d start n out₀ at place₀ end₀ pending₀ out place end pending =
     (start ≤ place) × (place ≤ length d) × (pending ≤ n + (place - start) * 4294967296) × (end + start ≤ at + place) × (length out ≡ length out₀)
     × (start + treesLength n (drop start d) ≡ place + treesLength pending (drop place d))
-    × ((f : Forest) (m : ℕ) → Reads (drop start d) f n m → Left d out₀ at (writeForest f) place pending out end)
+    × ((f : Forest) (m : ℕ) → Reads (drop start d) f n m → TreesToWrite d out₀ at (writeForest f) place pending out end)
 
 abbrev μ-loop : tie.MeasureT-loop
 μ-loop d start n out₀ at place₀ end₀ pending₀ out place end pending = length d - place

@@ -4,7 +4,7 @@ use mathlib.Core.List.{[]}
 use native.Mathlib.Omega.{arith}
 use Rattle.fields.proofs.Workspace.{frame-same}
 use Rattle.tree_nodes.proofs.Nodes.{node-is}
-use Rattle.tree_check.proofs.Wholes.{answer-none, answer-untidy, answer-tidy}
+use Rattle.tree_check.proofs.Wholes.{answer-none, answer-inconsistent, answer-consistent}
 use borrow.Author.Needs.{needs}
 use Rattle.tree_check.proofs.counts.counts_ok.Statement.{statement}
 use Rattle.tree_check.proofs.counts.counts_ok.Tie as tie
@@ -49,7 +49,7 @@ returns-2 c =
     record {
       frame = frame-same _;
       is = λ es m t n q₁ q₂ differ.
-          answer-untidy _ t n q₂ differ _ _ (sym (k .before .read .given .1) ∙ k .before .before .before .read-node .ensures) _ (c .before .before .survey-trees .ensures) (c .enum-told2 .given .1);
+          answer-inconsistent _ t n q₂ differ _ _ (sym (k .before .read .given .1) ∙ k .before .before .before .read-node .ensures) _ (c .before .before .survey-trees .ensures) (c .enum-told2 .given .1);
     }
 
 same-length : tie.Need-same-length
@@ -62,7 +62,7 @@ returns-3 c =
     record {
       frame = w .frame;
       is = λ es m t n q₁ q₂ differ.
-          answer-tidy _ t n q₂ differ _ _ (sym (k .before .read .given .1) ∙ k .before .before .before .read-node .ensures) _ (c .before .before .before .before .before .before .before .before .survey-trees .ensures) _ (c .before .before .before .before .before .before .found .given .1) _ (w .is es m q₁);
+          answer-consistent _ t n q₂ differ _ _ (sym (k .before .read .given .1) ∙ k .before .before .before .read-node .ensures) _ (c .before .before .before .before .before .before .before .before .survey-trees .ensures) _ (c .before .before .before .before .before .before .found .given .1) _ (w .is es m q₁);
     }
 
 pub counts-ok-spec : {M : Type 1} → statement M

@@ -8,17 +8,17 @@ use lib.ListN.{length, drop}
 use Rattle.format.specs.Records.{Forest}
 use Rattle.tree_nodes.specs.Flat.{Reads}
 use Rattle.tree_nodes.proofs.Nodes.{node-is}
-use Rattle.tree_check.proofs.Surveys.{Surveying, survey-start, survey-end, survey-stop, survey-untidy, survey-on}
+use Rattle.tree_check.proofs.Surveys.{Surveying, survey-start, survey-end, survey-stop, survey-inconsistent, survey-on}
 use Rattle.tree_check.proofs.survey.survey_trees.Statement.{statement}
 use Rattle.tree_check.proofs.survey.survey_trees.Tie as tie
 
 abbrev Inv-loop : tie.InvT-loop
-Inv-loop d at k valid place₀ pending₀ strict₀ met₀ place pending strict met =
-    (at ≤ place) × (place ≤ length d) × (pending ≤ (1 + (place - at)) * 4294967296) × (strict ≤ pending) × (met ≤ place - at)
-    × ((f : Forest) (m : ℕ) → Reads (drop at d) f k m → Surveying d valid f place pending strict met)
+Inv-loop d at k valid place₀ pending₀ strict₀ nodes₀ place pending strict nodes =
+    (at ≤ place) × (place ≤ length d) × (pending ≤ (1 + (place - at)) * 4294967296) × (strict ≤ pending) × (nodes ≤ place - at)
+    × ((f : Forest) (m : ℕ) → Reads (drop at d) f k m → Surveying d valid f place pending strict nodes)
 
 abbrev μ-loop : tie.MeasureT-loop
-μ-loop d at k valid place₀ pending₀ strict₀ met₀ place pending strict met = length d - place
+μ-loop d at k valid place₀ pending₀ strict₀ nodes₀ place pending strict nodes = length d - place
 
 demand-requires : tie.Need-demand-requires Inv-loop μ-loop
 demand-requires c κs = search needs
@@ -47,7 +47,7 @@ returns-2 : tie.Need-returns-2 Inv-loop μ-loop
 returns-2 c =
     let k = c .before .before in
     let l = k .before .before .before .before .before in
-    λ f m r. survey-untidy _ _ f _ _ _ _ (l .loop .inv .5 f m r) (k .before .before .before .before .loop-test .taken) _ (sym (k .before .read .given .1) ∙ k .before .before .before .read-node .ensures) (sym (c .before .is-wrong .ensures) ∙ c .if1 .taken)
+    λ f m r. survey-inconsistent _ _ f _ _ _ _ (l .loop .inv .5 f m r) (k .before .before .before .before .loop-test .taken) _ (sym (k .before .read .given .1) ∙ k .before .before .before .read-node .ensures) (sym (c .before .is-wrong .ensures) ∙ c .if1 .taken)
 
 demand-requires-2 : tie.Need-demand-requires-2 Inv-loop μ-loop
 demand-requires-2 c κs = omega arith
@@ -55,8 +55,8 @@ demand-requires-2 c κs = omega arith
 weight-requires : tie.Need-weight-requires Inv-loop μ-loop
 weight-requires c κs = search needs
 
-add-met : tie.Need-add-met Inv-loop μ-loop
-add-met c = omega (arith, c .weight .ensures .1)
+add-nodes : tie.Need-add-nodes Inv-loop μ-loop
+add-nodes c = omega (arith, c .weight .ensures .1)
 
 sub-pending : tie.Need-sub-pending Inv-loop μ-loop
 sub-pending c = omega arith
@@ -108,7 +108,7 @@ survey-trees-spec =
     returns-2
     demand-requires-2
     weight-requires
-    add-met
+    add-nodes
     sub-pending
     cast-pending
     add-pending

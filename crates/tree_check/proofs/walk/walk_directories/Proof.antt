@@ -8,7 +8,7 @@ use lib.ListN.{length, drop}
 use Rattle.format.specs.Records.{Forest}
 use Rattle.format.specs.Reading.{good}
 use Rattle.format.specs.Reader.{readForest}
-use Rattle.tree_counts.specs.Judge.{Sound}
+use Rattle.tree_counts.specs.Counts.{SoundForest}
 use Rattle.entries_directory.specs.Ahead.{Ahead}
 use Rattle.tree_search.specs.Table.{Known}
 use Rattle.tree_check.proofs.Turns.{turns, turns-passed}
@@ -21,7 +21,7 @@ use Rattle.tree_check.proofs.walk.walk_directories.Tie as tie
 abbrev Inv-loop : tie.InvT-loop
 Inv-loop d expected b v work₀ t₀ above₀ level₀ dir₀ front₀ ok₀ found₀ work t above level dir front ok found =
     Known d t × Looping d b work₀ above work level dir front found
-    × ((f : Forest) (n : ℕ) → Sound f → readForest 20 0 127 (dir₀ .k) (drop (dir₀ .at) d) ≡ good f n → (x : List ℕ) (xs : List (List ℕ)) → Ahead v b work₀ front₀ x xs
+    × ((f : Forest) (n : ℕ) → SoundForest f → readForest 20 0 127 (dir₀ .k) (drop (dir₀ .at) d) ≡ good f n → (x : List ℕ) (xs : List (List ℕ)) → Ahead v b work₀ front₀ x xs
     → Walk d above b v dir₀ f (x ∷ xs) work level dir front ok found)
 
 abbrev μ-loop : tie.MeasureT-loop

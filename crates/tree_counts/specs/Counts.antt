@@ -29,15 +29,15 @@ unfoldable pub plain : Forest → Bool
 plain nil = true
 plain (tree n kids after) = okNodeName (n .name) && (plain kids && plain after)
 
--- siblings with such names, no two of them equal, all the way down
-pub record Sound (f : Forest) : Type 0 where
+-- siblings with such names, no two of them equal, on every level
+pub record SoundForest (f : Forest) : Type 0 where
   pub plainly : plain f ≡ true
   pub differ : distinct f ≡ true
 
 -- the subtrees of every valid node are valid
-unfoldable pub tidy : Forest → Bool
-tidy nil = true
-tidy (tree n kids after) = cond (isValid (n .count)) (allValid kids) true && (tidy kids && tidy after)
+unfoldable pub validBelow : Forest → Bool
+validBelow nil = true
+validBelow (tree n kids after) = cond (isValid (n .count)) (allValid kids) true && (validBelow kids && validBelow after)
 
 -- how many nodes are valid with a count of at least 1
 unfoldable pub positive : Forest → ℕ
@@ -61,7 +61,7 @@ unfoldable pub covered : List (List ℕ) → Forest → Bool
 covered [] f = true
 covered (s ∷ ss) f = (lacks 47 s || reached s f) && covered ss f
 
--- the test of a node that names are under, and what it adds to the number of nodes met
+-- the test of a node that names are under, and what it adds to the number of nodes found
 abbrev pub counted : Count → List (List ℕ) → Bool
 counted c [] = true
 counted c (s ∷ ss) = says c (length (s ∷ ss))
@@ -71,16 +71,16 @@ hit c [] = 0
 hit c (s ∷ ss) = weight c
 
 -- every sibling that names are under counts them where it is valid, they are covered by its subtrees where it is valid, and those hold likewise
-unfoldable pub judgeEach : List (List ℕ) → Forest → Bool
-judgeEach names nil = true
-judgeEach names (tree n kids after) =
+unfoldable pub countsHoldEach : List (List ℕ) → Forest → Bool
+countsHoldEach names nil = true
+countsHoldEach names (tree n kids after) =
     (counted (n .count) (inside (n .name) names)
-    && (cond (isValid (n .count)) (covered (inside (n .name) names) kids) true && judgeEach (inside (n .name) names) kids))
-    && judgeEach names after
+    && (cond (isValid (n .count)) (covered (inside (n .name) names) kids) true && countsHoldEach (inside (n .name) names) kids))
+    && countsHoldEach names after
 
 -- the same with the directory's own node, valid or not
-unfoldable pub judge : Bool → List (List ℕ) → Forest → Bool
-judge v names f = cond v (covered names f) true && judgeEach names f
+unfoldable pub countsHold : Bool → List (List ℕ) → Forest → Bool
+countsHold v names f = cond v (covered names f) true && countsHoldEach names f
 
 -- how many of the nodes that names are under are valid with a count of at least 1
 unfoldable pub matched : List (List ℕ) → Forest → ℕ

@@ -1,22 +1,22 @@
--- The proof that `put_way` meets its contract. The loop keeps what is still to write.
+-- The proof that `put_path` meets its contract. The loop keeps what is still to write.
 use mathlib.Core.Path.{_≡_, refl, _∙_}
 use Prim.Native.Nat.{ℕ, _+_, _*_, _-_, _≤_}
 use native.Mathlib.Omega.{arith}
 use lib.ListN.{length, drop}
 use Rattle.format.specs.Records.{Forest}
 use Rattle.format.specs.Writer.{writeForest}
-use Rattle.format.specs.Requests.{invalidWay}
-use Rattle.tree_counts.specs.Judge.{Sound}
+use Rattle.format.specs.Requests.{invalidPath}
+use Rattle.tree_counts.specs.Counts.{SoundForest}
 use Rattle.tree_nodes.specs.Flat.{Reads}
-use Rattle.tree_write.specs.Steps.{Ready}
-use Rattle.tree_write.proofs.Steps.{way-start, way-end, Going, going-start, going-on}
-use Rattle.tree_write.proofs.put_way.Statement.{statement}
-use Rattle.tree_write.proofs.put_way.Tie as tie
+use Rattle.tree_write.specs.Steps.{StepBounds}
+use Rattle.tree_write.proofs.Steps.{way-start, path-end, Going, going-start, going-on}
+use Rattle.tree_write.proofs.put_path.Statement.{statement}
+use Rattle.tree_write.proofs.put_path.Tie as tie
 
 abbrev Inv-loop : tie.InvT-loop
 Inv-loop d start k name out₀ at w₀ out w =
-    Ready d name w × (w .at + start ≤ at + w .place) × (length out ≡ length out₀)
-    × ((f : Forest) (m : ℕ) → Sound f → Reads (drop start d) f k m → Going d name out₀ at (writeForest (invalidWay 20 name f)) out w)
+    StepBounds d name w × (w .at + start ≤ at + w .place) × (length out ≡ length out₀)
+    × ((f : Forest) (m : ℕ) → SoundForest f → Reads (drop start d) f k m → Going d name out₀ at (writeForest (invalidPath 20 name f)) out w)
 
 abbrev μ-loop : tie.MeasureT-loop
 μ-loop d start k name out₀ at w₀ out w = (length d - w .place) * 4294967296 + w .left
@@ -62,12 +62,12 @@ returns c =
     let within = t .within in
     let before = l .loop .inv .1 in
     record {
-      wrote = λ f m sound r. let x = l .loop .inv .3 f m sound r in x .rest _ _ (way-end _ _ _ _ (x .still) (no .if1 .left) _ _ _ t);
+      wrote = λ f m sound r. let x = l .loop .inv .3 f m sound r in x .rest _ _ (path-end _ _ _ _ (x .still) (no .if1 .left) _ _ _ t);
       short = omega arith;
     }
 
-pub put-way-spec : {M : Type 1} → statement M
-put-way-spec =
+pub put-path-spec : {M : Type 1} → statement M
+put-path-spec =
     tie.close
     (tie.spec
     Inv-loop

@@ -1,9 +1,9 @@
--- The proof that `seal` meets its contract.
+-- The proof that `append_checksum` meets its contract.
 use mathlib.Core.Path.{sym}
 use lib.Seq.{length-take-le}
 use borrow.Author.Needs.{needs}
-use Rattle.file_write.proofs.seal.Statement.{statement}
-use Rattle.file_write.proofs.seal.Tie as tie
+use Rattle.file_write.proofs.append_checksum.Statement.{statement}
+use Rattle.file_write.proofs.append_checksum.Tie as tie
 
 slice-reshare-prefix-sha1 : tie.Need-slice-reshare-prefix-sha1
 slice-reshare-prefix-sha1 c = search needs
@@ -28,8 +28,8 @@ returns c =
     let q = c .before .before in
     rw (q .before .before .before .sha1 .ensures) at (q .put-bytes .ensures)
 
-pub seal-spec : {M : Type 1} → statement M
-seal-spec =
+pub append-checksum-spec : {M : Type 1} → statement M
+append-checksum-spec =
     tie.close
     (tie.spec
     slice-reshare-prefix-sha1
