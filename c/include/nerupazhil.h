@@ -3,8 +3,8 @@
  * Link with libnerupazhil.a, which needs memcpy and memset and nothing else. c/examples has two programs.
  *
  * Slices. A buffer is a pointer and its number of bytes. NULL with length 0 is an empty slice.
- *   file    the whole index, as its bytes stand on the disk
- *   work    a workspace, at least NERUPAZHIL_WORKSPACE bytes; what stands in it before a call is of no importance
+ *   file    the whole index, as its bytes are on the disk
+ *   work    a workspace, at least NERUPAZHIL_WORKSPACE bytes; what is in it before a call is of no importance
  *   out     where a call that writes puts the new index; NERUPAZHIL_FILE bytes are always enough
  *   name    the name of an entry, 1 to NERUPAZHIL_NAME bytes, no NUL at its end
  *

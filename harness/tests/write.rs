@@ -24,7 +24,7 @@ fn refused(number: u32) -> ffi::WriteReply {
 
 // ---- results that are written out
 
-/// What both libraries write with an output of so many bytes, or how they refuse.
+/// What both libraries write with an output of the given number of bytes, or how they refuse.
 fn written(file: &[u8], call: Call, room: usize) -> Result<Vec<u8>, u32> {
     let mut comparison = Comparison::new(Place::Pages);
     comparison.lend_file(file, Edge::End);

@@ -36,7 +36,7 @@ inRoom work x = cond (tooSmall work) (bad 19 0) x
 unfoldable pub cleared : List ℕ → List ℕ
 cleared work = cond (tooSmall work) work (replicate 8192 0 ++ drop 8192 work)
 
--- a name stands first, zeros follow
+-- a name is first, zeros follow
 unfoldable pub holding : List ℕ → List ℕ → List ℕ
 holding name work = name ++ (replicate (8192 - length name) 0 ++ drop 8192 work)
 
@@ -187,7 +187,7 @@ abbrev pub countNumber : F.Count → ℕ
 countNumber (F.valid n) = n
 countNumber F.invalid = 0
 
--- an item, whose name stands where s says
+-- an item, whose name is where s says
 abbrev pub entryAs : Shown → F.Entry → EntryAnswer
 entryAs s e = record { shown = s; fields = fieldsOf e }
 
@@ -212,7 +212,7 @@ undoAs s u = record {
   third = u .third .object;
 }
 
--- the answer that shows a view, from that of a refusal and that of an item. A name in the file stands at the place at, one in the workspace at
+-- the answer that shows a view, from that of a refusal and that of an item. A name in the file is at the place at, one in the workspace at
 -- its start
 abbrev pub shownAs : {A R : Type 0} → (ℕ → ℕ → R) → (Shown → A → R) → (A → List ℕ) → ℕ → View A → R
 shownAs deny show name at (refused n p) = deny n p

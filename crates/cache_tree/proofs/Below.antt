@@ -47,7 +47,7 @@ module _ (a b : ℕ) (v : Bool) where
       let g : a ≤ b = omega arith in
       rw (le-ltb a b l, le-ltb b a g)
 
-  -- by the three ways two numbers stand to each other
+  -- by the three ways two numbers compare
   first-is : (r : Bool) → (a < b → r ≡ true) → (b < a → r ≡ false) → (a ≡ b → r ≡ v) → firstBelow a b v ≡ r
   unfolding firstBelow
   first-is r f g k = is-by (ltb a b) (ltb b a) refl refl

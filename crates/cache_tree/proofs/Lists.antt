@@ -266,7 +266,7 @@ module _ (d : List ℕ) (l place left : ℕ) where
         ap (λ (x : Read Forest). listAt place (tested distinctBelow x)) (forest-more l left (drop place d) some)
         ∙ rw (is .reads, drop-to d place (next - place) next e, is .nodes) (shift-others place (next - place) next (is .of) (readForest 20 0 l (left - 1) (drop next d)) e (is .passes))
 
--- the loop over siblings: the answer for the whole list, of which so many nodes stand before the place, before the siblings' own names are tested
+-- the loop over siblings: the answer for the whole list, of which some nodes are before the place, before the siblings' own names are tested
 module _ (d : List ℕ) (l place left : ℕ) (whole : ListRead) (nodes : ℕ) (so-far : whole ≡ plus nodes (listAt place (tested distinctBelow (readForest 20 0 l left (drop place d))))) where
   loop-end : left ≤ 0 → L.Good place nodes ≡ whole
   loop-end h = sym (so-far ∙ ap (plus nodes) (turn-none d l place left h) ∙ rw (add-zero nodes))

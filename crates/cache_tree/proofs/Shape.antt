@@ -153,7 +153,7 @@ module _ (d : List ℕ) where
 
 -- ---- node number k
 
--- it stands where k nodes have passed
+-- it is where k nodes have passed
 pub tree-item : (d : List ℕ) (t : Tree) (m : ℕ) → readNodes 20 0 d ≡ good t m → (k : ℕ) (z : Item) → k < length (treeItems t) → Shown (drop (nodeStart 20 k d) d) (getD (treeItems t) k z)
 tree-item d t m e k z lt =
     let f : Forest = tree (t .root) (t .subtrees) nil in

@@ -61,7 +61,7 @@ module _ (d : List ℕ) (a k : ℕ) where
 
 -- ---- siblings that are read one after another, and whether they rise
 
--- Rises b d at k previous place left rises: of the k siblings at a place, the one at `previous` was read last, and `left` stand from `place` on. Where
+-- Rises b d at k previous place left rises: of the k siblings at a place, the one at `previous` was read last, and `left` are from `place` on. Where
 -- names rise so far, all differ if those that are left rise too
 pub data Rises (b : Bool) (d : List ℕ) (at k : ℕ) : ℕ → ℕ → ℕ → Bool → Type 0 where
   at-first : {rises : Bool} → Rises b d at k at at k rises

@@ -11,7 +11,7 @@ use Rattle.cache_tree.specs.declared.list.ListRead.{ListRead}
 use Rattle.cache_tree.specs.declared.list.ListRead.the-variants as L
 use Rattle.tree_nodes.specs.Flat.{size}
 
--- one node and all below it, with at most so many levels
+-- one node and all below it, with at most the given number of levels
 unfoldable pub readOne : ℕ → List ℕ → Read Forest
 readOne zero s = bad 15 0
 readOne (suc levels) s =

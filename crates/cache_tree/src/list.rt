@@ -1,5 +1,5 @@
 // Lists of siblings. Reading a node means reading its list of subtrees, and each of these is a node: the two readers call each other.
-// They end because fewer bytes remain: a node's list stands after the node. The levels are a limit of the format, and tested as such.
+// They end because fewer bytes remain: a node's list is after the node. The levels are a limit of the format, and tested as such.
 use crate::differ::differ;
 use crate::orders::Rising;
 use crate::orders::rise;
@@ -44,7 +44,7 @@ pub(crate) fn with_root(listed: ListRead) -> ListRead
     }
 }
 
-// The node at a place and all below it, with at most so many levels.
+// The node at a place and all below it, with at most the given number of levels.
 pub fn read_subtree(d: &[u8], at: usize, levels: u32, t: &mut Table) -> ListRead
     requires { ⌜ (at ≤ length (now d)) × (length (now d) ≤ 16777216) × (levels ≤ 127) × (length (now t) ≡ 3126) ⌝ }
     ensures { λ r. ⌜ (r ≡ listAt at (tested distinctBelow (readOne levels (drop at (now (d .entry)))))) × (length (now (t .exit)) ≡ 3126) ⌝ }
@@ -66,7 +66,7 @@ pub fn read_subtree(d: &[u8], at: usize, levels: u32, t: &mut Table) -> ListRead
     }
 }
 
-// k siblings at a place and all below them, with at most so many levels. Names that rise in one of two orders differ; others are looked at again.
+// k siblings at a place and all below them, with at most the given number of levels. Names that rise in one of two orders differ; others are looked at again.
 pub fn read_list(d: &[u8], at: usize, levels: u32, k: u32, t: &mut Table) -> ListRead
     requires { ⌜ (at ≤ length (now d)) × (length (now d) ≤ 16777216) × (levels ≤ 127) × (length (now t) ≡ 3126) ⌝ }
     ensures { λ r. ⌜ (r ≡ listAt at (tested distinct (readForest 20 0 levels k (drop at (now (d .entry)))))) × (length (now (t .exit)) ≡ 3126) ⌝ }

@@ -191,7 +191,7 @@ full-shown :
 unfolding closed
 full-shown = (ap (checkAnswer work) full-read, ap (nodeAnswer work 1) full-read, ap (undoAnswer work 0) full-read)
 
--- where the names of its entries stand, its two nodes and its record
+-- where the names of its entries are, its two nodes and its record
 full-places :
     (entryNamePlace 20 0 full ≡ 74)
     × (entryNamePlace 20 2 full ≡ 218)

@@ -1,4 +1,4 @@
--- Laws of what stands before an entry's name.
+-- Laws of what is before an entry's name.
 use mathlib.Core.Path.{_≡_, refl, sym, ap, _∙_}
 use mathlib.Core.List.{List}
 use mathlib.Core.Bool.{Bool, true, false, cond, not, _&&_}
@@ -21,7 +21,7 @@ use Rattle.entries.specs.declared.Fixed.the-variants as F
 use Rattle.entries.specs.Answers.{readHead, fixedOf, Size, HeadPassed}
 use Rattle.entries.proofs.Reading.{AnswerKept, kept-need, kept-cond, SameAnswer, alike-need, alike-cond, enough, cut}
 
--- an entry is what stands before its name, and the rest
+-- an entry is what is before its name, and the rest
 pub readEntry-head : (w v : ℕ) (k : Key) (p : ℕ) (s : List ℕ)
     → readEntry w v k p s ≡ bind (readHead w v p s) (λ h m. readTail w v k p (h .length) (h .flags) (h .word) s)
 unfolding readEntry readFixed readHead bind
@@ -57,7 +57,7 @@ module _ (w v : ℕ) (k : Key) (p : ℕ) (s : List ℕ) where
   unfolding headRead bind
   readEntry-good h e = rw (readEntry-head w v k p s, head-kept w v p s .same, e)
 
-  -- what stands before the name of an entry that was read
+  -- what is before the name of an entry that was read
   pub entry-head : {X : Type 0} (e : Entry) (m : ℕ) → readEntry w v k p s ≡ good e m → ((h : Head) → fixedOf (readHead w v p s) ≡ F.Good h → X) → X
   unfolding fixedOf
   entry-head e m q f = bind-inv _ _ _ _ (sym (readEntry-head w v k p s) ∙ q) (λ h i j is rest sum. f h (ap fixedOf is))

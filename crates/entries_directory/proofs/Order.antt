@@ -1,4 +1,4 @@
--- In a list of names that rises, those that begin alike stand together.
+-- In a list of names that rises, those that begin alike are together.
 use mathlib.Core.Path.{_≡_, refl, sym, ap, _∙_}
 use mathlib.Core.List.{List, [], _∷_, _++_}
 use mathlib.Core.Bool.{Bool, true, false, cond, not}

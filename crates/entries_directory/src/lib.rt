@@ -11,7 +11,7 @@ ghost use lib.ListN.{length};
 ghost use lib.Dec.{leb, ltb};
 ghost use Rattle.entries_directory.specs.Ahead.{FrontFits, FrontAdvanced, FrontPassed, MoreFiles, FrontPassedFiles};
 
-// The name of the first entry ahead stands before the cursor. common is what it has in common with the name before it.
+// The name of the first entry ahead is before the cursor. common is what it has in common with the name before it.
 pub struct Front {
     pub cursor: Cursor,
     pub ahead: usize,

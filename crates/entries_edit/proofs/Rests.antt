@@ -200,7 +200,7 @@ module _ {v : ℕ} {b work : List ℕ} {c : Cursor} {work′ : List ℕ} (n vers
         bounds = step-bounds (n - 1) (omega arith) (h .bounds);
       }
 
-  -- it is left out, and another of its name stands in its place
+  -- it is left out, and another of its name is in its place
   pub replaced-written : {work″ out″ : List ℕ} {r : Progress} → EntriesWritten v b work′ (st .next) (n - 1) version out at work″ out″ r
       → (p : List ℕ) → OthersWritten v b work c n true p version out at work″ out″ (record { at = r .at; extended = r .extended })
   replaced-written h p =

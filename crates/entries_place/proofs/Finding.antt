@@ -40,7 +40,7 @@ pub key-at : (v : ℕ) (b w : List ℕ) (c : Cursor) (w′ : List ℕ) (st : Ste
 unfolding entryOf
 key-at v b w c w′ st f = ap (λ (n : ℕ). record { name = nameAt v b w′ (st .next .start) (st .next .len); stage = n }) (sym (f .stage))
 
--- ---- entries that all stand before the key
+-- ---- entries that all are before the key
 
 rank-past : (k : Key) (es gs : List Entry) → rank k es ≡ length es → rank k (es ++ gs) ≡ length es + rank k gs
 unfolding rank
@@ -64,7 +64,7 @@ module _ (k : Key) (es : List Entry) (x : Entry) (all-before : rank k es ≡ len
 
 -- ---- the search
 
--- n entries have been passed, and all of them stand before the key k
+-- n entries have been passed, and all of them are before the key k
 pub record Searching (v : ℕ) (b work₀ : List ℕ) (k : Key) (n : ℕ) (w : List ℕ) (c : Cursor) : Type 0 where
   pub entries : List Entry
   pub walking : Walking v b work₀ entries w c
@@ -98,7 +98,7 @@ module _ {v : ℕ} {b work₀ : List ℕ} {k : Key} {n : ℕ} {w : List ℕ} {c 
   search-left {count} few all = rw (h .many) at (walked-left v b es w c (h .walking .walked) count (omega (arith, h .many)) all)
 
   module _ {count : ℕ} {w′ : List ℕ} (more : n < count) where
-    -- the next entry stands to the key as o says
+    -- the next entry compares to the key as o says
     module _ {st : Step} (t : EntryStepped v b w c w′ (N.Good st)) {o : Order} (e : o ≡ compareKeys (keyAt v b w′ (st .next)) k) where
       abbrev next : Entry
       next = entryAt v b w′ (c .at) st
@@ -121,7 +121,7 @@ module _ {v : ℕ} {b work₀ : List ℕ} {k : Key} {n : ℕ} {w : List ℕ} {c 
             before = one-more k es next all-before (before-by (keyOf next) k o order-is ∙ below) ∙ omega (arith, h .many);
           }
 
-      -- it has the key, or stands after it
+      -- it has the key, or is after it
       pub search-stop : isBelow o ≡ false → PlaceFound v b work₀ count k w′ (record { before = n; there = isSame o })
       search-stop not-below =
           record {

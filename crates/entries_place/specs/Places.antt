@@ -1,4 +1,4 @@
--- Where a name and a stage stand, or would stand, among entries.
+-- Where a name and a stage are, or would be, among entries.
 use mathlib.Core.Path.{_≡_}
 use mathlib.Core.List.{List, [], _∷_}
 use mathlib.Core.Bool.{Bool, true, false, cond, _&&_}
@@ -15,7 +15,7 @@ use Rattle.fields.specs.Workspace.{Frame}
 use Rattle.entries_run.specs.Steps.{EntriesRead}
 use Rattle.entries_place.specs.declared.Place.{Place}
 
--- how stage s of a name stands to stage t of another, of which the first stands to the second as the order says
+-- how stage s of a name compares to stage t of another, where the names compare as the order says
 abbrev pub thenStage : Order → ℕ → ℕ → Order
 thenStage Below s t = Below
 thenStage Same s t = cond (ltb s t) Below (cond (ltb t s) Above Same)
@@ -25,7 +25,7 @@ thenStage Above s t = Above
 unfoldable pub compareKeys : Key → Key → Order
 compareKeys a b = thenStage (compare (a .name) (b .name)) (a .stage) (b .stage)
 
--- how many entries, from the first on, stand before the key k
+-- how many entries, from the first on, are before the key k
 unfoldable pub rank : Key → List Entry → ℕ
 rank k [] = 0
 rank k (x ∷ xs) = cond (goesBefore (keyOf x) k) (suc (rank k xs)) 0
@@ -35,11 +35,11 @@ unfoldable pub startsWith : Key → List Entry → Bool
 startsWith k [] = false
 startsWith k (x ∷ xs) = sameKey (keyOf x) k
 
--- whether an entry of the key k stands at its place
+-- whether an entry of the key k is at its place
 abbrev pub isThere : Key → List Entry → Bool
 isThere k es = startsWith k (drop (rank k es) es)
 
--- whether each entry stands after the one before it, and the first after the key k
+-- whether each entry is after the one before it, and the first after the key k
 unfoldable pub rising : Key → List Entry → Bool
 rising k [] = true
 rising k (x ∷ xs) = goesBefore k (keyOf x) && rising (keyOf x) xs

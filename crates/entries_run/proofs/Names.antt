@@ -64,7 +64,7 @@ module _ (w s : List ℕ) (p n : ℕ) (fits : n ≤ p) (long : p ≤ length w) w
       let e : p ≡ p - n + (p - (p - n)) = omega arith in
       ap (λ (k : ℕ). take k w) e ∙ take-add (p - n) (p - (p - n)) w
 
-  -- the replaced bytes stand to s as the old name to the new one
+  -- the replaced bytes compare to s as the old name to the new one
   pub rebuilt : (k l : ℕ) (w′ : List ℕ) (d : Standing) → StandingOf (take (p - (p - n)) (drop (p - n) w)) s k l d
       → w′ ≡ take (p - n) w ++ (s ++ drop (p - n + length s) w)
       → NameRebuilt w p n s k l w′ (record { rises = d .rises; common = p - n + d .common })

@@ -27,7 +27,7 @@ use Rattle.entries_run.specs.declared.Next.the-variants as N
 use Rattle.entries_run.specs.Steps.{nameAt, keyAt, Inside, HeadAt, readOf, StepFound, StepAnswered, StepRepeated, StepTested, readRest, EntryStepped, EntryPassed}
 use Rattle.entries_run.proofs.Names.{nameAt-short}
 
--- ---- what stands before the name
+-- ---- what is before the name
 
 pub headed-as : (b : List ℕ) (c : Cursor) (h : Head) → Inside b c → Size (drop (c .at) b) h → c .at + h .length ≤ length b → HeadAt b c h
 headed-as b c h inside size there = record { cursor = inside; flags = size .flags; is = size .is; least = size .least; most = size .most; there = there }

@@ -1,4 +1,4 @@
--- Where names stand, and what a step over an entry leaves behind.
+-- Where names are, and what a step over an entry leaves behind.
 use mathlib.Core.Path.{_≡_}
 use mathlib.Core.List.{List, _++_}
 use mathlib.Core.Bool.{Bool, true, false, cond}
@@ -90,7 +90,7 @@ pub record Room (b work : List ℕ) : Type 0 where
 
 -- ---- two names
 
--- how the name t, of stage n, stands to the name s, of stage m
+-- how the name t, of stage n, compares to the name s, of stage m
 pub record StandingOf (s t : List ℕ) (m n : ℕ) (r : Standing) : Type 0 where
   pub rises : r .rises ≡ rises (compare s t) m n
   pub common : r .common ≡ common s t
@@ -164,7 +164,7 @@ EntryPassed v b work c work′ r = StepRepeated (λ p. readEntry 20 v (keyAt v b
 
 -- ---- the run
 
--- before the first entry stands the empty name
+-- before the first entry is the empty name
 abbrev pub firstCursor : Cursor
 firstCursor = cursorOf 12 0 0 0
 
@@ -218,7 +218,7 @@ abbrev pub soughtIn : ℕ → List ℕ → List ℕ → Sought → Option Entry
 soughtIn v b work (S.Bad n p) = none
 soughtIn v b work (S.Good at st) = some (entryAt v b work at st)
 
--- where the parts of the entry at a place stand
+-- where the parts of the entry at a place are
 pub record EntryPlaced (b : List ℕ) (at : ℕ) (st : Step) : Type 0 where
   pub fixed : at + 62 ≤ length b
   pub name : st .next .start + st .next .len ≤ length b

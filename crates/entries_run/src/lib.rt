@@ -13,7 +13,7 @@ use entries::Number;
 use entries::Text;
 use format::Order;
 
-// The place of the next entry, and where the name of the one before stands, with its stage.
+// The place of the next entry, and where the name of the one before is, with its stage.
 pub struct Cursor {
     pub at: usize,
     pub start: usize,
@@ -54,7 +54,7 @@ pub struct Standing {
     pub common: usize,
 }
 
-// Before the first entry stands the empty name.
+// Before the first entry is the empty name.
 pub fn first() -> Cursor
     ensures { λ r. ⌜ r ≡ firstCursor ⌝ }
 {
@@ -100,7 +100,7 @@ fn standing_of(previous: &[u8], name: &[u8], s: u32, t: u32) -> Standing
     }
 }
 
-// The entry with the bytes h before its name, which has len bytes and stands at start; the next entry is at a place.
+// The entry with the bytes h before its name, which has len bytes and is at start; the next entry is at a place.
 fn step_of(h: Head, common: usize, at: usize, start: usize, len: usize) -> Step
     ensures { λ r. ⌜ r ≡ stepOf h common at start len ⌝ }
 {

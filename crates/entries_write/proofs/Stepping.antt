@@ -1,4 +1,4 @@
--- Laws of one step: where its entry stands, its name and the one before.
+-- Laws of one step: where its entry is, its name and the one before.
 use mathlib.Core.Path.{_≡_, refl, sym}
 use mathlib.Core.List.{List}
 use Prim.Native.Nat.{ℕ, _-_, _≤_}

@@ -48,7 +48,7 @@ pub record RestWritten (out : List ℕ) (at version base word : ℕ) (name : Lis
   pub wrote : (e : Entry) (p : List ℕ) → EntryParts e base word name → Beside p name previous kept → Wrote out at (writeRest 20 version p (needsWord e) e) out′ r
   pub near : r ≤ at + 8204
 
--- the entry at a place of the body b, by its flags, its extended word or 0, and where its name of len bytes stands
+-- the entry at a place of the body b, by its flags, its extended word or 0, and where its name of len bytes is
 abbrev pub entryBy : ℕ → List ℕ → List ℕ → ℕ → ℕ → ℕ → ℕ → ℕ → Entry
 entryBy v b work from flags word start len = entryOf 20 (drop from b) flags word (nameAt v b work start len)
 
@@ -69,7 +69,7 @@ pub record StepRead (v : ℕ) (b work : List ℕ) (from : ℕ) (st : Step) : Typ
 
 -- ---- entries
 
--- the name after which the next entry stands: that of the last of es, or p where there is none
+-- the name after which the next entry is: that of the last of es, or p where there is none
 unfoldable pub lastName : List ℕ → List Entry → List ℕ
 lastName p [] = p
 lastName p (e ∷ es) = lastName (e .name) es

@@ -13,7 +13,7 @@ use entries_run::Cursor;
 use entries_run::Next;
 use entries_run::Step;
 
-// Where writing stands: the cursor in the body, the place in the output, and whether an entry so far needs the extended word.
+// How far writing is: the cursor in the body, the place in the output, and whether an entry so far needs the extended word.
 pub struct Progress {
     pub cursor: Cursor,
     pub at: usize,
@@ -96,7 +96,7 @@ pub fn put_rest(
     put_name(out, end, version, 64, name, previous, kept)
 }
 
-// The entry at a place of the body with these flags and this extended word, or 0, whose name has len bytes and stands at start. Only its first 60
+// The entry at a place of the body with these flags and this extended word, or 0, whose name has len bytes and is at start. Only its first 60
 // bytes are copied. Numbers are handed on here, and not a Step: a struct by value goes through memory.
 pub fn put_step<'a>(
     b: &'a [u8],

@@ -14,7 +14,7 @@ use Rattle.format.specs.Writer.{needsWord, writeFile}
 
 -- ---- entries
 
--- by name, then by stage: whether an entry of the key a stands before one of the key b
+-- by name, then by stage: whether an entry of the key a is before one of the key b
 unfoldable pub goesBefore : Key → Key → Bool
 goesBefore a b = rises (compare (a .name) (b .name)) (a .stage) (b .stage)
 

@@ -78,7 +78,7 @@ shown-path w p s u wide e = value-inv (readUndo w p [] s) u e λ k q. undo-begin
 
 -- ---- its object names
 
--- where they stand in d: at the end of a record that ends at the place end
+-- where they are in d: at the end of a record that ends at the place end
 record Objects (w : ℕ) (u : Undo) (d : List ℕ) (end : ℕ) : Type 0 where
   place : ℕ
   last : end ≡ place + objectsLength w u

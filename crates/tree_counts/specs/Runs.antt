@@ -1,4 +1,4 @@
--- Names in order, and those of them that stand in one directory.
+-- Names in order, and those of them that are in one directory.
 use mathlib.Core.Path.{_≡_}
 use mathlib.Core.List.{List, _++_}
 use mathlib.Core.Bool.{true, false}

@@ -1,4 +1,4 @@
--- Laws of the nodes one after another: how far k of them reach, and how a list of siblings stands among them.
+-- Laws of the nodes one after another: how far k of them reach, and how a list of siblings is among them.
 use mathlib.Core.Path.{_≡_, refl, sym, ap, _∙_, ap₂}
 use mathlib.Core.List.{List, [], _∷_, _++_}
 use mathlib.Core.Bool.{Bool, true, false}
@@ -81,7 +81,7 @@ trees-step k (x ∷ s) h m e =
 
 -- ---- a list of siblings that was read
 
--- siblings with at most so many levels
+-- siblings with at most the given number of levels
 pub data Levels : ℕ → Forest → Type 0 where
   levels-none : {l : ℕ} → Levels l nil
   levels-more : {l : ℕ} {n : Node} {kids after : Forest} → Levels l kids → Levels (suc l) after → Levels (suc l) (tree n kids after)
@@ -107,7 +107,7 @@ forest-shape (suc l) (suc k) s f m e =
 pub forest-reads : (l k : ℕ) (s : List ℕ) (f : Forest) (m : ℕ) → readForest 20 0 l k s ≡ good f m → Reads s f k m
 forest-reads l k s f m e = forest-shape l k s f m e .0
 
--- ---- what stands where
+-- ---- what is where
 
 pub place-none : (s : List ℕ) → nodeStart 20 0 s ≡ 0
 unfolding nodeStart

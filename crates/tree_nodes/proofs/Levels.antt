@@ -90,7 +90,7 @@ climb-more r (suc depth) some h =
 
 -- ---- the items that are still to come
 
--- Pending s st is: on each level of the stack st so many siblings stand in s, the deepest first, each followed by all below it; is are
+-- Pending s st is: on each level of the stack st its number of siblings are in s, the deepest first, each followed by all below it; is are
 -- the items of all of them
 data Pending : List ℕ → List ℕ → List Item → Type 0 where
   pending-none : {s : List ℕ} → Pending s [] []

@@ -1,4 +1,4 @@
--- Laws of trees that stand in the data: two lists of siblings as one, the node at a place, a whole tree.
+-- Laws of trees that are in the data: two lists of siblings as one, the node at a place, a whole tree.
 use mathlib.Core.Path.{_≡_, refl, sym, ap, _∙_, subst}
 use mathlib.Core.List.{List, append-nil}
 use Prim.Native.Nat.{ℕ, _+_, _-_, _≤_, _<_, suc}
@@ -117,7 +117,7 @@ reads-at s t f k j m r e i = rw (← e, ← i) r
 
 -- ---- the node at a place
 
--- the node that stands at a place, as it is read
+-- the node that is at a place, as it is read
 pub record NodeAt (node : Code.Node) (place own : ℕ) (h : Head) : Type 0 where
   pub is-valid : node .valid ≡ isValid (h .node .count)
   pub count : node .count ≡ counted (h .node .count)

@@ -1,4 +1,4 @@
--- The nodes one after another, as they stand in the data, whatever they belong to.
+-- The nodes one after another, as they are in the data, whatever they belong to.
 use mathlib.Core.Path.{_≡_}
 use mathlib.Core.List.{List, [], _∷_}
 use mathlib.Core.Bool.{Bool, true, false, cond}
@@ -58,7 +58,7 @@ unfoldable pub size : Forest → ℕ
 size nil = 0
 size (tree n kids more) = suc (size kids + size more)
 
--- a tree that stands at a place: its root, and its subtrees after it
+-- a tree that is at a place: its root, and its subtrees after it
 pub record TreeAt (d : List ℕ) (place : ℕ) (t : Tree) : Type 0 where
   pub subtrees : ℕ
   pub own : ℕ

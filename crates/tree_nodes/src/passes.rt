@@ -1,4 +1,4 @@
-// The nodes one after another, as they stand in the data.
+// The nodes one after another, as they are in the data.
 use crate::node::NodeRead;
 use crate::node::read_node;
 use fields::find;

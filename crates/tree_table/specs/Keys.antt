@@ -1,4 +1,4 @@
--- Keys of names, and the slots that they stand in. t is a table.
+-- Keys of names, and the slots that they are in. t is a table.
 use mathlib.Core.Path.{_≡_}
 use mathlib.Core.List.{List, [], _∷_}
 use mathlib.Core.Bool.{Bool, cond, not, _&&_}

@@ -29,7 +29,7 @@ fn step_key(m: u64, h: u64, x: u64) -> u64
     y % 2147483648 + y / 2147483648
 }
 
-// The last step, a square: it spreads names that rise by even steps, which would stand side by side in a table.
+// The last step, a square: it spreads names that rise by even steps, which would be side by side in a table.
 fn last_key(h: u64, n: u64) -> u32
     requires { ⌜ n < 1073741824 ⌝ }
     ensures { λ r. ⌜ (r ≡ lastKey h n) × (0 < r) ⌝ }

@@ -60,7 +60,7 @@ module _ (d name : List ℕ) (w : PathPlace) (s : List ℕ) (x : ToWrite d name 
     text-is : s ≡ writeForest (invalidPath 20 (drop (w .from) name) (tree (first-of .head .node) (first-of .kids) (first-of .after))) ++ writeForest (x .trees)
     text-is = x .is ∙ ap (λ (f : Forest). writeForest (invalidPath 20 (drop (w .from) name) f) ++ writeForest (x .trees)) (first-of .is)
 
-    -- the trees that follow stand after the first sibling, its subtrees and its later siblings
+    -- the trees that follow are after the first sibling, its subtrees and its later siblings
     follows : Reads (drop (first-of .rest) (drop (first-of .below) (drop (first-of .own) (drop (w .place) d)))) (x .trees) (w .later) (x .more)
     follows =
         let total : x .taken ≡ first-of .own + (first-of .below + first-of .rest) = first-total _ _ _ _ (x .reads) some first-of in

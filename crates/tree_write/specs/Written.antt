@@ -1,4 +1,4 @@
--- What is written of nodes that stand in the data d of a cache tree, from a place on.
+-- What is written of nodes that are in the data d of a cache tree, from a place on.
 use mathlib.Core.Path.{_≡_}
 use mathlib.Core.List.{List}
 use mathlib.Core.Bool.{true}

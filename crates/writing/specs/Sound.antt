@@ -45,7 +45,7 @@ pub record SoundNode (w : ℕ) (n : Node) (subtrees : ℕ) : Type 0 where
   pub counted : SoundCount w (n .count) (n .object)
   pub subtrees-fit : subtrees ≤ 2147483647
 
--- siblings with at most so many levels
+-- siblings with at most the given number of levels
 pub data SoundSiblings (w : ℕ) : ℕ → Forest → Type 0 where
   siblings-none : {levels : ℕ} → SoundSiblings w levels nil
   siblings-next :

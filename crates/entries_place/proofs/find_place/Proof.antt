@@ -1,4 +1,4 @@
--- The proof that `find_place` meets its contract. The loop keeps that the entries before the cursor all stand before the name and stage.
+-- The proof that `find_place` meets its contract. The loop keeps that the entries before the cursor all are before the name and stage.
 use mathlib.Core.Path.{refl}
 use mathlib.Core.List.{List}
 use Prim.Native.Nat.{ℕ, _-_, _≤_}
