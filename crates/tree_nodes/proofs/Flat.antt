@@ -2,7 +2,7 @@
 use mathlib.Core.Path.{_≡_, refl, sym, ap, _∙_, ap₂}
 use mathlib.Core.List.{List, [], _∷_, _++_}
 use mathlib.Core.Bool.{Bool, true, false}
-use Prim.Native.Nat.{ℕ, zero, suc, _+_, _-_, _≤_, _<_}
+use Prim.Native.Nat.{ℕ, zero, suc, _+_, _*_, _-_, _≤_, _<_}
 use native.Mathlib.Nat.{add-zero, zero-add, suc-add, add-assoc}
 use native.Mathlib.Omega.{arith}
 use lib.ListN.{length, getD, drop, length-drop, List·getD-append, length-append}
@@ -204,6 +204,30 @@ reads-item s _ _ _ (reads-more {h = h} {kids = kids} {after = after} {a = a} {b 
     let p : nodeStart 20 (suc j) s ≡ a + (b + nodeStart 20 i (drop b (drop a s))) = place-step j s h a q ∙ ap (λ (x : ℕ). a + x) (ap (λ (x : ℕ). nodeStart 20 x (drop a s)) e ∙ reads-places _ _ _ _ r i) in
     let w : j ≡ length xs + i = omega arith in
     shown-at _ _ _ _ (reads-item _ _ _ _ t l i z (omega arith)) (drops a b _ s ∙ ap (λ (x : ℕ). drop x s) (sym p)) (sym (ap (λ (x : ℕ). getD (xs ++ items l after) x z) w ∙ getD-append-add xs (items l after) i z)))
+
+-- ---- a flat pass over n trees: it began at a place, has come to another, and pending trees are still to pass. Each node takes a byte or more, so that
+-- their number stays far below 2 ^ 64
+
+pub record FlatPass (d : List ℕ) (at n place pending : ℕ) : Type 0 where
+  pub least : at ≤ place
+  pub inside : place ≤ length d
+  pub few : pending ≤ n + (place - at) * 4294967296
+
+pub flat-start : (d : List ℕ) (at n : ℕ) → at ≤ length d → FlatPass d at n at n
+flat-start d at n inside = record { least = omega arith; inside = inside; few = omega arith }
+
+-- a node is passed: its subtrees are to pass, and fewer bytes are left
+module _ (d : List ℕ) (at n place pending : ℕ) (p : FlatPass d at n place pending) (node : Code.Node) (is : NodeIs d place node) where
+  pub flat-more : node .subtrees < 4294967296 → FlatPass d at n (node .next) (pending - 1 + node .subtrees)
+  flat-more few =
+      let a = is .named in
+      let b = is .ended in
+      let c = p .least in
+      let e = p .few in
+      record { least = omega arith; inside = is .within; few = omega arith }
+
+  pub flat-less : length d - node .next < length d - place
+  flat-less = let a = is .named in let b = is .ended in let c = is .within in omega arith
 
 -- ---- from a place on
 
