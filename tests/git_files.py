@@ -21,7 +21,7 @@ import tempfile
 from typing import NamedTuple, Optional
 
 import index_reader
-from layout import Record, lay, seal
+from layout import Record, compose, with_checksum
 from report import WIDTH, Program, ProgramFailed, Report, difference
 
 
@@ -383,7 +383,7 @@ def objections(root: str, version: int):
         ("stages-0-and-2", Record(b"a", 2, object=blob), "fsck", b"multiple stage entries"),
     )
     for name, second, command, words in cases:
-        repository.install(seal(lay(version, [first, second]).body))
+        repository.install(with_checksum(compose(version, [first, second]).body))
         yield repository.snapshot(name)
         result = repository.run(command)
         if result.returncode == 0 or words not in result.stderr:

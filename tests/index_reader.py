@@ -333,7 +333,7 @@ def decimal(text: bytes, least: int, most: int, refusal: Refused) -> int:
 def judge_counts(found: list, names: list, refusal: Refused) -> None:
     """Judges the counts of all nodes. The names are in order: those below a directory stand together."""
 
-    def judge(k: int, prefix: bytes) -> int:
+    def test_counts(k: int, prefix: bytes) -> int:
         """Judges node k, whose path with '/' is `prefix`, and all below it. Answers the node after them."""
         node = found[k]
         below = names_below(names, prefix)
@@ -346,13 +346,13 @@ def judge_counts(found: list, names: list, refusal: Refused) -> None:
                 if child.count is None:
                     raise refusal
                 in_subtrees += child.count
-            after = judge(after, prefix + child.name + b"/")
+            after = test_counts(after, prefix + child.name + b"/")
         if node.count is not None:
             if node.count != len(below) or node.count != direct + in_subtrees:
                 raise refusal
         return after
 
-    judge(0, b"")
+    test_counts(0, b"")
 
 
 def names_below(names: list, prefix: bytes) -> list:

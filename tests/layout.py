@@ -1,4 +1,4 @@
-"""The parts of an index file, and how they are laid out: what the makers of test files stand on.
+"""The parts of an index file, and how they are composed out: what the makers of test files stand on.
 
 Written from the requirements of the index code (document 01). It shares nothing with the proved library, nor
 with index_reader. The parts can be given faults: fields that stand for a wrong value.
@@ -15,8 +15,8 @@ __all__ = [
     "COUNT_TEXTS", "EXECUTABLE", "GITLINK", "LINK", "LISTING_LIMIT", "MODES", "REGULAR", "SUBTREE_TEXTS",
     "UNDO_MODES", "WRONG_MODES",
     "Extension", "Made", "Plan", "Record", "Tree", "Undo",
-    "arrange", "bad_names", "end_of_entries", "git_order", "index_order", "lay", "lay_number", "lay_record",
-    "lay_tree", "lay_undo", "refused", "seal", "whole_tree",
+    "arrange", "bad_names", "end_of_entries", "git_order", "index_order", "compose", "compose_number", "compose_record",
+    "compose_tree", "compose_undo", "refused", "with_checksum", "whole_tree",
 ]
 
 REGULAR, EXECUTABLE, LINK, GITLINK = 0o100644, 0o100755, 0o120000, 0o160000
@@ -95,14 +95,14 @@ class Extension:
     size: Optional[int] = None  # for faults: the size as it is written
 
 
-class Laid(NamedTuple):
+class Composed(NamedTuple):
     body: bytes
     places: list  # the first byte of each entry
     end: int  # the byte where entries end
     extension_places: list
 
 
-def lay_number(value: int) -> bytes:
+def compose_number(value: int) -> bytes:
     """N of version 4, in one byte or two."""
     if value < 128:
         return bytes([value])
@@ -115,7 +115,7 @@ def common(a: bytes, b: bytes) -> int:
     return next((i for i, (x, y) in enumerate(zip(a, b)) if x != y), min(len(a), len(b)))
 
 
-def lay_record(version: int, record: Record, previous: bytes) -> bytes:
+def compose_record(version: int, record: Record, previous: bytes) -> bytes:
     word = record.word
     if word is None:
         word = record.skip_worktree << 14 | record.intent_to_add << 13
@@ -131,21 +131,21 @@ def lay_record(version: int, record: Record, previous: bytes) -> bytes:
         head += struct.pack(">H", word)
     if version == 4:
         keep = max(0, common(previous, record.name) - record.spare)
-        remove = lay_number(len(previous) - keep) if record.remove is None else record.remove
+        remove = compose_number(len(previous) - keep) if record.remove is None else record.remove
         return head + remove + (record.name[keep:] if record.added is None else record.added) + b"\0"
     unpadded = head + record.name
     padding = bytes(8 - len(unpadded) % 8) if record.padding is None else record.padding
     return unpadded + padding
 
 
-def lay_tree(tree: Tree) -> bytes:
+def compose_tree(tree: Tree) -> bytes:
     count = b"%d" % tree.count if tree.count_text is None else tree.count_text
     subtrees = b"%d" % len(tree.children) if tree.subtrees_text is None else tree.subtrees_text
     own = tree.name + b"\0" + count + b" " + subtrees + b"\n" + (tree.object if tree.count >= 0 else b"")
-    return own + b"".join(lay_tree(child) for child in tree.children)
+    return own + b"".join(compose_tree(child) for child in tree.children)
 
 
-def lay_undo(undo: list) -> bytes:
+def compose_undo(undo: list) -> bytes:
     data = b""
     for record in undo:
         data += record.path + b"\0" + b"".join(b"%o\0" % mode for mode in record.modes)
@@ -153,22 +153,22 @@ def lay_undo(undo: list) -> bytes:
     return data
 
 
-def lay(version: int, records: list, extensions: list = (), count: Optional[int] = None) -> Laid:
+def compose(version: int, records: list, extensions: list = (), count: Optional[int] = None) -> Composed:
     body = b"DIRC" + struct.pack(">II", version, len(records) if count is None else count)
     places, extension_places, previous = [], [], b""
     for record in records:
         places.append(len(body))
-        body += lay_record(version, record, previous)
+        body += compose_record(version, record, previous)
         previous = record.name
     end = len(body)
     for extension in extensions:
         extension_places.append(len(body))
         size = len(extension.data) if extension.size is None else extension.size
         body += extension.signature + struct.pack(">I", size) + extension.data
-    return Laid(body, places, end, extension_places)
+    return Composed(body, places, end, extension_places)
 
 
-def seal(body: bytes) -> bytes:
+def with_checksum(body: bytes) -> bytes:
     return body + hashlib.sha1(body).digest()
 
 
@@ -180,7 +180,7 @@ def end_of_entries(end: int, extensions: list) -> Extension:
 
 @dataclass
 class Plan:
-    """A sound file before it is laid out."""
+    """A sound file before it is composed out."""
 
     version: int
     records: list
@@ -193,38 +193,38 @@ class Plan:
     def extensions(self) -> list:
         known = []
         if self.tree is not None:
-            known.append(Extension(b"TREE", lay_tree(self.tree)))
+            known.append(Extension(b"TREE", compose_tree(self.tree)))
         if self.undo is not None:
-            known.append(Extension(b"REUC", lay_undo(self.undo)))
+            known.append(Extension(b"REUC", compose_undo(self.undo)))
         if self.undo_first:
             known.reverse()
         row = [e for slot, e in self.others if slot == 0] + known[:1]
         row += [e for slot, e in self.others if slot == 1] + known[1:]
         row += [e for slot, e in self.others if slot == 2]
         if self.with_end:
-            row.append(end_of_entries(lay(self.version, self.records).end, row))
+            row.append(end_of_entries(compose(self.version, self.records).end, row))
         return row
 
-    def laid(self) -> Laid:
-        return lay(self.version, self.records, self.extensions())
+    def composed(self) -> Composed:
+        return compose(self.version, self.records, self.extensions())
 
     def answer(self) -> tuple:
         return (
             "accepted",
             self.version,
             len(self.records),
-            self.laid().end,
+            self.composed().end,
             None if self.tree is None else sum(1 for _ in self.tree.all()),
             None if self.undo is None else len(self.undo),
         )
 
     def made(self, name: str) -> Made:
-        return Made(name, seal(self.laid().body), self.answer())
+        return Made(name, with_checksum(self.composed().body), self.answer())
 
 
 def refused(name: str, body: bytes, number: int, place: int) -> Made:
     """A file with one fault and a right checksum."""
-    return Made(name, seal(body), ("refused", number, place))
+    return Made(name, with_checksum(body), ("refused", number, place))
 
 
 # ---- cache trees

@@ -221,9 +221,9 @@ def filled(version: int, length: int) -> bytes:
     be longer in another version, since the names have much in common."""
     records = [Record(b"n" * 8000 + end) for end in (b"", b"\n\\\x7f\xff", b"1")]
     tree = Tree(b"", -1, [Tree(b"", -1)])
-    short = len(seal(lay(version, records, [Extension(b"TREE", lay_tree(tree))]).body))
+    short = len(with_checksum(compose(version, records, [Extension(b"TREE", compose_tree(tree))]).body))
     tree.children[0].name = b"x" * (length - short)
-    return seal(lay(version, records, [Extension(b"TREE", lay_tree(tree))]).body)
+    return with_checksum(compose(version, records, [Extension(b"TREE", compose_tree(tree))]).body)
 
 
 # ---- put

@@ -85,17 +85,17 @@ def made_files(report: Report) -> None:
 def hand_written(report: Report) -> None:
     """The examples of document 01, from bytes that are written out here."""
 
-    def seal(body: bytes) -> bytes:
+    def with_checksum(body: bytes) -> bytes:
         return body + hashlib.sha1(body).digest()
 
-    empty = seal(bytes.fromhex("44495243 00000002 00000000"))
+    empty = with_checksum(bytes.fromhex("44495243 00000002 00000000"))
     report.same("empty index: length", 32, len(empty))
     report.same("empty index", ("accepted", 2, 0, 12, None, None), index_reader.check(empty))
 
     fixed = bytes(24)
     a = fixed + bytes.fromhex("000081a4") + bytes(12) + b"\x11" * 20 + bytes.fromhex("0001") + b"a\0"
     b = fixed + bytes.fromhex("000081ed") + bytes(12) + b"\x22" * 20 + bytes.fromhex("0003") + b"b/c" + bytes(7)
-    example = seal(bytes.fromhex("44495243 00000002 00000002") + a + b)
+    example = with_checksum(bytes.fromhex("44495243 00000002 00000002") + a + b)
     report.same("listing example: length", 168, len(example))
     report.same("listing example", run_listing.EXAMPLE, index_reader.listing(example))
     report.same("listing example, wrong checksum", b"refused 5 at 148\n", index_reader.listing(example[:-1] + b"\0"))
@@ -104,7 +104,7 @@ def hand_written(report: Report) -> None:
 
     undo = b"plan\x00100644\x000\x00100644\x00" + b"\x44" * 20 + b"\x66" * 20
     report.same("resolve undo: length", 61, len(undo))
-    file = seal(bytes.fromhex("44495243 00000002 00000000") + b"REUC\0\0\0\x3d" + undo)
+    file = with_checksum(bytes.fromhex("44495243 00000002 00000000") + b"REUC\0\0\0\x3d" + undo)
     expected = index_reader.Undo(b"plan", (0o100644, 0, 0o100644), (b"\x44" * 20, bytes(20), b"\x66" * 20))
     report.same("resolve undo", [expected], index_reader.undo(file))
     report.same("resolve undo, as made", file, listed["document/resolve-undo-of-61-bytes"])
@@ -113,29 +113,29 @@ def hand_written(report: Report) -> None:
     report.same("cache tree: length", 51, len(tree))
     report.same("cache tree after a put: length", 13, len(b"\x00-1 1\na\x00-1 0\n"))
     records = [layout.Record(name) for name in (b"a-b", b"a/b", b"a/c")]
-    body = layout.lay(2, records, [layout.Extension(b"TREE", tree)]).body
+    body = layout.compose(2, records, [layout.Extension(b"TREE", tree)]).body
     nodes = [index_reader.Node(b"", 1, 3, 1, b"\x33" * 20), index_reader.Node(b"a", 2, 2, 0, b"\x34" * 20)]
-    report.same("cache tree", nodes, index_reader.nodes(seal(body)))
+    report.same("cache tree", nodes, index_reader.nodes(with_checksum(body)))
 
     def entry_length(name: bytes, word: bool) -> int:
-        return len(layout.lay_record(3, layout.Record(name, zero_word=word), b""))
+        return len(layout.compose_record(3, layout.Record(name, zero_word=word), b""))
 
     for word, length, expected in ((0, 1, 64), (0, 2, 72), (0, 9, 72), (0, 10, 80), (1, 1, 72), (1, 8, 80)):
         name = b"n" * length
         report.same(f"entry length {length} {word}", expected, entry_length(name, bool(word)))
-        sealed = seal(layout.lay(3, [layout.Record(name, zero_word=bool(word))]).body)
-        report.same(f"entry end {length} {word}", 12 + expected, index_reader.check(sealed)[3])
+        with_checksum = with_checksum(layout.compose(3, [layout.Record(name, zero_word=bool(word))]).body)
+        report.same(f"entry end {length} {word}", 12 + expected, index_reader.check(with_checksum)[3])
     for code, value in ((b"\x7f", 127), (b"\x80\x00", 128), (b"\xbf\x00", 8192)):
-        report.same(f"N, written {value}", code, layout.lay_number(value))
+        report.same(f"N, written {value}", code, layout.compose_number(value))
         report.same(f"N, read {value}", (9000 - value, len(code)), index_reader.read_keep(code, 0, 0, 9000))
-    after = layout.lay_record(4, layout.Record(b"saw/cutter.txt"), b"saw/cut.txt")
+    after = layout.compose_record(4, layout.Record(b"saw/cutter.txt"), b"saw/cut.txt")
     report.same("N and S after saw/cut.txt", b"\x04ter.txt\0", after[62:])
 
     entry = layout.Record(
         b"all/fields", 2, 0o120000, b"\x77" * 20, (1, 2, 3, 4, 5, 6, 8, 9, 10), True, True, True
     )
     for version in (3, 4):
-        read = index_reader.entries(seal(layout.lay(version, [entry]).body))
+        read = index_reader.entries(with_checksum(layout.compose(version, [entry]).body))
         fields = (1, 2, 3, 4, 5, 6, 0o120000, 8, 9, 10, b"\x77" * 20, True, 2, True, True, b"all/fields")
         report.same(f"all fields of an entry, version {version}", [fields], [tuple(e) for e in read])
 

@@ -1,4 +1,4 @@
-"""Stores the made files in a folder that is laid out as vectors/, for the comparison in Rust.
+"""Stores the made files in a folder that is composed out as vectors/, for the comparison in Rust.
 
     store_files.py FOLDER [--seeds A-B]
 

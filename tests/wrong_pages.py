@@ -55,7 +55,7 @@ WRONG_PAGES = (
     ("a file of statements without a link", r"walk/proofs/Statements\.antt", "walk/proofs/Steps.antt"),
     ("a missing section", r"DECISIONS\.md#format", "DECISIONS.md#formats"),
     ("a missing open point", r'"OP 9"', '"OP 99"'),
-    ("a missing figure of the README", r'"88 KiB are enough"', '"87 KiB are enough"'),
+    ("a missing figure of the README", r'"a thread with 64 KiB"', '"a thread with 63 KiB"'),
     ("a command on a missing crate", r"`rt check nerupazhil`", "`rt check nerupazil`"),
     ("a command of another kind", r"`rt check nerupazhil`", "`rt chek nerupazhil`"),
     ("a missing program", r"(?m)^bash \.ci/run$", "bash .ci/runs"),

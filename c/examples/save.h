@@ -1,6 +1,6 @@
 /*
  * Saves an index so that a reader, and the disk after a loss of power, has the old one or the new one whole: never a
- * part. For POSIX systems; it stands on nothing but the library's header.
+ * part. For POSIX systems; it needs nothing but the library's header.
  *
  *   struct save save;
  *   if (save_begin(&save, path) == SAVE_DONE) {
@@ -21,7 +21,7 @@
  * A program that is killed, and a device that loses its power, leaves the file behind, as Git does, and nothing removes
  * it by itself: each save stops with SAVE_LOCKED for as long as it is there. A client that is the only one to change
  * the index on its device removes it when it starts, before its first save, and tells its user that the last save was
- * not finished. Elsewhere a person removes it, once no other program is at work. What stands in it is of no use: the
+ * not finished. Elsewhere a person removes it, once no other program is at work. What is in it is of no use: the
  * index beside it is whole.
  */
 #ifndef SAVE_H

@@ -3,8 +3,8 @@
  * Link with libnerupazhil.a, which needs memcpy and memset and nothing else. c/examples has two programs.
  *
  * Slices. A buffer is a pointer and its number of bytes. NULL with length 0 is an empty slice.
- *   file    the whole index, as its bytes stand on the disk
- *   work    a workspace, at least NERUPAZHIL_WORKSPACE bytes; what stands in it before a call is of no importance
+ *   file    the whole index, as its bytes are on the disk
+ *   work    a workspace, at least NERUPAZHIL_WORKSPACE bytes; what is in it before a call is of no importance
  *   out     where a call that writes puts the new index; NERUPAZHIL_FILE bytes are always enough
  *   name    the name of an entry, 1 to NERUPAZHIL_NAME bytes, no NUL at its end
  *
@@ -30,7 +30,8 @@
  *   - no other thread changes a buffer during a call
  *   - `out` of nerupazhil_sha1 is not NULL and has 20 bytes
  *   - a bool is 0 or 1: C and C++ see to that, unless its byte is set by memcpy or through a cast
- *   - there is enough stack: 88 KiB were measured to be enough, 84 KiB not to be, the start of a thread included
+ *   - there is enough stack: in tests, a thread with 64 KiB runs every call on every file, and one with 32 KiB on files
+ *     whose cache tree has at most 16 levels, the root included (Linux on x86-64; a thread's start takes 5 KiB of these)
  */
 #ifndef NERUPAZHIL_H
 #define NERUPAZHIL_H

@@ -161,7 +161,7 @@ impl Comparison {
         Ok(())
     }
 
-    /// The output of the last call, which wrote so many bytes.
+    /// The output of the last call, which wrote the given number of bytes.
     pub fn written(&self, length: usize) -> &[u8] {
         &self.ours.out.bytes()[..length]
     }

@@ -80,7 +80,7 @@ pub fn offset_code(n: usize) -> Vec<u8> {
     }
 }
 
-/// How many NULs, 1 to 8, follow an entry of versions 2 and 3 that has so many bytes with its name.
+/// How many NULs, 1 to 8, follow an entry of versions 2 and 3 that has the given number of bytes with its name.
 pub fn padding(length: usize) -> usize {
     8 - length % 8
 }
@@ -199,7 +199,7 @@ fn directory_name(i: usize) -> Vec<u8> {
     [&letters(i, 4), &b"-cutting-list"[..i * 5 % 13]].concat()
 }
 
-/// The valid node of a directory and all below it, from the names of its entries, as they stand after its path.
+/// The valid node of a directory and all below it, from the names of its entries, as they are after its path.
 fn full_tree(data: &mut Vec<u8>, name: &[u8], names: &[&[u8]], order: Order) {
     let mut subtrees = subdirectories(names);
     if let Order::Git = order {

@@ -1,14 +1,14 @@
 //! Bytes that are lent to a call, so that a touch of any other byte is noticed.
 //!
-//! On pages, one edge of the bytes touches a page without access and guard bytes stand at the other; bytes that are
-//! only read stand on pages that cannot be written. The pages are mapped once and lent again and again. On the heap,
+//! On pages, one edge of the bytes touches a page without access and guard bytes are at the other; bytes that are
+//! only read are on pages that cannot be written. The pages are mapped once and lent again and again. On the heap,
 //! each lending is an allocation of its own and of its exact size, as valgrind wants it.
 
 use std::os::raw::{c_int, c_void};
 use std::ptr::null_mut;
 use std::slice::{from_raw_parts, from_raw_parts_mut};
 
-/// How many guard bytes stand at the edge that touches no page without access.
+/// How many guard bytes are at the edge that touches no page without access.
 const GUARD: usize = 64;
 /// The size of a page on x86-64.
 const PAGE: usize = 4096;
@@ -33,7 +33,7 @@ extern "C" {
     fn munmap(address: *mut c_void, length: usize) -> c_int;
 }
 
-/// Where lent bytes stand.
+/// Where lent bytes are.
 #[derive(Clone, Copy, Debug, PartialEq, Eq)]
 pub enum Place {
     Pages,
@@ -124,7 +124,7 @@ pub struct Lent {
 }
 
 impl Lent {
-    /// Memory for at most so many bytes, of which none is lent yet.
+    /// Memory for at most the given number of bytes, of which none is lent yet.
     pub fn new(what: &'static str, place: Place, capacity: usize) -> Self {
         let memory = match place {
             Place::Pages => Memory::Pages(Pages::new(capacity + GUARD)),
@@ -211,7 +211,7 @@ impl Lent {
         Err(format!("bytes {side} the {} were written", self.what))
     }
 
-    /// Finds the place for so many bytes and sets the guard.
+    /// Finds the place for the given number of bytes and sets the guard.
     fn lend(&mut self, length: usize, edge: Edge) {
         self.edge = edge;
         self.length = length;
@@ -247,7 +247,7 @@ impl Lent {
         }
     }
 
-    /// Has at least so many bytes of the pattern at hand.
+    /// Has at least the given number of bytes of the pattern at hand.
     fn pattern_to(&mut self, length: usize) {
         let known = self.pattern.len();
         self.pattern.extend((known..length).map(pattern));

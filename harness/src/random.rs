@@ -24,7 +24,7 @@ impl Random {
         (self.next() % end as u64) as usize
     }
 
-    /// True about once in so many times.
+    /// True about once in the given number of times.
     pub fn one_in(&mut self, times: usize) -> bool {
         self.below(times) == 0
     }

@@ -76,7 +76,7 @@ fn change(random: &mut Random, nodes: &mut Vec<Directory>) {
     }
 }
 
-/// The entries of the directories, and a tree with their nodes as they stand.
+/// The entries of the directories, and a tree with their nodes as they are.
 fn file(random: &mut Random, version: u32, nodes: &[Directory]) -> Vec<u8> {
     let mut sorted = nodes.to_vec();
     sorted.sort_by_key(path);

@@ -24,7 +24,7 @@ fn refused(number: u32) -> ffi::WriteReply {
 
 // ---- results that are written out
 
-/// What both libraries write with an output of so many bytes, or how they refuse.
+/// What both libraries write with an output of the given number of bytes, or how they refuse.
 fn written(file: &[u8], call: Call, room: usize) -> Result<Vec<u8>, u32> {
     let mut comparison = Comparison::new(Place::Pages);
     comparison.lend_file(file, Edge::End);
@@ -165,7 +165,7 @@ fn empty_slices_are_refused_by_number() {
     );
 }
 
-/// 128 levels of nodes, with an entry at the last: rewritten, and a new entry put beside it, with 96 KiB of stack.
+/// 128 levels of nodes, with an entry at the last: rewritten, and a new entry put beside it, with 64 KiB of stack.
 #[test]
 fn deep_trees_need_little_stack() {
     for version in [2, 4] {
@@ -184,7 +184,7 @@ fn deep_trees_need_little_stack() {
             );
             (rewritten.refusal, put.refusal)
         };
-        let thread = thread::Builder::new().stack_size(96 << 10);
+        let thread = thread::Builder::new().stack_size(64 << 10);
         assert_eq!(thread.spawn(run).unwrap().join().unwrap(), (0, 0));
     }
 }

@@ -107,7 +107,7 @@ fn every_wrong_writer_is_noticed() {
     }
 }
 
-/// The program that tries so many writers.
+/// The program that tries a number of writers.
 fn program(writers: usize) -> String {
     let mut text =
         "#![allow(warnings)]\nuse harness::{answers, comparison, edits, plain};\n".to_string();

@@ -1,6 +1,6 @@
 //! The exported functions with slices for pointers and lengths: the raw replies, as C sees them.
 //!
-//! The functions of the crate's root stand on these and are what a program wants. Here the version that is asked for
+//! The functions of the crate's root are built on these and are what a program wants. Here the version that is asked for
 //! is a plain number, so that the library's refusal of other numbers than 0, 2, 3 and 4 can be reached.
 
 #![allow(unsafe_code)]

@@ -81,7 +81,7 @@ impl<'a> Index<'a> {
         }
     }
 
-    /// Entry `k`, from 0. This reads and checks the whole file; the name of version 4 stands in the workspace.
+    /// Entry `k`, from 0. This reads and checks the whole file; the name of version 4 is in the workspace.
     ///
     /// ```
     /// # let file = include_bytes!(concat!(env!("CARGO_MANIFEST_DIR"), "/../tests/vectors/real/v4-committed.index"));

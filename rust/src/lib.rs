@@ -1,7 +1,7 @@
 //! Git's index file, read, checked and written by a proved library.
 //!
 //! An index names every file of the next commit, so a damaged one that still opens as a shorter list records the
-//! missing files as deleted. Here each call first checks the whole file, and answers what stands in it or refuses it
+//! missing files as deleted. Here each call first checks the whole file, and answers what is in it or refuses it
 //! with a number and a place. Versions 2, 3 and 4 with SHA-1 names are taken, up to 16 MiB.
 //!
 //! # A tour
@@ -48,7 +48,7 @@
 //!
 //! [`check`], [`entry`], [`tree_node`], [`undo_record`], [`walk()`], [`rewrite`], [`put`] and [`remove`] allocate
 //! nothing: the caller lends the file, a workspace of at least [`WORKSPACE`] bytes and, to write, an output. Names are
-//! bytes, and parts of these buffers. What stands in the workspace before a call is of no importance; after it, the
+//! bytes, and parts of these buffers. What is in the workspace before a call is of no importance; after it, the
 //! first [`WORKSPACE`] bytes are zero but for the name of a version 4 entry, and bytes past these are never touched.
 //!
 //! # What is proved
@@ -57,8 +57,9 @@
 //! right buffers and shows the right parts is tested. Only [`calls`] has unsafe code. A reply that pointed outside of a
 //! buffer would be a panic.
 //!
-//! No proof speaks of stack. 88 KiB were measured to be enough for a call, and [`Index`] has its workspace of 8 KiB
-//! there too: a thread with 128 KiB is on the safe side.
+//! No proof speaks of stack. In tests, a thread with 64 KiB runs every function of [`calls`] on every file, and one with
+//! 32 KiB on files whose cache tree has at most 16 levels, the root included. [`Index`] has its workspace of 8 KiB on the
+//! stack too: 72 and 40 KiB.
 //!
 //! # Building
 //!

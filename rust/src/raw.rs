@@ -32,7 +32,7 @@ pub struct CheckReply {
     pub has_undo: bool,
 }
 
-/// Where a name stands: `buffer` is 1 for the file, 2 for the workspace, 0 for none. It lies in its buffer, also where it
+/// Where a name is: `buffer` is 1 for the file, 2 for the workspace, 0 for none. It lies in its buffer, also where it
 /// is empty: `offset + length` is at most the buffer's length.
 #[repr(C)]
 #[derive(Clone, Copy, Debug, Default, PartialEq, Eq)]
@@ -89,7 +89,7 @@ pub struct EntryReply {
     pub refusal: u32,
     /// The place of the refusal.
     pub place: usize,
-    /// Where the name stands.
+    /// Where the name is.
     pub name: Name,
     /// The other fields.
     pub fields: Fields,
@@ -103,7 +103,7 @@ pub struct NodeReply {
     pub refusal: u32,
     /// The place of the refusal.
     pub place: usize,
-    /// Where the name stands.
+    /// Where the name is.
     pub name: Name,
     /// The level, 1 of the root.
     pub level: u32,
@@ -135,7 +135,7 @@ pub struct UndoReply {
     pub refusal: u32,
     /// The place of the refusal.
     pub place: usize,
-    /// Where the path stands.
+    /// Where the path is.
     pub path: Name,
     /// Stage 1.
     pub first: Stage,
@@ -179,7 +179,7 @@ pub struct StepReply {
     pub refusal: u32,
     /// The place of the refusal.
     pub place: usize,
-    /// Where the name stands.
+    /// Where the name is.
     pub name: Name,
     /// The other fields.
     pub fields: Fields,

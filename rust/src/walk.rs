@@ -51,7 +51,7 @@ pub struct Walk<'a> {
 const FIRST_ENTRY: usize = 12;
 
 impl<'a> Walk<'a> {
-    /// A walk over a file of version 2 or 3 that was checked and has so many entries.
+    /// A walk over a file of version 2 or 3 that was checked and has as many entries as `entries`.
     pub(crate) fn over(file: &'a [u8], entries: u32) -> Self {
         Self {
             file,

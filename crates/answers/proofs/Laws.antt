@@ -8,9 +8,13 @@ use native.Mathlib.Omega.{arith}
 use lib.ListN.{length, take, drop, replicate, getElem?, length-append, length-replicate, length-drop}
 use lib.Seq.{length-take-le, take-take, take-at}
 use borrow.Author.Tests.{lt-ltb, le-ltb, le-leb, lt-leb}
+use Rattle.format.specs.Reading.{Read, bad, good}
+use Rattle.format_laws.proofs.Tests.{cond-inv}
+use Rattle.format_laws.proofs.Readings.{bad-good}
 use Rattle.format_laws.proofs.Lists.{past-zeros}
+use Rattle.fields.specs.Workspace.{Frame}
 use Rattle.answers.specs.declared.Shown.the-variants.{InWorkspace}
-use Rattle.answers.specs.Answers.{tooSmall, View, refused, cleared, holding, partIn, nameIn}
+use Rattle.answers.specs.Answers.{tooSmall, inRoom, View, refused, cleared, holding, partIn, nameIn}
 
 -- ---- the workspace
 
@@ -23,6 +27,20 @@ module _ (work : List ℕ) where
   unfolding tooSmall
   large h = le-ltb (length work) 8192 h
 
+  -- the reading of a file with it
+  module _ {A : Type 0} (x : Read A) where
+    pub room-small : tooSmall work ≡ true → inRoom work x ≡ bad 19 0
+    unfolding inRoom
+    room-small t = rw t
+
+    pub room-large : tooSmall work ≡ false → inRoom work x ≡ x
+    unfolding inRoom
+    room-large t = rw t
+
+    pub room-inv {ℓ} : {X : Type ℓ} (a : A) (m : ℕ) → inRoom work x ≡ good a m → (tooSmall work ≡ false → x ≡ good a m → X) → X
+    unfolding inRoom
+    room-inv a m e g = cond-inv (tooSmall work) (bad 19 0) x (good a m) e (λ t q. bad-good _ _ _ _ q) g
+
   -- one that is too small stays as it is; of any other, cleared is what fields::clear leaves
   pub cleared-small : length work < 8192 → cleared work ≡ work
   unfolding cleared
@@ -32,19 +50,19 @@ module _ (work : List ℕ) where
   unfolding cleared
   cleared-large h = rw (large h)
 
-  pub cleared-past : 8192 ≤ length work → drop 8192 (cleared work) ≡ drop 8192 work
-  cleared-past h = rw (cleared-large h) (past-zeros 8192 (drop 8192 work))
-
-  pub cleared-long : 8192 ≤ length work → length (cleared work) ≡ length work
-  cleared-long h =
+  pub cleared-frame : 8192 ≤ length work → Frame work (cleared work)
+  cleared-frame h =
       rw (cleared-large h)
-      (length-append (replicate 8192 0) (drop 8192 work) ∙ omega (arith, length-replicate {A = ℕ} 8192 0, length-drop 8192 work))
+      (record {
+        long = length-append (replicate 8192 0) (drop 8192 work) ∙ omega (arith, length-replicate {A = ℕ} 8192 0, length-drop 8192 work);
+        past = past-zeros 8192 (drop 8192 work);
+      })
 
 -- only what lies past the 8,192nd byte of a workspace matters to what is left of it when it is cleared
-pub cleared-same : (work written : List ℕ) → 8192 ≤ length work → length written ≡ length work → drop 8192 written ≡ drop 8192 work → cleared written ≡ cleared work
-cleared-same work written room long rest =
-    let also : 8192 ≤ length written = omega arith in
-    cleared-large written also ∙ rw rest (sym (cleared-large work room))
+pub cleared-same : (work written : List ℕ) → 8192 ≤ length work → Frame work written → cleared written ≡ cleared work
+cleared-same work written room frame =
+    let also : 8192 ≤ length written = omega (arith, frame) in
+    cleared-large written also ∙ rw (frame .past) (sym (cleared-large work room))
 
 -- a workspace that was written up to its 8,192nd byte: what fields::clear_from leaves of it
 module _ (work written : List ℕ) (rest : drop 8192 written ≡ drop 8192 work) where

@@ -1,4 +1,5 @@
 -- What each call answers, from the file's reading and the workspace: numbers, places, values, and the workspace afterwards.
+use mathlib.Core.Path.{_≡_}
 use mathlib.Core.List.{List, [], _++_}
 use mathlib.Core.Bool.{Bool, true, false, cond}
 use mathlib.Core.Option.{Option, none, some}
@@ -23,15 +24,19 @@ use Rattle.entries.specs.Record.{entryWith, noFields, fieldsOf}
 
 -- ---- the workspace
 
--- shorter than 8,192 bytes: refusal 19, and nothing is written
+-- shorter than 8,192 bytes
 unfoldable pub tooSmall : List ℕ → Bool
 tooSmall work = ltb (length work) 8192
 
--- the first 8,192 bytes are zero
+-- the reading of a file with a workspace: 19 where that is too small
+unfoldable pub inRoom : {A : Type 0} → List ℕ → Read A → Read A
+inRoom work x = cond (tooSmall work) (bad 19 0) x
+
+-- the first 8,192 bytes are zero; nothing is written where it is too small
 unfoldable pub cleared : List ℕ → List ℕ
 cleared work = cond (tooSmall work) work (replicate 8192 0 ++ drop 8192 work)
 
--- a name stands first, zeros follow
+-- a name is first, zeros follow
 unfoldable pub holding : List ℕ → List ℕ → List ℕ
 holding name work = name ++ (replicate (8192 - length name) 0 ++ drop 8192 work)
 
@@ -60,7 +65,7 @@ checkedOf (good c m) = K.Accepted (summaryOf c)
 
 -- the answer of check
 unfoldable pub checkAnswer : List ℕ → Read Contents → Checked
-checkAnswer work r = cond (tooSmall work) (K.Refused 19 0) (checkedOf r)
+checkAnswer work r = checkedOf (inRoom work r)
 
 -- ---- what is shown: a refusal's number and place, or an item whose name is a part of the file or of the workspace
 
@@ -95,19 +100,15 @@ abbrev pub undoOf : ℕ → Read Contents → View F.Undo
 undoOf k (bad n p) = refused n p
 undoOf k (good c m) = listed (c .records .resolveUndo) k
 
--- with a workspace that may be too small
-unfoldable pub given : {A : Type 0} → List ℕ → View A → View A
-given work v = cond (tooSmall work) (refused 19 0) v
-
 -- the answers of entry k, tree node k and resolve-undo record k
 unfoldable pub entryAnswer : List ℕ → ℕ → Read Contents → View F.Entry
-entryAnswer work k r = given work (entryOf k r)
+entryAnswer work k r = entryOf k (inRoom work r)
 
 unfoldable pub nodeAnswer : List ℕ → ℕ → Read Contents → View F.Item
-nodeAnswer work k r = given work (nodeOf k r)
+nodeAnswer work k r = nodeOf k (inRoom work r)
 
 unfoldable pub undoAnswer : List ℕ → ℕ → Read Contents → View F.Undo
-undoAnswer work k r = given work (undoOf k r)
+undoAnswer work k r = undoOf k (inRoom work r)
 
 -- the workspace after an entry was shown
 abbrev pub workAfter : View F.Entry → List ℕ → List ℕ
@@ -186,7 +187,7 @@ abbrev pub countNumber : F.Count → ℕ
 countNumber (F.valid n) = n
 countNumber F.invalid = 0
 
--- an item, whose name stands where s says
+-- an item, whose name is where s says
 abbrev pub entryAs : Shown → F.Entry → EntryAnswer
 entryAs s e = record { shown = s; fields = fieldsOf e }
 
@@ -211,7 +212,7 @@ undoAs s u = record {
   third = u .third .object;
 }
 
--- the answer that shows a view, from that of a refusal and that of an item. A name in the file stands at the place at, one in the workspace at
+-- the answer that shows a view, from that of a refusal and that of an item. A name in the file is at the place at, one in the workspace at
 -- its start
 abbrev pub shownAs : {A R : Type 0} → (ℕ → ℕ → R) → (Shown → A → R) → (A → List ℕ) → ℕ → View A → R
 shownAs deny show name at (refused n p) = deny n p
@@ -232,3 +233,19 @@ abbrev pub Inside : Shown → (file work : List ℕ) → Type 0
 Inside (S.Refused n p) file work = Unit
 Inside (S.InFile at n) file work = at + n ≤ length file
 Inside (S.InWorkspace n) file work = n ≤ length work
+
+-- an answer shows v: it is the one that does, the bytes that it points at are the name, and they lie in their buffer, the file or the workspace. One
+-- record for entries, nodes, resolve-undo records and steps: shown is the answer of a view, says the view of an answer, part where it points
+pub record Shows {A R : Type 0} (shown : ℕ → View A → R) (says : R → List ℕ → List ℕ → View A) (part : R → Shown) (at : ℕ) (v : View A) (file work : List ℕ) (r : R) : Type 0 where
+  pub whole : r ≡ shown at v
+  pub said : says r file work ≡ v
+  pub inside : Inside (part r) file work
+
+abbrev pub EntryShown : ℕ → View F.Entry → List ℕ → List ℕ → EntryAnswer → Type 0
+EntryShown at v file work r = Shows entryShown entrySaid (λ a. a .shown) at v file work r
+
+abbrev pub NodeShown : ℕ → View F.Item → List ℕ → List ℕ → NodeAnswer → Type 0
+NodeShown at v file work r = Shows nodeShown nodeSaid (λ a. a .shown) at v file work r
+
+abbrev pub UndoShown : ℕ → View F.Undo → List ℕ → List ℕ → UndoAnswer → Type 0
+UndoShown at v file work r = Shows undoShown undoSaid (λ a. a .shown) at v file work r

@@ -1,6 +1,5 @@
 -- What rewrite, put and remove answer, from the file's reading, the workspace and the output's length; and the output afterwards.
 use mathlib.Core.List.{List, _++_}
-use mathlib.Core.Bool.{cond}
 use Prim.Native.Nat.{ℕ}
 use lib.ListN.{drop}
 use Rattle.format.specs.Records.{Entry, Key, Records}
@@ -9,26 +8,22 @@ use Rattle.format.specs.Reader.{Contents}
 use Rattle.format.specs.Requests.{rewriteRequest, putRequest, removeRequest}
 use Rattle.answers.specs.declared.Written.{Written}
 use Rattle.answers.specs.declared.Written.the-variants as W
-use Rattle.answers.specs.Answers.{tooSmall}
+use Rattle.answers.specs.Answers.{inRoom}
 
 -- what is asked of the records that were read
 abbrev pub requested : Read Contents → (Records → Read (List ℕ)) → Read (List ℕ)
 requested (bad n p) ask = bad n p
 requested (good c m) ask = ask (c .records)
 
--- with a workspace that may be too small
-unfoldable pub answered : List ℕ → Read Contents → (Records → Read (List ℕ)) → Read (List ℕ)
-answered work x ask = cond (tooSmall work) (bad 19 0) (requested x ask)
-
 -- the answers of rewrite, put and remove: a refusal, or the bytes of the file
 unfoldable pub rewriteAnswer : ℕ → (List ℕ → List ℕ) → List ℕ → ℕ → ℕ → Read Contents → Read (List ℕ)
-rewriteAnswer w hash work asked room x = answered work x (rewriteRequest w hash asked room)
+rewriteAnswer w hash work asked room x = requested (inRoom work x) (rewriteRequest w hash asked room)
 
 unfoldable pub putAnswer : ℕ → (List ℕ → List ℕ) → List ℕ → ℕ → Entry → ℕ → Read Contents → Read (List ℕ)
-putAnswer w hash work asked e room x = answered work x (putRequest w hash asked e room)
+putAnswer w hash work asked e room x = requested (inRoom work x) (putRequest w hash asked e room)
 
 unfoldable pub removeAnswer : ℕ → (List ℕ → List ℕ) → List ℕ → ℕ → Key → ℕ → Read Contents → Read (List ℕ)
-removeAnswer w hash work asked k room x = answered work x (removeRequest w hash asked k room)
+removeAnswer w hash work asked k room x = requested (inRoom work x) (removeRequest w hash asked k room)
 
 -- as the code says it
 abbrev pub writtenOf : Read (List ℕ) → Written

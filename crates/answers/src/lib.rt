@@ -28,7 +28,7 @@ pub enum Checked {
     Accepted(Summary),
 }
 
-// A refusal's number and place, or where the name of what is shown stands: its place and length in the file, or its length in the workspace, from the workspace's start.
+// A refusal's number and place, or where the name of what is shown is: its place and length in the file, or its length in the workspace, from the workspace's start.
 pub enum Shown {
     Refused(u32, usize),
     InFile(usize, usize),

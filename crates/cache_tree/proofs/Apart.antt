@@ -1,18 +1,22 @@
--- Laws of names chunk by chunk: when a chunk and what follows it differ, and what the filter says of a name.
+-- Laws of names chunk by chunk: when a chunk and what follows it differ, and what the table says of a name.
 use mathlib.Core.Path.{_≡_, refl, sym, ap, _∙_}
 use mathlib.Core.List.{List, [], _∷_, _++_}
 use mathlib.Core.Bool.{Bool, true, false, cond, true≢false}
 use Prim.Native.Nat.{ℕ, zero, suc, _+_, _-_, _≤_, _<_}
 use native.Mathlib.Nat.{zero-add, suc-add}
 use native.Mathlib.Omega.{arith}
-use lib.ListN.{length, drop, replicate}
+use lib.ListN.{length, getD, set, drop, length-set}
+use lib.Dec.{eqb}
+use borrow.Author.Tests.{eq-eqb, ne-eqb, eqb-true, eqb-false}
 use Rattle.format.specs.Bytes.{eqList}
-use Rattle.format_laws.proofs.Tests.{then-inv, else-inv}
-use Rattle.format_laws.proofs.Lists.{eqList-true, eqList-swap, past-zeros}
+use Rattle.format_laws.proofs.Tests.{else-inv}
+use Rattle.format_laws.proofs.Lists.{eqList-true, eqList-swap}
 use Rattle.tree_nodes.specs.Flat.{treesLength, nameOf, restOf, namesOf, hasName, namesDiffer}
-use Rattle.cache_tree.specs.Filter.{hashOf, marked, markIn, allMarked, apart, restAfter}
-use Rattle.cache_tree.proofs.Differ.{names-none, names-more, rest-at}
-use Rattle.cache_tree.proofs.Bits.{marked-in, marked-stays, length-mark, rest-mark}
+use Rattle.tree_table.specs.Keys.{keyIn, slotIn}
+use Rattle.tree_table.proofs.Slots.{key-some, key-stays, slot-most, slot-own, slot-stays}
+use Rattle.cache_tree.specs.declared.differ.Chunk.the-variants as C
+use Rattle.cache_tree.specs.Chunks.{slotFor, isFree, putIn, allHeld, apart, restAfter, Filled}
+use Rattle.cache_tree.proofs.Siblings.{names-none, names-more, rest-at}
 
 -- ---- one list of names after another
 
@@ -65,38 +69,102 @@ unfolding namesDiffer
 equal-append [] l e = absurd (true≢false e)
 equal-append (x ∷ c) l e = rw (has-append x c l) (equal-by (hasName x c) (hasName x l) (namesDiffer c) (namesDiffer (c ++ l)) (equal-append c l) e)
 
--- ---- what the filter says of a name
+-- ---- what the table says of a name
 
-module _ (seed : ℕ) (w : List ℕ) where
-  other-by : (x y : List ℕ) (b : Bool) → eqList x y ≡ b → marked w (hashOf seed y) ≡ true → marked w (hashOf seed x) ≡ false → b ≡ false
-  other-by x y true e m n = absurd (true≢false (sym m ∙ ap (λ (z : List ℕ). marked w (hashOf seed z)) (sym (eqList-true x y e)) ∙ n))
-  other-by x y false e m n = refl
+free-is : (t x : List ℕ) (b : Bool) → isFree t x ≡ b → (b ≡ true → getD t (slotFor t x) 0 ≡ 0) × (b ≡ false → getD t (slotFor t x) 0 ≡ 0 → ⊥)
+unfolding isFree
+free-is t x b e = (λ f. eqb-true _ _ (e ∙ f), λ f. eqb-false _ _ (e ∙ f))
 
-  -- one that is not marked is not among those that are
-  pub unmarked : (x : List ℕ) (c : List (List ℕ)) → allMarked seed w c ≡ true → marked w (hashOf seed x) ≡ false → hasName x c ≡ false
-  unfolding allMarked hasName
-  unmarked x [] a n = refl
-  unmarked x (y ∷ c) a n =
-      let i = then-inv (marked w (hashOf seed y)) (allMarked seed w c) a in
-      rw (other-by x y (eqList x y) refl (i .0) n) (unmarked x c (i .1) n)
+taken : (t x : List ℕ) → (getD t (slotFor t x) 0 ≡ 0 → ⊥) → isFree t x ≡ false
+unfolding isFree
+taken t x e = ne-eqb _ _ e
 
-  all-more : (x : List ℕ) (c : List (List ℕ)) → 8192 ≤ length w → allMarked seed w c ≡ true → allMarked seed (markIn w (hashOf seed x)) (c ++ (x ∷ [])) ≡ true
-  unfolding allMarked
-  all-more x [] h a = rw (marked-in w h (hashOf seed x))
-  all-more x (y ∷ c) h a =
-      let i = then-inv (marked w (hashOf seed y)) (allMarked seed w c) a in
-      rw (marked-stays w h (hashOf seed x) (hashOf seed y) (i .0)) (all-more x c h (i .1))
+module _ (t : List ℕ) (room : 3072 ≤ length t) (x : List ℕ) where
+  slot-in : slotFor t x < 3072
+  unfolding slotFor
+  slot-in = let l : slotIn 0 3072 t (keyIn t x) < 0 + 3072 = slot-most 0 3072 t (keyIn t x) (omega arith) in omega arith
+
+  abbrev more : List ℕ
+  more = set t (slotFor t x) (keyIn t x)
+
+  same-key : (y : List ℕ) → keyIn more y ≡ keyIn t y
+  same-key y = key-stays t y (slotFor t x) (keyIn t x) slot-in
+
+  module _ (free : getD t (slotFor t x) 0 ≡ 0) where
+    more-own : isFree more x ≡ false
+    unfolding isFree slotFor
+    more-own =
+        let l : slotFor t x < 3072 = slot-in in
+        let i : slotIn 0 3072 t (keyIn t x) < length t = omega arith in
+        let k : 0 < keyIn t x = key-some t x in
+        rw (same-key x, slot-own 0 3072 t (keyIn t x) free k i) (ne-eqb (keyIn t x) 0 (λ e. omega arith))
+
+    more-stays : (y : List ℕ) → isFree t y ≡ false → isFree more y ≡ false
+    unfolding isFree slotFor
+    more-stays y e = rw (same-key y) (ne-eqb _ _ (slot-stays 0 3072 t (keyIn t x) free (keyIn t x) (keyIn t y) (eqb-false _ _ e)))
+
+  put-by : (b : Bool) → isFree t x ≡ b → (isFree (cond b more t) x ≡ false) × ((y : List ℕ) → isFree t y ≡ false → isFree (cond b more t) y ≡ false)
+  put-by true e = let z = free-is t x true e .0 refl in (more-own z, more-stays z)
+  put-by false e = (e, λ y f. f)
+
+  put-own : isFree (putIn t x) x ≡ false
+  unfolding putIn
+  put-own = put-by (isFree t x) refl .0
+
+  put-stays : (y : List ℕ) → isFree t y ≡ false → isFree (putIn t x) y ≡ false
+  unfolding putIn
+  put-stays = put-by (isFree t x) refl .1
+
+  all-more : (c : List (List ℕ)) → allHeld t c ≡ true → allHeld (putIn t x) (c ++ (x ∷ [])) ≡ true
+  unfolding allHeld
+  all-more [] a = rw put-own
+  all-more (y ∷ c) a =
+      let i = else-inv (isFree t y) (allHeld t c) a in
+      rw (put-stays y (i .0)) (all-more c (i .1))
+
+put-by-length : (t x : List ℕ) (b : Bool) → length (cond b (set t (slotFor t x) (keyIn t x)) t) ≡ length t
+put-by-length t x true = simp length-set
+put-by-length t x false = refl
+
+pub put-length : (t v x : List ℕ) → v ≡ putIn t x → length v ≡ length t
+unfolding putIn
+put-length t v x e = rw e (put-by-length t x (isFree t x))
+
+module _ (t x : List ℕ) where
+  other-by : (y : List ℕ) (b : Bool) → eqList x y ≡ b → isFree t y ≡ false → isFree t x ≡ true → b ≡ false
+  other-by y true e m n = absurd (true≢false (sym n ∙ ap (isFree t) (eqList-true x y e) ∙ m))
+  other-by y false e m n = refl
+
+  -- one whose slot is empty is not among those whose slots are taken
+  not-held : (c : List (List ℕ)) → allHeld t c ≡ true → isFree t x ≡ true → hasName x c ≡ false
+  unfolding allHeld hasName
+  not-held [] a n = refl
+  not-held (y ∷ c) a n =
+      let i = else-inv (isFree t y) (allHeld t c) a in
+      rw (other-by y (eqList x y) refl (i .0) n) (not-held c (i .1) n)
+
+-- what the code does to the slot of a name
+module _ (t x : List ℕ) (key slot : ℕ) (is-key : key ≡ keyIn t x) (is-slot : slot ≡ slotIn 0 3072 t key) where
+  slot-for : slot ≡ slotFor t x
+  unfolding slotFor
+  slot-for = is-slot ∙ ap (slotIn 0 3072 t) is-key
+
+  slot-free : (b : Bool) → eqb (getD t slot 0) 0 ≡ b → isFree t x ≡ b
+  unfolding isFree
+  slot-free b e = ap (λ (i : ℕ). eqb (getD t i 0) 0) (sym slot-for) ∙ e
+
+  pub put-new : getD t slot 0 ≡ 0 → set t slot key ≡ putIn t x
+  unfolding putIn
+  put-new e = rw (slot-free true (eq-eqb _ _ e), ← slot-for, ← is-key)
+
+  pub put-none : (getD t slot 0 ≡ 0 → ⊥) → t ≡ putIn t x
+  unfolding putIn
+  put-none e = rw (slot-free false (ne-eqb _ _ e))
+
+  pub free-other : getD t slot 0 ≡ 0 → (c : List (List ℕ)) → allHeld t c ≡ true → hasName x c ≡ false
+  free-other e c a = not-held t x c a (slot-free true (eq-eqb _ _ e))
 
 -- ---- the names of siblings and of those after them
-
-pub after-end : (k : ℕ) (s : List ℕ) → k ≤ 0 → restAfter k s ≡ s
-unfolding restAfter
-after-end k s h = let z : k ≡ 0 = omega arith in rw z
-
-pub after-more : (k r a : ℕ) (d : List ℕ) → 0 < k → r ≡ a + treesLength 1 (drop a d) → restAfter k (drop a d) ≡ restAfter (k - 1) (drop r d)
-unfolding restAfter
-after-more zero r a d h e = absurd (omega arith)
-after-more (suc k) r a d h e = let z : suc k - 1 ≡ k = omega arith in rw (z, rest-at d a r e)
 
 after-one : (n : ℕ) (s : List ℕ) → restAfter (n + 1) s ≡ restOf (restAfter n s)
 unfolding restAfter
@@ -116,9 +184,9 @@ pub differ-start : (s : List ℕ) → namesDiffer (namesOf 0 s) ≡ true
 unfolding namesDiffer namesOf
 differ-start s = refl
 
-pub marked-start : (seed : ℕ) (w s : List ℕ) → allMarked seed w (namesOf 0 s) ≡ true
-unfolding allMarked namesOf
-marked-start seed w s = refl
+pub held-start : (t s : List ℕ) → allHeld t (namesOf 0 s) ≡ true
+unfolding allHeld namesOf
+held-start t s = refl
 
 pub apart-end : (c : List (List ℕ)) (d : List ℕ) (a k : ℕ) → k ≤ 0 → apart c (namesOf k (drop a d)) ≡ true
 unfolding apart
@@ -159,15 +227,8 @@ module _ (n : ℕ) (t u : List ℕ) (at : u ≡ restAfter n t) where
   pub fill-rest : (d : List ℕ) (a r : ℕ) → u ≡ drop a d → r ≡ a + treesLength 1 (drop a d) → drop r d ≡ restAfter (n + 1) t
   fill-rest d a r e is = rest-at d a r is ∙ ap restOf (sym e ∙ at) ∙ sym (after-one n t)
 
-  module _ (seed : ℕ) (w v : List ℕ) (room : 8192 ≤ length w) (is : v ≡ markIn w (hashOf seed (nameOf u))) where
-    pub fill-marked : allMarked seed w (namesOf n t) ≡ true → allMarked seed v (namesOf (n + 1) t) ≡ true
-    fill-marked a = rw is (ap (allMarked seed (markIn w (hashOf seed (nameOf u)))) one-more ∙ all-more seed w (nameOf u) (namesOf n t) room a)
-
-    pub fill-length : length v ≡ length w
-    fill-length = rw is (length-mark w room (hashOf seed (nameOf u)))
-
-    pub fill-kept : drop 8192 v ≡ drop 8192 w
-    fill-kept = rw is (rest-mark w room (hashOf seed (nameOf u)))
+  pub fill-held : (w v : List ℕ) → 3072 ≤ length w → v ≡ putIn w (nameOf u) → allHeld w (namesOf n t) ≡ true → allHeld v (namesOf (n + 1) t) ≡ true
+  fill-held w v room is a = rw is (ap (allHeld (putIn w (nameOf u))) one-more ∙ all-more w room (nameOf u) (namesOf n t) a)
 
   -- the chunk and the siblings after it
   module _ (k : ℕ) (le : n ≤ k) where
@@ -181,14 +242,11 @@ module _ (n : ℕ) (t u : List ℕ) (at : u ≡ restAfter n t) where
       pub chunk-apart : apart (namesOf n t) (namesOf (k - n) u) ≡ true → namesDiffer (namesOf k t) ≡ namesDiffer (namesOf (k - n) u)
       chunk-apart e = ap namesDiffer (names-split k le) ∙ differ-append (namesOf n t) (namesOf (k - n) u) d ∙ rw e
 
-pub fill-all : (n k seed : ℕ) (w t : List ℕ) → n ≡ k → namesDiffer (namesOf n t) ≡ true → allMarked seed w (namesOf n t) ≡ true → (true ≡ namesDiffer (namesOf k t)) × (allMarked seed w (namesOf k t) ≡ true)
-fill-all n k seed w t e d a = (sym (ap (λ (j : ℕ). namesDiffer (namesOf j t)) (sym e) ∙ d), ap (λ (j : ℕ). allMarked seed w (namesOf j t)) (sym e) ∙ a)
+-- ---- the answer for a chunk
 
--- the chunk is all that is left
-pub chunk-whole : (n k : ℕ) (t : List ℕ) → n ≡ k → namesDiffer (namesOf n t) ≡ true → namesDiffer (namesOf k t) ≡ true
-chunk-whole n k t e d = ap (λ (j : ℕ). namesDiffer (namesOf j t)) (sym e) ∙ d
+module _ (d : List ℕ) (a k : ℕ) (t : List ℕ) where
+  pub filled-equal : namesDiffer (namesOf k (drop a d)) ≡ false → Filled d a k t C.Equal
+  filled-equal e = record { equal = λ q. e; next = λ y q. let z : _≡_ {A = ℕ} 0 1 = cc in absurd (omega arith) }
 
--- the workspace after it was cleared
-module _ (w v : List ℕ) (is : v ≡ replicate 8192 0 ++ drop 8192 w) where
-  pub clear-kept : drop 8192 v ≡ drop 8192 w
-  clear-kept = rw is (past-zeros 8192 (drop 8192 w))
+  pub filled-next : (y n : ℕ) → n ≡ k → y ≤ length d → drop y d ≡ restAfter n (drop a d) → namesDiffer (namesOf n (drop a d)) ≡ true → allHeld t (namesOf n (drop a d)) ≡ true → Filled d a k t (C.Next y)
+  filled-next y n e l r f h = rw (← e) (record { equal = λ q. let z : _≡_ {A = ℕ} 0 1 = cc in absurd (omega arith); next = λ x q. let i : x ≡ y = cc in rw i (l, r, f, h) })

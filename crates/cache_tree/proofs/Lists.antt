@@ -1,13 +1,13 @@
 -- Laws of lists of siblings: the first node and the others, the number of nodes.
 use mathlib.Core.Path.{_≡_, refl, sym, ap, _∙_}
 use mathlib.Core.List.{List}
-use mathlib.Core.Bool.{Bool, true, false}
+use mathlib.Core.Bool.{Bool, true, false, cond, not, _&&_}
 use Prim.Native.Nat.{ℕ, zero, suc, _+_, _-_, _≤_, _<_}
 use native.Mathlib.Nat.{add-zero, zero-add, add-assoc, suc-add}
 use native.Mathlib.Omega.{arith}
 use lib.ListN.{length, take, drop, length-drop}
 use Rattle.format.specs.Records.{Node, Forest, nil, tree}
-use Rattle.format.specs.Layout.{okNodeName}
+use Rattle.format.specs.Layout.{okNodeName, distinct}
 use Rattle.format.specs.Reading.{Read, bad, good, need, shift, bind}
 use Rattle.format.specs.Reader.{Head, readNode, readSiblings, readForest}
 use Rattle.format_laws.proofs.Lists.{drop-to}
@@ -17,10 +17,25 @@ use Rattle.cache_tree.specs.declared.list.ListRead.the-variants as L
 use Rattle.tree_nodes.specs.declared.node.Node as Code
 use Rattle.tree_nodes.specs.declared.node.NodeRead.the-variants as R
 use Rattle.tree_nodes.specs.Answers.{nodeAt}
-use Rattle.cache_tree.specs.Answers.{readOne, listAt, rooted, nodesIn}
-use Rattle.tree_nodes.specs.Flat.{size}
+use Rattle.cache_tree.specs.Answers.{readOne, distinctBelow, tested, listAt, rooted, nodesIn}
+use Rattle.tree_nodes.specs.Flat.{size, treesLength, namesOf, hasName, namesDiffer}
 use Rattle.tree_nodes.proofs.Readings.{node-took}
 use Rattle.tree_nodes.proofs.Nodes.{NodeIs}
+use Rattle.tree_nodes.proofs.Flat.{siblingNames, has-names, reads-names, reads-length, trees-none, forest-reads}
+
+-- ---- tests
+
+and-assoc : (a b c : Bool) → (a && (b && c)) ≡ ((a && b) && c)
+and-assoc true b c = refl
+and-assoc false b c = refl
+
+and-true : (a : Bool) → (a && true) ≡ a
+and-true true = refl
+and-true false = refl
+
+and-false : (a : Bool) → (a && false) ≡ false
+and-false true = refl
+and-false false = refl
 
 -- ---- one list after another
 
@@ -149,83 +164,188 @@ subtree-sized (suc l) s = one-sized l (forest-sized l) s
 
 -- ---- what an answer says of the format's reading
 
-pub record ListIs (d : List ℕ) (at : ℕ) (r : Read Forest) (next n : ℕ) : Type 0 where
+-- the answer for a reading that was tested
+pub record ListIs (ok : Forest → Bool) (d : List ℕ) (at : ℕ) (r : Read Forest) (next n : ℕ) : Type 0 where
   pub of : Forest
   pub reads : r ≡ good of (next - at)
+  pub passes : ok of ≡ true
   pub nodes : n ≡ size of
   pub few : at + n ≤ next
   pub within : next ≤ length d
 
-module _ (d : List ℕ) (at next n : ℕ) (inside : at ≤ length d) where
-  pub list-is : (r : Read Forest) → Sized (length (drop at d)) r → L.Good next n ≡ listAt at r → ListIs d at r next n
-  unfolding listAt
-  list-is (bad a p) t e = let z : _≡_ {A = ℕ} 0 1 = cc in absurd (omega arith)
-  list-is (good f m) t e =
-      let i₁ : next ≡ at + m = cc in
-      let i₂ : n ≡ size f = cc in
+module _ (ok : Forest → Bool) (d : List ℕ) (at : ℕ) where
+  module _ (next n : ℕ) (inside : at ≤ length d) (f : Forest) (m : ℕ) (t : Sized (length (drop at d)) (good f m)) where
+    list-by : (b : Bool) → ok f ≡ b → L.Good next n ≡ listAt at (need b 15 0 (good f m)) → ListIs ok d at (good f m) next n
+    unfolding listAt need
+    list-by false q e = let z : _≡_ {A = ℕ} 0 1 = cc in absurd (omega arith)
+    list-by true q e =
+        let i₁ : next ≡ at + m = cc in
+        let i₂ : n ≡ size f = cc in
+        let b : (size f ≤ m) × (m ≤ length (drop at d)) = t .of f m refl in
+        let k : length (drop at d) ≡ length d - at = length-drop at d in
+        let j : m ≡ next - at = omega arith in
+        record { of = f; reads = ap (λ (i : ℕ). good f i) j; passes = q; nodes = i₂; few = omega arith; within = omega arith }
+
+  pub list-is : (next n : ℕ) → at ≤ length d → (r : Read Forest) → Sized (length (drop at d)) r → L.Good next n ≡ listAt at (tested ok r) → ListIs ok d at r next n
+  unfolding listAt tested
+  list-is next n inside (bad a p) t e = let z : _≡_ {A = ℕ} 0 1 = cc in absurd (omega arith)
+  list-is next n inside (good f m) t e = list-by next n inside f m t (ok f) refl e
+
+  few-by : (r : ListRead) (f : Forest) (m : ℕ) (b : Bool) → r ≡ listAt at (need b 15 0 (good f m)) → nodesIn r ≤ size f
+  unfolding listAt need
+  few-by r f m false e = let i : nodesIn r ≡ 0 = ap nodesIn e in omega arith
+  few-by r f m true e = let i : nodesIn r ≡ size f = ap nodesIn e in omega arith
+
+  pub list-few : (r : ListRead) (x : Read Forest) → Sized (length (drop at d)) x → r ≡ listAt at (tested ok x) → nodesIn r ≤ length d
+  unfolding listAt tested
+  list-few r (bad n p) t e = let i : nodesIn r ≡ 0 = ap nodesIn e in omega arith
+  list-few r (good f m) t e =
+      let i : nodesIn r ≤ size f = few-by r f m (ok f) e in
       let b : (size f ≤ m) × (m ≤ length (drop at d)) = t .of f m refl in
       let k : length (drop at d) ≡ length d - at = length-drop at d in
-      let j : m ≡ next - at = omega arith in
-      record { of = f; reads = ap (λ (i : ℕ). good f i) j; nodes = i₂; few = omega arith; within = omega arith }
+      omega arith
 
-pub list-few : (d : List ℕ) (at : ℕ) (r : ListRead) (x : Read Forest) → Sized (length (drop at d)) x → r ≡ listAt at x → nodesIn r ≤ length d
-unfolding listAt
-list-few d at r (bad n p) t e = let i : nodesIn r ≡ 0 = ap nodesIn e in omega arith
-list-few d at r (good f m) t e =
-    let i : nodesIn r ≡ size f = ap nodesIn e in
-    let b : (size f ≤ m) × (m ≤ length (drop at d)) = t .of f m refl in
-    let k : length (drop at d) ≡ length d - at = length-drop at d in
-    omega arith
+-- ---- names that differ in each list further down
+
+graft-below : (f g : Forest) → distinctBelow (graft f g) ≡ (distinctBelow f && distinctBelow g)
+unfolding graft distinctBelow
+graft-below nil g = refl
+graft-below (tree n kids more) g = rw (graft-below more g) (and-assoc (distinct kids) (distinctBelow more) (distinctBelow g))
 
 -- ---- the siblings from a place on
 
 module _ (at : ℕ) where
-  bad-on : {A : Type 0} (x : Read A) (a : A → ℕ → Read Forest) (n p : ℕ) → x ≡ bad n p → listAt at (bind x a) ≡ L.Bad
-  unfolding bind listAt
+  bad-on : {A : Type 0} (x : Read A) (a : A → ℕ → Read Forest) (n p : ℕ) → x ≡ bad n p → listAt at (tested distinctBelow (bind x a)) ≡ L.Bad
+  unfolding bind tested listAt
   bad-on x a n p e = rw e
 
-  forest-bad : (x : Read Forest) (a : Forest → ℕ → Read Forest) → L.Bad ≡ listAt at x → listAt at (bind x a) ≡ L.Bad
-  unfolding listAt bind
-  forest-bad (bad n p) a e = refl
-  forest-bad (good f m) a e = let z : _≡_ {A = ℕ} 0 1 = cc in absurd (omega arith)
+  bad-is : (f : Forest) (m : ℕ) (b : Bool) → L.Bad ≡ listAt at (need b 15 0 (good f m)) → b ≡ false
+  unfolding listAt need
+  bad-is f m true e = let z : _≡_ {A = ℕ} 0 1 = cc in absurd (omega arith)
+  bad-is f m false e = refl
 
-  shift-others : (m next : ℕ) (t : Forest) (y : Read Forest) → next ≡ at + m → listAt at (shift m (others t y)) ≡ plus (size t) (listAt next y)
-  unfolding others bind shift listAt
-  shift-others m next t (bad n p) i = refl
-  shift-others m next t (good f o) i = let e : at + (m + (o + 0)) ≡ next + o = omega arith in rw (e, graft-size t f)
+  -- the first sibling has two equal names below it
+  equal-others : (m : ℕ) (f : Forest) (y : Read Forest) → distinctBelow f ≡ false → listAt at (tested distinctBelow (shift m (others f y))) ≡ L.Bad
+  unfolding others bind shift tested need listAt
+  equal-others m f (bad n p) e = refl
+  equal-others m f (good g o) e = rw (graft-below f g, e)
+
+  forest-bad : (x : Read Forest) (rest : ℕ → Read Forest) → L.Bad ≡ listAt at (tested distinctBelow x) → listAt at (tested distinctBelow (bind x λ t m. others t (rest m))) ≡ L.Bad
+  unfolding listAt tested bind
+  forest-bad (bad n p) rest e = refl
+  forest-bad (good f m) rest e = equal-others m f (rest m) (bad-is f m (distinctBelow f) e)
+
+  others-by : (m next o : ℕ) (t f : Forest) → next ≡ at + m → (b : Bool) → listAt at (need b 15 0 (good (graft t f) (m + (o + 0)))) ≡ plus (size t) (listAt next (need b 15 0 (good f o)))
+  unfolding need listAt
+  others-by m next o t f i false = refl
+  others-by m next o t f i true = let e : at + (m + (o + 0)) ≡ next + o = omega arith in rw (e, graft-size t f)
+
+  shift-others : (m next : ℕ) (t : Forest) (y : Read Forest) → next ≡ at + m → distinctBelow t ≡ true → listAt at (tested distinctBelow (shift m (others t y))) ≡ plus (size t) (listAt next (tested distinctBelow y))
+  unfolding others bind shift tested listAt
+  shift-others m next t (bad n p) i q = refl
+  shift-others m next t (good f o) i q = rw (graft-below t f, q) (others-by m next o t f i (distinctBelow f))
 
 forest-more : (l k : ℕ) (s : List ℕ) → 0 < k → readForest 20 0 l k s ≡ bind (readOne l s) λ t m. others t (readForest 20 0 l (k - 1) (drop m s))
 forest-more l k s h = let e : k ≡ suc (k - 1) = omega arith in ap (λ (j : ℕ). readForest 20 0 l j s) e ∙ list-step l (k - 1) s
 
 module _ (d : List ℕ) (l place left : ℕ) where
-  turn-none : left ≤ 0 → listAt place (readForest 20 0 l left (drop place d)) ≡ L.Good place 0
-  unfolding listAt size
+  turn-none : left ≤ 0 → listAt place (tested distinctBelow (readForest 20 0 l left (drop place d))) ≡ L.Good place 0
+  unfolding listAt tested need distinctBelow size
   turn-none h = let z : left ≡ 0 = omega arith in rw (z, list-none l (drop place d), add-zero place)
 
   module _ (some : 0 < left) where
-    turn-bad : L.Bad ≡ listAt place (readOne l (drop place d)) → listAt place (readForest 20 0 l left (drop place d)) ≡ L.Bad
-    turn-bad e = ap (listAt place) (forest-more l left (drop place d) some) ∙ forest-bad place (readOne l (drop place d)) _ e
+    turn-bad : L.Bad ≡ listAt place (tested distinctBelow (readOne l (drop place d))) → listAt place (tested distinctBelow (readForest 20 0 l left (drop place d))) ≡ L.Bad
+    turn-bad e = ap (λ (x : Read Forest). listAt place (tested distinctBelow x)) (forest-more l left (drop place d) some) ∙ forest-bad place (readOne l (drop place d)) (λ m. readForest 20 0 l (left - 1) (drop m (drop place d))) e
 
-    turn-good : (next n : ℕ) → ListIs d place (readOne l (drop place d)) next n
-        → listAt place (readForest 20 0 l left (drop place d)) ≡ plus n (listAt next (readForest 20 0 l (left - 1) (drop next d)))
+    turn-good : (next n : ℕ) → ListIs distinctBelow d place (readOne l (drop place d)) next n
+        → listAt place (tested distinctBelow (readForest 20 0 l left (drop place d))) ≡ plus n (listAt next (tested distinctBelow (readForest 20 0 l (left - 1) (drop next d))))
     unfolding bind
     turn-good next n is =
         let b = is .few in
         let e : next ≡ place + (next - place) = omega arith in
-        ap (listAt place) (forest-more l left (drop place d) some)
-        ∙ rw (is .reads, drop-to d place (next - place) next e, is .nodes) (shift-others place (next - place) next (is .of) (readForest 20 0 l (left - 1) (drop next d)) e)
+        ap (λ (x : Read Forest). listAt place (tested distinctBelow x)) (forest-more l left (drop place d) some)
+        ∙ rw (is .reads, drop-to d place (next - place) next e, is .nodes) (shift-others place (next - place) next (is .of) (readForest 20 0 l (left - 1) (drop next d)) e (is .passes))
 
--- the loop over siblings: the answer for the whole list, of which so many nodes stand before the place
-module _ (d : List ℕ) (l place left : ℕ) (whole : ListRead) (nodes : ℕ) (so-far : whole ≡ plus nodes (listAt place (readForest 20 0 l left (drop place d)))) where
-  pub loop-end : left ≤ 0 → L.Good place nodes ≡ whole
+-- the loop over siblings: the answer for the whole list, of which some nodes are before the place, before the siblings' own names are tested
+module _ (d : List ℕ) (l place left : ℕ) (whole : ListRead) (nodes : ℕ) (so-far : whole ≡ plus nodes (listAt place (tested distinctBelow (readForest 20 0 l left (drop place d))))) where
+  loop-end : left ≤ 0 → L.Good place nodes ≡ whole
   loop-end h = sym (so-far ∙ ap (plus nodes) (turn-none d l place left h) ∙ rw (add-zero nodes))
 
-  pub loop-bad : 0 < left → L.Bad ≡ listAt place (readOne l (drop place d)) → L.Bad ≡ whole
+  loop-bad : 0 < left → L.Bad ≡ listAt place (tested distinctBelow (readOne l (drop place d))) → L.Bad ≡ whole
   loop-bad some e = sym (so-far ∙ ap (plus nodes) (turn-bad d l place left some e))
 
-  pub loop-more : (next n : ℕ) → 0 < left → ListIs d place (readOne l (drop place d)) next n
-      → whole ≡ plus (nodes + n) (listAt next (readForest 20 0 l (left - 1) (drop next d)))
-  loop-more next n some is = so-far ∙ ap (plus nodes) (turn-good d l place left some next n is) ∙ plus-plus nodes n (listAt next (readForest 20 0 l (left - 1) (drop next d)))
+  pub loop-more : (next n : ℕ) → 0 < left → ListIs distinctBelow d place (readOne l (drop place d)) next n
+      → whole ≡ plus (nodes + n) (listAt next (tested distinctBelow (readForest 20 0 l (left - 1) (drop next d))))
+  loop-more next n some is = so-far ∙ ap (plus nodes) (turn-good d l place left some next n is) ∙ plus-plus nodes n (listAt next (tested distinctBelow (readForest 20 0 l (left - 1) (drop next d))))
+
+-- ---- the siblings' own names
+
+and-names : (h x n k : Bool) → (not h && (x && (n && k))) ≡ (cond h false n && (x && k))
+and-names true x n k = refl
+and-names false true n k = refl
+and-names false false true k = refl
+and-names false false false k = refl
+
+distinct-is : (f : Forest) → distinct f ≡ (namesDiffer (siblingNames f) && distinctBelow f)
+unfolding distinct namesDiffer siblingNames distinctBelow
+distinct-is nil = refl
+distinct-is (tree n kids after) =
+    rw (has-names (n .name) after, distinct-is after) (and-names (hasName (n .name) (siblingNames after)) (distinct kids) (namesDiffer (siblingNames after)) (distinctBelow after))
+
+module _ (d : List ℕ) (at l k : ℕ) where
+  abbrev whole-list : Read Forest
+  whole-list = readForest 20 0 l k (drop at d)
+
+  -- two equal names further down
+  below-bad : (x : Read Forest) → L.Bad ≡ listAt at (tested distinctBelow x) → L.Bad ≡ listAt at (tested distinct x)
+  unfolding listAt tested need
+  below-bad (bad n p) e = refl
+  below-bad (good f m) e = rw (distinct-is f, bad-is at f m (distinctBelow f) e, and-false (namesDiffer (siblingNames f)))
+
+  module _ (place nodes : ℕ) (is : ListIs distinctBelow d at whole-list place nodes) where
+    own-names : distinct (is .of) ≡ namesDiffer (namesOf k (drop at d))
+    own-names = distinct-is (is .of) ∙ rw (is .passes, ← (reads-names _ _ _ _ (forest-reads l k (drop at d) (is .of) (place - at) (is .reads)))) (and-true (namesDiffer (namesOf k (drop at d))))
+
+    list-end : (b : Bool) → namesDiffer (namesOf k (drop at d)) ≡ b → listAt at (tested distinct whole-list) ≡ listAt at (need b 15 0 (good (is .of) (place - at)))
+    unfolding tested
+    list-end b e = rw (is .reads, own-names, e)
+
+    pub list-differs : namesDiffer (namesOf k (drop at d)) ≡ true → L.Good place nodes ≡ listAt at (tested distinct whole-list)
+    unfolding need listAt
+    list-differs e = let w = is .few in let i : at + (place - at) ≡ place = omega arith in sym (list-end true e ∙ rw (i, ← (is .nodes)))
+
+    pub list-equal : namesDiffer (namesOf k (drop at d)) ≡ false → L.Bad ≡ listAt at (tested distinct whole-list)
+    unfolding need listAt
+    list-equal e = sym (list-end false e)
+
+  module _ (place left nodes : ℕ) (so-far : listAt at (tested distinctBelow whole-list) ≡ plus nodes (listAt place (tested distinctBelow (readForest 20 0 l left (drop place d))))) where
+    pub list-bad : 0 < left → L.Bad ≡ listAt place (tested distinctBelow (readOne l (drop place d))) → L.Bad ≡ listAt at (tested distinct whole-list)
+    list-bad some e = below-bad whole-list (loop-bad d l place left _ nodes so-far some e)
+
+    pub list-all : at ≤ length d → left ≤ 0 → ListIs distinctBelow d at whole-list place nodes
+    list-all inside none = list-is distinctBelow d at place nodes inside whole-list (forest-sized l k (drop at d)) (loop-end d l place left _ nodes so-far none)
+
+-- a sibling and all below it reach up to the next one
+one-alone : (l : ℕ) (s : List ℕ) (t : Forest) (m : ℕ) → readOne l s ≡ good t m → readForest 20 0 l 1 s ≡ good (graft t nil) (m + (0 + 0))
+unfolding bind shift others
+one-alone l s t m e = list-step l 0 s ∙ rw (e, list-none l (drop m s))
+
+one-some : (l : ℕ) (s : List ℕ) (f : Forest) (j : ℕ) → readOne l s ≡ good f j → 1 ≤ j
+unfolding readOne
+one-some zero s f j e = bad-good 15 0 f j e
+one-some (suc l) s f j e =
+    bind-inv (readNode 20 0 s) _ f j e λ h m i q r is.
+    let c : (1 ≤ m) × (m ≤ length s) = node-took 20 0 s .of h m q in
+    omega arith
+
+pub one-length : (d : List ℕ) (l place next n : ℕ) → ListIs distinctBelow d place (readOne l (drop place d)) next n → (place < next) × (next ≡ place + treesLength 1 (drop place d))
+one-length d l place next n is =
+    let few = is .few in
+    let some : 1 ≤ next - place = one-some l (drop place d) (is .of) (next - place) (is .reads) in
+    let r = forest-reads l 1 (drop place d) _ _ (one-alone l (drop place d) (is .of) (next - place) (is .reads)) in
+    let e : treesLength (1 + 0) (drop place d) ≡ next - place + (0 + 0) + treesLength 0 (drop (next - place + (0 + 0)) (drop place d)) = reads-length _ _ _ _ r 0 in
+    let z : treesLength 0 (drop (next - place + (0 + 0)) (drop place d)) ≡ 0 = trees-none (drop (next - place + (0 + 0)) (drop place d)) in
+    (omega arith, omega arith)
 
 -- ---- a node and its list of subtrees
 
@@ -235,33 +355,38 @@ unfolding readOne
 one-more zero s e = absurd (e refl)
 one-more (suc l) s e = let k : suc l - 1 ≡ l = omega arith in rw k
 
-no-node-by : (at : ℕ) (x : Read Head) (a : Head → ℕ → Read Forest) → R.Bad ≡ nodeAt at x → listAt at (bind x a) ≡ L.Bad
+no-node-by : (at : ℕ) (x : Read Head) (a : Head → ℕ → Read Forest) → R.Bad ≡ nodeAt at x → listAt at (tested distinctBelow (bind x a)) ≡ L.Bad
 unfolding nodeAt
 no-node-by at (bad n p) a e = bad-on at _ a n p refl
 no-node-by at (good h m) a e = let z : _≡_ {A = ℕ} 0 1 = cc in absurd (omega arith)
 
 -- a node with those subtrees
-one-rooted-by : (at m next : ℕ) (node : Node) → next ≡ at + m → (y : Read Forest) → listAt at (shift m (bind y λ kids n. good (tree node kids nil) 0)) ≡ rooted (listAt next y)
-unfolding listAt bind shift size
-one-rooted-by at m next node is (bad n p) = refl
-one-rooted-by at m next node is (good f k) =
+one-tested : (at m next k : ℕ) (node : Node) (f : Forest) → next ≡ at + m → (b : Bool) → listAt at (need b 15 0 (good (tree node f nil) (m + (k + 0)))) ≡ rooted (listAt next (need b 15 0 (good f k)))
+unfolding listAt need size
+one-tested at m next k node f is false = refl
+one-tested at m next k node f is true =
     let i : at + (m + (k + 0)) ≡ next + k = omega arith in
     let n : suc (size f + 0) ≡ size f + 1 = omega arith in
     rw (i, n)
 
+one-rooted-by : (at m next : ℕ) (node : Node) → next ≡ at + m → (y : Read Forest) → listAt at (tested distinctBelow (shift m (bind y λ kids n. good (tree node kids nil) 0))) ≡ rooted (listAt next (tested distinct y))
+unfolding listAt bind shift tested distinctBelow
+one-rooted-by at m next node is (bad n p) = refl
+one-rooted-by at m next node is (good f k) = rw (and-true (distinct f)) (one-tested at m next k node f is (distinct f))
+
 module _ (d : List ℕ) (at l : ℕ) where
-  pub one-none : l ≡ 0 → listAt at (readOne l (drop at d)) ≡ L.Bad
-  unfolding readOne listAt
+  pub one-none : l ≡ 0 → listAt at (tested distinctBelow (readOne l (drop at d))) ≡ L.Bad
+  unfolding readOne tested listAt
   one-none e = rw e
 
   module _ (l-some : l ≡ 0 → ⊥) where
-    pub one-no-node : R.Bad ≡ nodeAt at (readNode 20 0 (drop at d)) → listAt at (readOne l (drop at d)) ≡ L.Bad
-    one-no-node e = ap (listAt at) (one-more l (drop at d) l-some) ∙ no-node-by at (readNode 20 0 (drop at d)) _ e
+    pub one-no-node : R.Bad ≡ nodeAt at (readNode 20 0 (drop at d)) → listAt at (tested distinctBelow (readOne l (drop at d))) ≡ L.Bad
+    one-no-node e = ap (λ (x : Read Forest). listAt at (tested distinctBelow x)) (one-more l (drop at d) l-some) ∙ no-node-by at (readNode 20 0 (drop at d)) _ e
 
     module _ (node : Code.Node) (is : NodeIs d at node) where
-      pub one-no-name : false ≡ okNodeName (take (node .nul - at) (drop at d)) → listAt at (readOne l (drop at d)) ≡ L.Bad
-      unfolding bind shift need listAt
-      one-no-name e = ap (listAt at) (one-more l (drop at d) l-some) ∙ rw (is .reads, is .name, ← e)
+      pub one-no-name : false ≡ okNodeName (take (node .nul - at) (drop at d)) → listAt at (tested distinctBelow (readOne l (drop at d))) ≡ L.Bad
+      unfolding bind shift need tested listAt
+      one-no-name e = ap (λ (x : Read Forest). listAt at (tested distinctBelow x)) (one-more l (drop at d) l-some) ∙ rw (is .reads, is .name, ← e)
 
       module _ (named : true ≡ okNodeName (take (node .nul - at) (drop at d))) where
         one-list : readOne l (drop at d) ≡ shift (node .next - at) (bind (readForest 20 0 (l - 1) (node .subtrees) (drop (node .next) d)) λ kids n. good (tree (is .head .node) kids nil) 0)
@@ -271,7 +396,7 @@ module _ (d : List ℕ) (at l : ℕ) where
             let e : node .next ≡ at + (node .next - at) = omega arith in
             one-more l (drop at d) l-some ∙ rw (is .reads, is .name, ← named, is .subtrees, drop-to d at (node .next - at) (node .next) e)
 
-        pub one-rooted : listAt at (readOne l (drop at d)) ≡ rooted (listAt (node .next) (readForest 20 0 (l - 1) (node .subtrees) (drop (node .next) d)))
+        pub one-rooted : listAt at (tested distinctBelow (readOne l (drop at d))) ≡ rooted (listAt (node .next) (tested distinct (readForest 20 0 (l - 1) (node .subtrees) (drop (node .next) d))))
         one-rooted =
             let b : at ≤ node .next = omega (arith, is .named, is .ended) in
-            ap (listAt at) one-list ∙ one-rooted-by at (node .next - at) (node .next) (is .head .node) (omega arith) _
+            ap (λ (x : Read Forest). listAt at (tested distinctBelow x)) one-list ∙ one-rooted-by at (node .next - at) (node .next) (is .head .node) (omega arith) _

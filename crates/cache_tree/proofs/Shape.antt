@@ -1,7 +1,7 @@
 -- Laws of the whole data of TREE: the root and its list, the tests after it, node number k.
-use mathlib.Core.Path.{_≡_, refl, sym, ap, _∙_}
+use mathlib.Core.Path.{_≡_, refl, ap, _∙_}
 use mathlib.Core.List.{List}
-use mathlib.Core.Bool.{Bool, true, false, cond, _&&_}
+use mathlib.Core.Bool.{Bool, true, false}
 use Prim.Native.Nat.{ℕ, _+_, _-_, _≤_, _<_}
 use native.Mathlib.Nat.{add-zero}
 use native.Mathlib.Omega.{arith}
@@ -13,20 +13,17 @@ use Rattle.format.specs.Records.{Node, Forest, nil, tree, Tree, Item, items, tr
 use Rattle.format.specs.Layout.{distinct, okTreeCounts}
 use Rattle.format.specs.Reading.{Read, bad, good, need, shift, bind}
 use Rattle.format.specs.Reader.{Head, readNode, readForest, readNodes, readTree}
-use Rattle.format_laws.proofs.Readings.{need-inv, bind-inv}
 use Rattle.tree_nodes.specs.declared.node.Node as Code
 use Rattle.tree_nodes.specs.declared.node.NodeRead.the-variants as R
 use Rattle.cache_tree.specs.declared.list.ListRead.the-variants as L
 use Rattle.cache_tree.specs.declared.TreeRead.the-variants as T
 use Rattle.tree_nodes.specs.Answers.{nodeAt}
 use Rattle.tree_nodes.specs.Flat.{size}
-use Rattle.cache_tree.specs.Answers.{listAt, rooted}
+use Rattle.cache_tree.specs.Answers.{tested, listAt, rooted}
 use Rattle.format.specs.Places.{nodeStart}
-use Rattle.tree_nodes.specs.Flat.{namesDiffer, allDiffer}
-use Rattle.cache_tree.specs.Shape.{readShape, nodesAt, treeOf}
+use Rattle.cache_tree.specs.Shape.{readShape, readDistinct, nodesAt, treeOf}
 use Rattle.tree_nodes.proofs.Nodes.{NodeIs}
-use Rattle.tree_nodes.proofs.Flat.{items-size}
-use Rattle.tree_nodes.proofs.Flat.{forest-reads, reads-names, reads-item, reads-differ, distinct-is, differ-step, Shown, siblingNames, kidsDiffer}
+use Rattle.tree_nodes.proofs.Flat.{items-size, reads-item, Shown}
 use Rattle.tree_nodes.proofs.Trees.{tree-items, tree-reads}
 
 -- ---- the format's reading of TREE is this one, and then the test of the counts
@@ -57,33 +54,50 @@ pub record NodesAre (d : List ℕ) (next n : ℕ) : Type 0 where
   pub of : Tree
   pub reads : readNodes 20 0 d ≡ good of next
   pub nodes : n ≡ length (treeItems of)
+  pub differ : distinct (of .subtrees) ≡ true
 
-nodes-are-by : (d : List ℕ) (next n : ℕ) (x : Read Tree) → readNodes 20 0 d ≡ x → L.Good next n ≡ nodesAt x → NodesAre d next n
-unfolding nodesAt
-nodes-are-by d next n (bad a p) q e = let z : _≡_ {A = ℕ} 0 1 = cc in absurd (omega arith)
-nodes-are-by d next n (good t m) q e = let i : next ≡ m = cc in record { of = t; reads = q ∙ ap (λ (k : ℕ). good t k) (sym i); nodes = cc }
+module _ (d : List ℕ) (next n : ℕ) where
+  nodes-tested : (t : Tree) (m : ℕ) → readNodes 20 0 d ≡ good t m → (b : Bool) → distinct (t .subtrees) ≡ b → L.Good next n ≡ nodesAt (shift m (need b 15 0 (good t 0))) → NodesAre d next n
+  unfolding need shift nodesAt
+  nodes-tested t m q false f e = let z : _≡_ {A = ℕ} 0 1 = cc in absurd (omega arith)
+  nodes-tested t m q true f e =
+      let i : next ≡ m + 0 = cc in
+      let j : m ≡ next = omega arith in
+      record { of = t; reads = q ∙ ap (λ (k : ℕ). good t k) j; nodes = cc; differ = f }
 
-pub nodes-are : (d : List ℕ) (next n : ℕ) → L.Good next n ≡ nodesAt (readNodes 20 0 d) → NodesAre d next n
-nodes-are d next n e = nodes-are-by d next n _ refl e
+  nodes-are-by : (x : Read Tree) → readNodes 20 0 d ≡ x → L.Good next n ≡ nodesAt (bind x λ t m. need (distinct (t .subtrees)) 15 0 (good t 0)) → NodesAre d next n
+  unfolding bind nodesAt
+  nodes-are-by (bad a p) q e = let z : _≡_ {A = ℕ} 0 1 = cc in absurd (omega arith)
+  nodes-are-by (good t m) q e = nodes-tested t m q (distinct (t .subtrees)) refl e
 
-no-root-by : (x : Read Head) (a : Head → ℕ → Read Tree) → R.Bad ≡ nodeAt 0 x → nodesAt (bind x a) ≡ L.Bad
+  pub nodes-are : L.Good next n ≡ nodesAt (readDistinct d) → NodesAre d next n
+  unfolding readDistinct
+  nodes-are e = nodes-are-by (readNodes 20 0 d) refl e
+
+no-root-by : (x : Read Head) (a : Head → ℕ → Read Tree) (c : Tree → ℕ → Read Tree) → R.Bad ≡ nodeAt 0 x → nodesAt (bind (bind x a) c) ≡ L.Bad
 unfolding nodeAt bind nodesAt
-no-root-by (bad n p) a e = refl
-no-root-by (good h m) a e = let z : _≡_ {A = ℕ} 0 1 = cc in absurd (omega arith)
+no-root-by (bad n p) a c e = refl
+no-root-by (good h m) a c e = let z : _≡_ {A = ℕ} 0 1 = cc in absurd (omega arith)
 
 root-nodes : (t : Tree) → length (treeItems t) ≡ size (t .subtrees) + 1
 unfolding treeItems
 root-nodes t = let e : length (items 2 (t .subtrees)) ≡ size (t .subtrees) = items-size 2 (t .subtrees) in omega arith
 
-nodes-rooted-by : (m : ℕ) (n : Node) (y : Read Forest) → nodesAt (shift m (bind y λ kids k. good (record { root = n; subtrees = kids }) 0)) ≡ rooted (listAt m y)
-unfolding nodesAt bind shift listAt
+rooted-tested : (m k : ℕ) (n : Node) (f : Forest) (b : Bool) → nodesAt (shift (m + (k + 0)) (need b 15 0 (good (record { root = n; subtrees = f }) 0))) ≡ rooted (listAt m (need b 15 0 (good f k)))
+unfolding nodesAt shift need listAt
+rooted-tested m k n f false = refl
+rooted-tested m k n f true = let i : m + (k + 0) + 0 ≡ m + k = omega arith in rw (i, root-nodes (record { root = n; subtrees = f }))
+
+nodes-rooted-by : (m : ℕ) (n : Node) (y : Read Forest) →
+    nodesAt (bind (shift m (bind y λ kids k. good (record { root = n; subtrees = kids }) 0)) λ t j. need (distinct (t .subtrees)) 15 0 (good t 0)) ≡ rooted (listAt m (tested distinct y))
+unfolding nodesAt bind shift tested listAt
 nodes-rooted-by m n (bad a p) = refl
-nodes-rooted-by m n (good f k) = let i : m + (k + 0) ≡ m + k = omega arith in rw (i, root-nodes (record { root = n; subtrees = f }))
+nodes-rooted-by m n (good f k) = rooted-tested m k n f (distinct f)
 
 module _ (d : List ℕ) where
-  pub nodes-no-root : R.Bad ≡ nodeAt 0 (readNode 20 0 d) → nodesAt (readNodes 20 0 d) ≡ L.Bad
-  unfolding readNodes
-  nodes-no-root e = no-root-by (readNode 20 0 d) _ e
+  pub nodes-no-root : R.Bad ≡ nodeAt 0 (readNode 20 0 d) → nodesAt (readDistinct d) ≡ L.Bad
+  unfolding readDistinct readNodes
+  nodes-no-root e = no-root-by (readNode 20 0 d) _ _ e
 
   module _ (root : Code.Node) (is : NodeIs d 0 root) where
     name-length : length (is .head .node .name) ≡ root .nul
@@ -96,8 +110,8 @@ module _ (d : List ℕ) where
     root-reads : readNode 20 0 d ≡ good (is .head) (root .next)
     root-reads = let e : root .next - 0 ≡ root .next = omega arith in is .reads ∙ ap (λ (n : ℕ). good (is .head) n) e
 
-    pub nodes-named : (root .nul ≡ 0 → ⊥) → nodesAt (readNodes 20 0 d) ≡ L.Bad
-    unfolding readNodes bind shift need nodesAt
+    pub nodes-named : (root .nul ≡ 0 → ⊥) → nodesAt (readDistinct d) ≡ L.Bad
+    unfolding readDistinct readNodes bind shift need nodesAt
     nodes-named e = rw (root-reads, name-length, ne-eqb _ _ e)
 
     module _ (empty : root .nul ≡ 0) where
@@ -105,63 +119,41 @@ module _ (d : List ℕ) where
       unfolding readNodes bind need
       root-list = rw (root-reads, name-length, eq-eqb _ _ empty, is .subtrees)
 
-      pub nodes-rooted : nodesAt (readNodes 20 0 d) ≡ rooted (listAt (root .next) (readForest 20 0 127 (root .subtrees) (drop (root .next) d)))
-      nodes-rooted = ap nodesAt root-list ∙ nodes-rooted-by (root .next) (is .head .node) _
+      pub nodes-rooted : nodesAt (readDistinct d) ≡ rooted (listAt (root .next) (tested distinct (readForest 20 0 127 (root .subtrees) (drop (root .next) d))))
+      unfolding readDistinct
+      nodes-rooted = rw root-list (nodes-rooted-by (root .next) (is .head .node) (readForest 20 0 127 (root .subtrees) (drop (root .next) d)))
 
 -- ---- the tests after the nodes
 
-and-last : (n k : Bool) → cond n (k && true) false ≡ (n && k)
-and-last true true = refl
-and-last true false = refl
-and-last false k = refl
-
-all-zero : (s : List ℕ) → allDiffer 0 s ≡ true
-unfolding allDiffer
-all-zero s = refl
-
--- whether all siblings differ, by the flat pass over all nodes
-nodes-differ : (d : List ℕ) (t : Tree) (m : ℕ) → readNodes 20 0 d ≡ good t m → allDiffer (length (treeItems t)) d ≡ distinct (t .subtrees)
-unfolding readNodes treeItems
-nodes-differ d t m e =
-    bind-inv (readNode 20 0 d) _ t m e λ h a i q r is.
-    need-inv (eqb (length (h .node .name)) 0) 15 0 _ t i r λ ok r₁.
-    bind-inv (readForest 20 0 127 (h .subtrees) (drop a d)) _ t i r₁ λ kids b j q₁ r₂ is₁.
-    let same : record { root = h .node; subtrees = kids } ≡ t = cc in
-    let f = forest-reads 127 (h .subtrees) (drop a d) kids b q₁ in
-    let k : length (items 2 kids) ≡ size kids + 0 = items-size 2 kids ∙ sym (add-zero (size kids)) in
-    let g : t .subtrees ≡ kids = ap (λ (u : Tree). u .subtrees) (sym same) in
-    rw (g, k, differ-step (size kids + 0) d h a q, reads-names _ _ _ _ f, reads-differ _ _ _ _ f 0, distinct-is kids, all-zero (drop b (drop a d))) (and-last (namesDiffer (siblingNames kids)) (kidsDiffer kids))
-
 module _ (d : List ℕ) where
-  pub tree-no-nodes : L.Bad ≡ nodesAt (readNodes 20 0 d) → treeOf (readShape 20 0 d) ≡ T.Bad
-  unfolding readShape nodesAt bind treeOf
-  tree-no-nodes e = by (readNodes 20 0 d) e
-    where
-      by : (x : Read Tree) → L.Bad ≡ nodesAt x → treeOf (bind x λ t m. need (eqb m (length d)) 15 0 (need (distinct (t .subtrees)) 15 0 (good t 0))) ≡ T.Bad
-      by (bad a p) e = refl
-      by (good t m) e = let z : _≡_ {A = ℕ} 0 1 = cc in absurd (omega arith)
+  -- two equal names, and no other test matters
+  equal-by : (t : Tree) (m : ℕ) (a b : Bool) → L.Bad ≡ nodesAt (shift m (need b 15 0 (good t 0))) → treeOf (shift m (need a 15 0 (need b 15 0 (good t 0)))) ≡ T.Bad
+  unfolding shift need nodesAt treeOf
+  equal-by t m true true e = let z : _≡_ {A = ℕ} 0 1 = cc in absurd (omega arith)
+  equal-by t m true false e = refl
+  equal-by t m false b e = refl
+
+  no-nodes-by : (x : Read Tree) → L.Bad ≡ nodesAt (bind x λ t m. need (distinct (t .subtrees)) 15 0 (good t 0)) → treeOf (bind x λ t m. need (eqb m (length d)) 15 0 (need (distinct (t .subtrees)) 15 0 (good t 0))) ≡ T.Bad
+  unfolding bind nodesAt treeOf
+  no-nodes-by (bad a p) e = refl
+  no-nodes-by (good t m) e = equal-by t m (eqb m (length d)) (distinct (t .subtrees)) e
+
+  pub tree-no-nodes : L.Bad ≡ nodesAt (readDistinct d) → treeOf (readShape 20 0 d) ≡ T.Bad
+  unfolding readShape readDistinct
+  tree-no-nodes e = no-nodes-by (readNodes 20 0 d) e
 
   module _ (next n : ℕ) (are : NodesAre d next n) where
     pub tree-longer : (next ≡ length d → ⊥) → treeOf (readShape 20 0 d) ≡ T.Bad
     unfolding readShape bind shift need treeOf
     tree-longer e = rw (are .reads, ne-eqb _ _ e)
 
-    module _ (whole : next ≡ length d) where
-      pub tree-equal : allDiffer n d ≡ false → treeOf (readShape 20 0 d) ≡ T.Bad
-      unfolding readShape bind shift need treeOf
-      tree-equal e =
-          let f : distinct (are .of .subtrees) ≡ false = sym (nodes-differ d (are .of) next (are .reads)) ∙ ap (λ (k : ℕ). allDiffer k d) (sym (are .nodes)) ∙ e in
-          rw (are .reads, eq-eqb _ _ whole, f)
-
-      pub tree-shaped : allDiffer n d ≡ true → treeOf (readShape 20 0 d) ≡ T.Good n
-      unfolding readShape bind shift need treeOf
-      tree-shaped e =
-          let f : distinct (are .of .subtrees) ≡ true = sym (nodes-differ d (are .of) next (are .reads)) ∙ ap (λ (k : ℕ). allDiffer k d) (sym (are .nodes)) ∙ e in
-          rw (are .reads, eq-eqb _ _ whole, f, ← (are .nodes))
+    pub tree-shaped : next ≡ length d → treeOf (readShape 20 0 d) ≡ T.Good n
+    unfolding readShape bind shift need treeOf
+    tree-shaped whole = rw (are .reads, eq-eqb _ _ whole, are .differ, ← (are .nodes))
 
 -- ---- node number k
 
--- it stands where k nodes have passed
+-- it is where k nodes have passed
 pub tree-item : (d : List ℕ) (t : Tree) (m : ℕ) → readNodes 20 0 d ≡ good t m → (k : ℕ) (z : Item) → k < length (treeItems t) → Shown (drop (nodeStart 20 k d) d) (getD (treeItems t) k z)
 tree-item d t m e k z lt =
     let f : Forest = tree (t .root) (t .subtrees) nil in

@@ -1,5 +1,5 @@
 -- What the crate's contracts cite.
 pub mod Answers
-pub mod Filter
+pub mod Chunks
 pub mod Orders
 pub mod Shape

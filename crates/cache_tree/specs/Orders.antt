@@ -1,10 +1,11 @@
 -- Two orders of names. Siblings that rise by either one differ.
 use mathlib.Core.List.{List, [], _∷_, _++_}
-use mathlib.Core.Bool.{Bool, true, false, cond}
+use mathlib.Core.Bool.{Bool, true, false, cond, _&&_}
 use Prim.Native.Nat.{ℕ}
-use lib.ListN.{length}
-use lib.Dec.{ltb}
+use lib.ListN.{length, drop}
+use lib.Dec.{eqb, ltb}
 use Rattle.format.specs.Names.{compare, isBelow}
+use Rattle.tree_nodes.specs.Flat.{nameOf}
 
 -- by number, then by what follows
 unfoldable pub firstBelow : ℕ → ℕ → Bool → Bool
@@ -26,3 +27,7 @@ nameBelow false s t = slashBelow s t
 unfoldable pub risesFrom : Bool → List ℕ → List (List ℕ) → Bool
 risesFrom byLength x [] = true
 risesFrom byLength x (y ∷ l) = cond (nameBelow byLength x y) (risesFrom byLength y l) false
+
+-- whether names still rise where the one at b follows the one at a; nothing is said of a place and itself
+unfoldable pub stillRises : Bool → List ℕ → ℕ → ℕ → Bool → Bool
+stillRises byLength d a b soFar = cond (eqb a b) soFar (soFar && nameBelow byLength (nameOf (drop a d)) (nameOf (drop b d)))

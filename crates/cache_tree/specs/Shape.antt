@@ -17,7 +17,11 @@ readShape w p s =
     bind (readNodes w p s) λ t m.
     need (eqb m (length s)) 15 p (need (distinct (t .subtrees)) 15 p (good t 0))
 
--- all nodes: the bytes, the number of nodes
+-- all nodes, in which no two siblings have the same name
+unfoldable pub readDistinct : List ℕ → Read Tree
+readDistinct s = bind (readNodes 20 0 s) λ t m. need (distinct (t .subtrees)) 15 0 (good t 0)
+
+-- the bytes, the number of nodes
 unfoldable pub nodesAt : Read Tree → ListRead
 nodesAt (bad n p) = L.Bad
 nodesAt (good t m) = L.Good m (length (treeItems t))

@@ -19,22 +19,19 @@ use Rattle.format.specs.Reader.{Contents, readFile}
 use Rattle.answers.specs.declared.Summary.{Summary}
 use Rattle.answers.specs.declared.Checked.{Checked}
 use Rattle.answers.specs.declared.Checked.the-variants.{Refused, Accepted}
-use Rattle.answers.specs.Answers.{tooSmall, cleared, holding, workAfter, refused, inWorkspace, summaryOf, checkedOf, checkAnswer, given, entryAnswer, nodeAnswer, undoAnswer, View, pick, listed, itemsOf, entryOf, nodeOf, undoOf}
+use Rattle.answers.specs.Answers.{tooSmall, inRoom, cleared, holding, workAfter, refused, inWorkspace, summaryOf, checkedOf, checkAnswer, entryAnswer, nodeAnswer, undoAnswer, pick, listed, itemsOf, entryOf, nodeOf, undoOf}
 use Rattle.format_laws.proofs.Tests.{and-inv}
 use Rattle.format_laws.proofs.Numbers.{bytes-take}
+use Rattle.answers.proofs.Laws.{room-large, room-inv}
 use Rattle.spelling.proofs.File.{contentsOf, spelled-read, read-spelled, cut}
-use Rattle.answers.specs.Writing.{answered, rewriteAnswer, putAnswer, removeAnswer}
+use Rattle.answers.specs.Writing.{rewriteAnswer, putAnswer, removeAnswer}
 use Rattle.demands.proofs.Statements.{check, entry, node, undo, rewrite, put, remove}
 
 module _ (work : List ℕ) (room : tooSmall work ≡ false) where
   -- with room, an answer is that of the file's reading
   check-is : (r : Read Contents) → checkAnswer work r ≡ checkedOf r
   unfolding checkAnswer
-  check-is r = rw room refl
-
-  given-is : {A : Type 0} (v : View A) → given work v ≡ v
-  unfolding given
-  given-is v = rw room refl
+  check-is r = ap checkedOf (room-large work r room)
 
 -- an accepted file has been read
 accepted-inv {ℓ} : {X : Type ℓ} (r : Read Contents) (s : Summary) → checkedOf r ≡ Accepted s → ((c : Contents) (m : ℕ) → r ≡ good c m → s ≡ summaryOf c → X) → X
@@ -56,7 +53,7 @@ pub small-refused : (w : ℕ) (hash : List ℕ → List ℕ) (work : List ℕ) �
     (rewrite w hash work asked room f ≡ bad 19 0)
     × (put w hash work asked e room f ≡ bad 19 0)
     × (remove w hash work asked k room f ≡ bad 19 0))
-unfolding checkAnswer entryAnswer nodeAnswer undoAnswer given cleared rewriteAnswer putAnswer removeAnswer answered
+unfolding inRoom checkAnswer entryAnswer nodeAnswer undoAnswer cleared rewriteAnswer putAnswer removeAnswer
 small-refused w hash work small f =
     (rw small refl, rw small refl, λ k. (rw small refl, rw (small, small) refl, rw small refl, rw small refl), λ asked room e k. (rw small refl, rw small refl, rw small refl))
 
@@ -103,14 +100,14 @@ in-workspace false (some a) e q = let z : _≡_ {A = ℕ} 0 1 = cc in absurd (om
 
 module _ (w : ℕ) (hash : List ℕ → List ℕ) (work : List ℕ) (width : (b : List ℕ) → length (hash b) ≡ w) where
   shown-named : (f : List ℕ) (k : ℕ) (e : Entry) → Bytes f → entry w hash work k f ≡ inWorkspace e → length (e .name) ≤ 8192
-  unfolding entryAnswer given
-  shown-named f k e bytes = by (tooSmall work) (readFile w hash f) refl
+  unfolding entryAnswer
+  shown-named f k e bytes = by (inRoom work (readFile w hash f)) refl
     where
-      by : (t : Bool) (r : Read Contents) → readFile w hash f ≡ r → cond t (refused 19 0) (entryOf k r) ≡ inWorkspace e → length (e .name) ≤ 8192
-      by true r is q = let z : _≡_ {A = ℕ} 0 1 = cc in absurd (omega arith)
-      by false (bad n p) is q = let z : _≡_ {A = ℕ} 0 1 = cc in absurd (omega arith)
-      by false (good c m) is q =
-          let h = read-spelled w hash width f c m bytes is in
+      by : (r : Read Contents) → inRoom work (readFile w hash f) ≡ r → entryOf k r ≡ inWorkspace e → length (e .name) ≤ 8192
+      by (bad n p) is q = let z : _≡_ {A = ℕ} 0 1 = cc in absurd (omega arith)
+      by (good c m) is q =
+          room-inv work (readFile w hash f) c m is λ large read.
+          let h = read-spelled w hash width f c m bytes read in
           short-name (e .name) (entry-named w (h .body-is .version) (h .body-is .entries-are) k e (in-workspace (eqb (c .version) 4) _ e q))
 
   pub name-left : (f : List ℕ) (k : ℕ) (e : Entry) → Bytes f → entry w hash work k f ≡ inWorkspace e →
@@ -129,7 +126,7 @@ module _ (w : ℕ) (hash : List ℕ → List ℕ) (work : List ℕ) (width : (b 
       (rewrite w hash work asked room f ≡ bad n p)
       × (put w hash work asked x room f ≡ bad n p)
       × (remove w hash work asked k room f ≡ bad n p))
-  unfolding checkAnswer entryAnswer nodeAnswer undoAnswer given rewriteAnswer putAnswer removeAnswer answered
+  unfolding inRoom checkAnswer entryAnswer nodeAnswer undoAnswer rewriteAnswer putAnswer removeAnswer
   file-refused f n p e =
       (rw (room, e) refl, λ k. (rw (room, e) refl, rw (room, e) refl, rw (room, e) refl), λ asked most x k. (rw (room, e) refl, rw (room, e) refl, rw (room, e) refl))
 
@@ -140,7 +137,7 @@ module _ (w : ℕ) (hash : List ℕ → List ℕ) (work : List ℕ) (width : (b 
       (entry w hash work k f ≡ pick (eqb (c .version) 4) (getElem? (c .records .entries) k))
       × (node w hash work k f ≡ listed (itemsOf (c .records .cacheTree)) k)
       × (undo w hash work k f ≡ listed (c .records .resolveUndo) k))
-  unfolding checkAnswer entryAnswer nodeAnswer undoAnswer given
+  unfolding inRoom checkAnswer entryAnswer nodeAnswer undoAnswer
   file-read f c m bytes e = (read-spelled w hash width f c m bytes e, rw (room, e) refl, λ k. (rw (room, e) refl, rw (room, e) refl, rw (room, e) refl))
 
   -- ---- demand 3
@@ -151,15 +148,15 @@ module _ (w : ℕ) (hash : List ℕ → List ℕ) (work : List ℕ) (width : (b 
 
     pub entry-shown : (k : ℕ) → entry w hash work k f ≡ pick (eqb (h .body-is .version) 4) (getElem? (r .entries) k)
     unfolding entryAnswer
-    entry-shown k = given-is work room (entryOf k (readFile w hash f)) ∙ ap (entryOf k) (spelled-read w hash width r f h)
+    entry-shown k = ap (entryOf k) (room-large work (readFile w hash f) room ∙ spelled-read w hash width r f h)
 
     pub node-shown : (k : ℕ) → node w hash work k f ≡ listed (itemsOf (r .cacheTree)) k
     unfolding nodeAnswer
-    node-shown k = given-is work room (nodeOf k (readFile w hash f)) ∙ ap (nodeOf k) (spelled-read w hash width r f h)
+    node-shown k = ap (nodeOf k) (room-large work (readFile w hash f) room ∙ spelled-read w hash width r f h)
 
     pub undo-shown : (k : ℕ) → undo w hash work k f ≡ listed (r .resolveUndo) k
     unfolding undoAnswer
-    undo-shown k = given-is work room (undoOf k (readFile w hash f)) ∙ ap (undoOf k) (spelled-read w hash width r f h)
+    undo-shown k = ap (undoOf k) (room-large work (readFile w hash f) room ∙ spelled-read w hash width r f h)
 
   -- what is accepted is spelled
   pub accepted-spelled : (f : List ℕ) (s : Summary) → Bytes f → check w hash work f ≡ Accepted s → (r : Records) × Spells w hash r f

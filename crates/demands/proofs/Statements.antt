@@ -57,7 +57,7 @@ module _ (w : ℕ) (hash : List ℕ → List ℕ) (work : List ℕ) where
         × ((asked room : ℕ) (e : Entry) (k : Key) → (rewrite asked room f ≡ bad 19 0) × (put asked e room f ≡ bad 19 0) × (remove asked k room f ≡ bad 19 0))
     -- on every other answer the first 8,192 bytes are zero, and what is past them is never touched
     pub zeroed : tooSmall work ≡ false → (take 8192 (cleared work) ≡ replicate 8192 0) × (drop 8192 (cleared work) ≡ drop 8192 work)
-    -- except that an entry shown from version 4 stands there first and zeros follow
+    -- except that an entry shown from version 4 is there first and zeros follow
     pub shown :
         (f : List ℕ) (k : ℕ) (e : Entry) → Bytes f → entry k f ≡ inWorkspace e →
         (take (length (e .name)) (workAfter (entry k f) work) ≡ e .name)

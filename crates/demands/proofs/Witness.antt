@@ -23,13 +23,13 @@ use Rattle.format.specs.Places.{entryPlace, namePlace, entryNamePlace, dataFrom
 use Rattle.format.proofs.Cases.{a-b, a/b, a/c}
 use Rattle.format.specs.Records.{Records, Entry, modeOf, Key, valid, Node, nil, tree, Undo, width, items, treeItems}
 use Rattle.format.specs.Writer.{needsWord, writePlain, writePacked, writeName, writeRest, writeEntry, writeEntries, digitsOf, decimalOf, writeCount, writeObject, writeNode, writeForest, writeTree, writeStage, writeUndo, writeUndos, writeExtension, writeCacheTree, writeResolveUndo, writeExtensions, writeHeader, writeBody, writeFile}
-use Rattle.format.specs.Requests.{goesBefore, sameKey, putEntry, removeEntry, holds, invalidNode, invalidWay, invalidTree, invalidCacheTree, putRecord, removeRecord, anyWord, okAsked, versionFor, fitting, writing, rewriteRequest, putRequest, removeRequest}
+use Rattle.format.specs.Requests.{goesBefore, sameKey, putEntry, removeEntry, holds, invalidNode, invalidPath, invalidTree, invalidCacheTree, putRecord, removeRecord, anyWord, okAsked, versionFor, fitting, writing, rewriteRequest, putRequest, removeRequest}
 use Rattle.format_laws.proofs.Tests.{and-inv}
 use Rattle.answers.specs.declared.Summary.{Summary}
 use Rattle.answers.specs.declared.Count.the-variants.{Absent, Present}
 use Rattle.answers.specs.declared.Checked.the-variants.{Refused, Accepted}
-use Rattle.answers.specs.Answers.{tooSmall, checkAnswer, given, entryAnswer, nodeAnswer, undoAnswer, inFile, inWorkspace}
-use Rattle.answers.specs.Writing.{answered, rewriteAnswer, putAnswer, removeAnswer}
+use Rattle.answers.specs.Answers.{tooSmall, inRoom, checkAnswer, entryAnswer, nodeAnswer, undoAnswer, inFile, inWorkspace}
+use Rattle.answers.specs.Writing.{rewriteAnswer, putAnswer, removeAnswer}
 use Rattle.demands.proofs.Statements.{check, entry, node, undo, rewrite, put, remove}
 use Rattle.demands.proofs.Demands.{sha1-demand2, sha1-demand3}
 
@@ -38,7 +38,7 @@ work = replicate 8192 0
 
 -- what the closed cases look through, said once: where this unfolds, all that its line names does
 closed : Bool
-unfolding work word bytes4 words be64 padded pad quarter f K H0 nextWord extended schedule round rounds chain block absorb digest sha1 put16 put32 put32s putN be16 be32 be32s two eqList before lacks zeros digits decimal valueFrom value componentsFrom components okComponent okComponents okName lengthField compare common modeOf width items treeItems okMode fixedLength entryLength flagsOf wordOf okNodeName has distinct under inside files allValid sum okCount okCounts okTreeCounts modeText someStage optional trees undos names need shift bind isSet okWord plainLength readPlain readN joined readSuffix readPacked readName entryOf readTail readFixed readEntry readEntries readText countIn needSome readCount readSubtrees readObject readNode readSiblings readForest readNodes readTree modeIn readMode readStage readStages readUndo readUndos readData readExtension readExtensions readBody readFile needsWord writePlain writePacked writeName writeRest writeEntry writeEntries digitsOf decimalOf writeCount writeObject writeNode writeForest writeTree writeStage writeUndo writeUndos writeExtension writeCacheTree writeResolveUndo writeExtensions writeHeader writeBody writeFile goesBefore sameKey putEntry removeEntry holds invalidNode invalidWay invalidTree invalidCacheTree putRecord removeRecord anyWord okAsked versionFor fitting writing rewriteRequest putRequest removeRequest tooSmall checkAnswer given entryAnswer nodeAnswer undoAnswer answered rewriteAnswer putAnswer removeAnswer
+unfolding work word bytes4 words be64 padded pad quarter f K H0 nextWord extended schedule round rounds chain block absorb digest sha1 put16 put32 put32s putN be16 be32 be32s two eqList before lacks zeros digits decimal valueFrom value componentsFrom components okComponent okComponents okName lengthField compare common modeOf width items treeItems okMode fixedLength entryLength flagsOf wordOf okNodeName has distinct under inside files allValid sum okCount okCounts okTreeCounts modeText someStage optional trees undos names need shift bind isSet okWord plainLength readPlain readN joined readSuffix readPacked readName entryOf readTail readFixed readEntry readEntries readText countIn needSome readCount readSubtrees readObject readNode readSiblings readForest readNodes readTree modeIn readMode readStage readStages readUndo readUndos readData readExtension readExtensions readBody readFile needsWord writePlain writePacked writeName writeRest writeEntry writeEntries digitsOf decimalOf writeCount writeObject writeNode writeForest writeTree writeStage writeUndo writeUndos writeExtension writeCacheTree writeResolveUndo writeExtensions writeHeader writeBody writeFile goesBefore sameKey putEntry removeEntry holds invalidNode invalidPath invalidTree invalidCacheTree putRecord removeRecord anyWord okAsked versionFor fitting writing rewriteRequest putRequest removeRequest tooSmall inRoom checkAnswer entryAnswer nodeAnswer undoAnswer rewriteAnswer putAnswer removeAnswer
 closed = true
 
 room : tooSmall work ≡ false
@@ -191,7 +191,7 @@ full-shown :
 unfolding closed
 full-shown = (ap (checkAnswer work) full-read, ap (nodeAnswer work 1) full-read, ap (undoAnswer work 0) full-read)
 
--- where the names of its entries stand, its two nodes and its record
+-- where the names of its entries are, its two nodes and its record
 full-places :
     (entryNamePlace 20 0 full ≡ 74)
     × (entryNamePlace 20 2 full ≡ 218)

@@ -1,4 +1,4 @@
--- Laws of what stands before an entry's name.
+-- Laws of what is before an entry's name.
 use mathlib.Core.Path.{_≡_, refl, sym, ap, _∙_}
 use mathlib.Core.List.{List}
 use mathlib.Core.Bool.{Bool, true, false, cond, not, _&&_}
@@ -19,9 +19,9 @@ use Rattle.entries.specs.declared.Head.{Head}
 use Rattle.entries.specs.declared.Fixed.{Fixed}
 use Rattle.entries.specs.declared.Fixed.the-variants as F
 use Rattle.entries.specs.Answers.{readHead, fixedOf, Size, HeadPassed}
-use Rattle.entries.proofs.Reading.{Kept, kept-need, kept-cond, Alike, alike-need, alike-cond, enough, cut}
+use Rattle.entries.proofs.Reading.{AnswerKept, kept-need, kept-cond, SameAnswer, alike-need, alike-cond, enough, cut}
 
--- an entry is what stands before its name, and the rest
+-- an entry is what is before its name, and the rest
 pub readEntry-head : (w v : ℕ) (k : Key) (p : ℕ) (s : List ℕ)
     → readEntry w v k p s ≡ bind (readHead w v p s) (λ h m. readTail w v k p (h .length) (h .flags) (h .word) s)
 unfolding readEntry readFixed readHead bind
@@ -31,15 +31,15 @@ headRead : ℕ → Fixed → Read Head
 headRead p (F.Bad n) = bad n p
 headRead p (F.Good h) = good h (h .length)
 
-head-bad : (n p : ℕ) → Kept fixedOf (headRead p) (bad n p)
+head-bad : (n p : ℕ) → AnswerKept fixedOf (headRead p) (bad n p)
 unfolding fixedOf headRead
 head-bad n p = record { same = refl }
 
-head-good : (p : ℕ) (h : Head) → Kept fixedOf (headRead p) (good h (h .length))
+head-good : (p : ℕ) (h : Head) → AnswerKept fixedOf (headRead p) (good h (h .length))
 unfolding fixedOf headRead
 head-good p h = record { same = refl }
 
-head-kept : (w v p : ℕ) (s : List ℕ) → Kept fixedOf (headRead p) (readHead w v p s)
+head-kept : (w v p : ℕ) (s : List ℕ) → AnswerKept fixedOf (headRead p) (readHead w v p s)
 unfolding readHead
 head-kept w v p s =
     kept-need _ (head-bad 6 p)
@@ -57,7 +57,7 @@ module _ (w v : ℕ) (k : Key) (p : ℕ) (s : List ℕ) where
   unfolding headRead bind
   readEntry-good h e = rw (readEntry-head w v k p s, head-kept w v p s .same, e)
 
-  -- what stands before the name of an entry that was read
+  -- what is before the name of an entry that was read
   pub entry-head : {X : Type 0} (e : Entry) (m : ℕ) → readEntry w v k p s ≡ good e m → ((h : Head) → fixedOf (readHead w v p s) ≡ F.Good h → X) → X
   unfolding fixedOf
   entry-head e m q f = bind-inv _ _ _ _ (sym (readEntry-head w v k p s) ∙ q) (λ h i j is rest sum. f h (ap fixedOf is))
@@ -97,7 +97,7 @@ module _ (s : List ℕ) (x : ℕ) (flags : x ≡ be16 s 60) where
 pub head-size : (v p : ℕ) (s : List ℕ) (h : Head) → fixedOf (readHead 20 v p s) ≡ F.Good h → Size s h
 head-size v p s h e = head-inv v p s h e (λ set longer is. rw (← is) (size-set s _ refl _ set)) (λ clear is. rw (← is) (size-clear s _ refl clear))
 
-head-bads : (n p q : ℕ) → Alike fixedOf (bad n p) (bad n q)
+head-bads : (n p q : ℕ) → SameAnswer fixedOf (bad n p) (bad n q)
 unfolding fixedOf
 head-bads n p q = record { same = refl }
 
@@ -105,7 +105,7 @@ head-bads n p q = record { same = refl }
 pub head-place : (w v p q : ℕ) (s : List ℕ) → fixedOf (readHead w v p s) ≡ fixedOf (readHead w v q s)
 unfolding readHead
 head-place w v p q s =
-    let same : Alike fixedOf (readHead w v p s) (readHead w v q s) =
+    let same : SameAnswer fixedOf (readHead w v p s) (readHead w v q s) =
     alike-need _ (head-bads 6 p q)
     (alike-need _ (head-bads 7 p q)
     (alike-need _ (head-bads 8 p q)

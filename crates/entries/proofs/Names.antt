@@ -24,7 +24,7 @@ use Rattle.entries.specs.declared.Text.the-variants as T
 use Rattle.entries.specs.declared.Number.{Number}
 use Rattle.entries.specs.declared.Number.the-variants as N
 use Rattle.entries.specs.Answers.{textOf, NamePassed, numberOf}
-use Rattle.entries.proofs.Reading.{Kept, kept-need, kept-cond, Alike, alike-need, enough, cut}
+use Rattle.entries.proofs.Reading.{AnswerKept, kept-need, kept-cond, SameAnswer, alike-need, enough, cut}
 
 -- ---- the number N
 
@@ -32,15 +32,15 @@ numberRead : ℕ → Number → Read ℕ
 numberRead p (N.Bad n) = bad n p
 numberRead p (N.Good n m) = good n m
 
-number-bad : (n p : ℕ) → Kept numberOf (numberRead p) (bad n p)
+number-bad : (n p : ℕ) → AnswerKept numberOf (numberRead p) (bad n p)
 unfolding numberOf numberRead
 number-bad n p = record { same = refl }
 
-number-good : (p n m : ℕ) → Kept numberOf (numberRead p) (good n m)
+number-good : (p n m : ℕ) → AnswerKept numberOf (numberRead p) (good n m)
 unfolding numberOf numberRead
 number-good p n m = record { same = refl }
 
-number-kept : (p most : ℕ) (s : List ℕ) → Kept numberOf (numberRead p) (readN p most s)
+number-kept : (p most : ℕ) (s : List ℕ) → AnswerKept numberOf (numberRead p) (readN p most s)
 unfolding readN
 number-kept p most s =
     kept-need _ (number-bad 6 p)
@@ -129,15 +129,15 @@ textRead : ℕ → List ℕ → Text → Read (List ℕ)
 textRead p s (T.Bad n) = bad n p
 textRead p s (T.Good n m) = good (take n s) m
 
-text-bad : (n p : ℕ) (s : List ℕ) → Kept textOf (textRead p s) (bad n p)
+text-bad : (n p : ℕ) (s : List ℕ) → AnswerKept textOf (textRead p s) (bad n p)
 unfolding textOf textRead
 text-bad n p s = record { same = refl }
 
-text-good : (p : ℕ) (s : List ℕ) (n m : ℕ) → Kept textOf (textRead p s) (good (take n s) m)
+text-good : (p : ℕ) (s : List ℕ) (n m : ℕ) → AnswerKept textOf (textRead p s) (good (take n s) m)
 unfolding textOf textRead
 text-good p s n m = record { same = ap (λ (l : List ℕ). good l m) (sym (take-length-take n s)) }
 
-text-kept : (f p field : ℕ) (s : List ℕ) → Kept textOf (textRead p s) (readPlain f p field s)
+text-kept : (f p field : ℕ) (s : List ℕ) → AnswerKept textOf (textRead p s) (readPlain f p field s)
 unfolding readPlain
 text-kept f p field s =
     kept-need _ (text-bad 6 p s) (kept-need _ (text-bad 9 p s) (kept-need _ (text-bad 6 p s) (kept-need _ (text-bad 10 p s) (text-good p s (plainLength field s) _))))
@@ -240,7 +240,7 @@ module _ (b : List ℕ) (at f field p n : ℕ) where
           let l : n ≤ length (drop at b) = rw length-drop (omega (arith, q .here .long)) in
           rw (plain-named, whole, ← after, e, length-take-le n (drop at b) l)
 
-text-bads : (n p q : ℕ) → Alike textOf (bad n p) (bad n q)
+text-bads : (n p q : ℕ) → SameAnswer textOf (bad n p) (bad n q)
 unfolding textOf
 text-bads n p q = record { same = refl }
 
@@ -248,7 +248,7 @@ text-bads n p q = record { same = refl }
 pub plain-place : (f p q field : ℕ) (s : List ℕ) → textOf (readPlain f p field s) ≡ textOf (readPlain f q field s)
 unfolding readPlain
 plain-place f p q field s =
-    let same : Alike textOf (readPlain f p field s) (readPlain f q field s) =
+    let same : SameAnswer textOf (readPlain f p field s) (readPlain f q field s) =
     alike-need _ (text-bads 6 p q)
     (alike-need _ (text-bads 9 p q) (alike-need _ (text-bads 6 p q) (alike-need _ (text-bads 10 p q) (record { same = refl })))) in
     same .same

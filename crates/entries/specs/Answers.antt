@@ -1,4 +1,4 @@
--- What stands before the name of an entry, and how answers of code stand to answers of readers.
+-- What is before the name of an entry, and how answers of code belong to answers of readers.
 use mathlib.Core.List.{List}
 use mathlib.Core.Bool.{true, false, cond, not, _&&_}
 use mathlib.Core.Path.{_≡_}

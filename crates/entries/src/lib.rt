@@ -60,7 +60,7 @@ pub fn word_ok(x: u32) -> bool
     false
 }
 
-// What stands before the name of the entry of version v at a place.
+// What is before the name of the entry of version v at a place.
 pub fn read_fixed(b: &[u8], at: usize, v: u32) -> Fixed
     requires { ⌜ at ≤ length (now b) ⌝ }
     ensures { λ r. ⌜ ((p : ℕ) → r ≡ fixedOf (readHead 20 v p (drop at (now (b .entry))))) × (at + headLength r ≤ length (now (b .entry))) ⌝ }
@@ -179,7 +179,7 @@ pub fn entry_length(f: usize, n: usize) -> usize
     8 * ((f + n) / 8) + 8
 }
 
-// The name of versions 2 and 3 at a place, which has n bytes by its length field, with the NULs after it; f bytes of its entry stand before it. Its
+// The name of versions 2 and 3 at a place, which has n bytes by its length field, with the NULs after it; f bytes of its entry are before it. Its
 // first kept bytes begin a sound name.
 pub fn read_named(b: &[u8], at: usize, n: usize, f: usize, field: u32, kept: usize) -> Text
     requires { ⌜ (at ≤ length (now b)) × (n < length (now b) - at) × (n ≡ plainLength field (drop at (now b))) × (f ≤ 64) × (kept ≤ n) × Begun (take kept (drop at (now b))) ⌝ }

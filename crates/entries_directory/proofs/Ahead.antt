@@ -14,17 +14,19 @@ use Rattle.format.specs.Reader.{entryOf}
 use Rattle.format_laws.proofs.Tests.{false-true, by-test, and-inv, cond-inv}
 use Rattle.format_laws.proofs.Lists.{drop-to}
 use Rattle.format_laws.proofs.Names.{common-append}
-use Rattle.format_laws.proofs.Readings.{bad-good, good-inv, front-inv}
+use Rattle.format_laws.proofs.Readings.{good-inv, front-inv}
+use Rattle.fields.specs.Workspace.{Frame}
+use Rattle.fields.proofs.Workspace.{frame-same, frame-then}
 use Rattle.entries_run.specs.declared.Step.{Step}
 use Rattle.entries_run.specs.declared.Next.the-variants as N
-use Rattle.entries_run.specs.Steps.{nameAt, Passed, runFrom}
-use Rattle.entries_run.proofs.Steps.{entries-bad, entries-good, entries-again, run-none}
-use Rattle.entries_directory.specs.Names.{notAbove, sortedFrom, begins, leads, beyond, within}
+use Rattle.entries_run.specs.Steps.{nameAt, EntryPassed, runFrom}
+use Rattle.entries_run.proofs.Steps.{entries-good, entries-again, entries-never, run-none}
+use Rattle.entries_directory.specs.Names.{notAbove, sortedFrom, begins, leads, beyond}
 use Rattle.entries_directory.proofs.Order.{begins-common}
 use Rattle.entries_directory.proofs.Directory.{begins-split}
-use Rattle.entries_directory.proofs.Runs.{within-end, within-step, beyond-step, beyond-end}
+use Rattle.entries_directory.proofs.Runs.{beyond-step, beyond-end}
 use Rattle.entries_directory.specs.declared.Front.{Front}
-use Rattle.entries_directory.specs.Ahead.{Fits, Ahead, After, after-none, after-some, Advanced, Left, Gone, File, MoreFiles, Files, files-none, files-more, FilesLeft}
+use Rattle.entries_directory.specs.Ahead.{FrontFits, Ahead, After, after-none, after-some, FrontAdvanced, DirectoryPassed, FrontMoved, File, MoreFiles, Files, files-none, files-more, FilesPassed}
 
 -- ---- a step
 
@@ -32,7 +34,7 @@ next-sorted : (x y : List ℕ) (ys : List (List ℕ)) → sortedFrom x (y ∷ ys
 unfolding sortedFrom
 next-sorted x y ys e = and-inv (notAbove (compare x y)) (sortedFrom y ys) e .1
 
-pub fits-end : (b : List ℕ) (s : Front) → Fits b s → Fits b (record { cursor = s .cursor; ahead = 0; common = 0 })
+pub fits-end : (b : List ℕ) (s : Front) → FrontFits b s → FrontFits b (record { cursor = s .cursor; ahead = 0; common = 0 })
 fits-end b s h = record { inside = h .inside; short = omega arith; few = omega arith }
 
 module _ (v : ℕ) (b work : List ℕ) (s : Front) (work′ : List ℕ) where
@@ -49,13 +51,11 @@ module _ (v : ℕ) (b work : List ℕ) (s : Front) (work′ : List ℕ) where
     left-some = omega arith
 
     -- over a name that an entry follows which is refused
-    pub step-bad {ℓ} : {X : Type ℓ} (m : ℕ) → Passed v b work (s .cursor) work′ (N.Bad m) → (x : List ℕ) (xs : List (List ℕ)) → Ahead v b work s x xs → X
-    step-bad m t x xs h =
-        entries-again v b work (s .cursor) work′ (s .ahead - 1) left-some _ _ _ (h .reads) t λ u.
-        bad-good _ _ _ _ (sym (entries-bad v b work (s .cursor) work′ (s .ahead - 1) left-some m u) ∙ h .reads)
+    pub step-bad {ℓ} : {X : Type ℓ} (m : ℕ) → EntryPassed v b work (s .cursor) work′ (N.Bad m) → (x : List ℕ) (xs : List (List ℕ)) → Ahead v b work s x xs → X
+    step-bad m t x xs h = entries-never v b work (s .cursor) work′ (s .ahead - 1) left-some _ _ m (h .reads) t
 
-    module _ (st : Step) (t : Passed v b work (s .cursor) work′ (N.Good st)) where
-      pub step-fits : Fits b s → Fits b (record { cursor = st .next; ahead = s .ahead - 1; common = st .common })
+    module _ (st : Step) (t : EntryPassed v b work (s .cursor) work′ (N.Good st)) where
+      pub step-fits : FrontFits b s → FrontFits b (record { cursor = st .next; ahead = s .ahead - 1; common = st .common })
       step-fits h = record { inside = t .inside st refl; short = t .common st refl; few = omega (arith, h .few) }
 
       pub step-on : (x : List ℕ) (xs : List (List ℕ)) → Ahead v b work s x xs → After v b work′ (record { cursor = st .next; ahead = s .ahead - 1; common = st .common }) x xs
@@ -80,7 +80,7 @@ stays-is v b work s last q _ (after-some {x} {xs} h e) i = rw (lt-ltb 0 (s .ahea
 pub stays-some : (s : Front) (k : ℕ) → (ltb 0 (s .ahead) && leb k (s .common)) ≡ true → 1 ≤ s .ahead
 stays-some s k e = ltb-true 0 (s .ahead) (and-inv (ltb 0 (s .ahead)) (leb k (s .common)) e .0)
 
-pub stays-long : (b : List ℕ) (s : Front) (k : ℕ) → Fits b s → (ltb 0 (s .ahead) && leb k (s .common)) ≡ true → k ≤ s .cursor .len
+pub stays-long : (b : List ℕ) (s : Front) (k : ℕ) → FrontFits b s → (ltb 0 (s .ahead) && leb k (s .common)) ≡ true → k ≤ s .cursor .len
 stays-long b s k fits e = omega (arith, fits .short, leb-true k (s .common) (and-inv (ltb 0 (s .ahead)) (leb k (s .common)) e .1))
 
 -- it is there, and in the directory
@@ -94,76 +94,56 @@ stays-in v b work s last q _ (after-some {x} {xs} h c) i e f =
 -- ---- past one name or more
 
 -- the loop of a walk: work₀ and s₀ are what it starts from, past the first name
-pub record Going (b work₀ : List ℕ) (s₀ : Front) (work : List ℕ) (s : Front) (count : ℕ) : Type 0 where
-  pub fits : Fits b s
-  pub fewer : count + s .ahead ≤ 1 + s₀ .ahead
-  pub few : s₀ .ahead ≤ 4294967296
-  pub some : 1 ≤ count
+pub record Going (b work₀ : List ℕ) (s₀ : Front) (work : List ℕ) (s : Front) : Type 0 where
+  pub fits : FrontFits b s
+  pub fewer : s .ahead ≤ s₀ .ahead
   pub room : 8192 ≤ length work
-  pub long : length work ≡ length work₀
-  pub past : drop 8192 work ≡ drop 8192 work₀
+  pub frame : Frame work₀ work
 
-module _ (v : ℕ) (b work : List ℕ) (s : Front) (work₀ : List ℕ) (s₀ : Front) (t : Advanced v b work s work₀ s₀) where
-  pub going-start : 8192 ≤ length work → Going b work₀ s₀ work₀ s₀ 1
-  going-start room = record { fits = t .fits; fewer = omega arith; few = t .fits .few; some = omega arith; room = omega (arith, t .long); long = refl; past = refl }
+module _ (v : ℕ) (b work : List ℕ) (s : Front) (work₀ : List ℕ) (s₀ : Front) (t : FrontAdvanced v b work s work₀ s₀) where
+  pub going-start : 8192 ≤ length work → Going b work₀ s₀ work₀ s₀
+  going-start room = record { fits = t .fits; fewer = omega arith; room = omega (arith, t .frame .long); frame = frame-same work₀ }
 
-  pub going-end : 1 ≤ s .ahead → (work′ : List ℕ) (s′ : Front) (count : ℕ) → Going b work₀ s₀ work′ s′ count → Gone b work s work′ (record { count = count; front = s′ })
-  going-end some work′ s′ count h = record { fits = h .fits; fewer = omega (arith, t .fewer, h .fewer); some = h .some; long = h .long ∙ t .long; past = h .past ∙ t .past }
+  pub going-end : 1 ≤ s .ahead → (work′ : List ℕ) (s′ : Front) → Going b work₀ s₀ work′ s′ → FrontMoved b work s work′ s′
+  going-end some work′ s′ h = record { fits = h .fits; less = omega (arith, t .fewer, h .fewer); frame = frame-then (t .frame) (h .frame) }
 
-pub going-on : (v : ℕ) (b work₀ : List ℕ) (s₀ : Front) (work : List ℕ) (s : Front) (count : ℕ) (work′ : List ℕ) (s′ : Front)
-    → Going b work₀ s₀ work s count → 1 ≤ s .ahead → Advanced v b work s work′ s′ → Going b work₀ s₀ work′ s′ (count + 1)
-going-on v b work₀ s₀ work s count work′ s′ h some t = record {
+pub going-on : (v : ℕ) (b work₀ : List ℕ) (s₀ : Front) (work : List ℕ) (s : Front) (work′ : List ℕ) (s′ : Front)
+    → Going b work₀ s₀ work s → FrontAdvanced v b work s work′ s′ → Going b work₀ s₀ work′ s′
+going-on v b work₀ s₀ work s work′ s′ h t = record {
   fits = t .fits;
   fewer = omega (arith, t .fewer, h .fewer);
-  few = h .few;
-  some = omega arith;
-  room = omega (arith, t .long, h .room);
-  long = t .long ∙ h .long;
-  past = t .past ∙ h .past;
+  room = omega (arith, t .frame .long, h .room);
+  frame = frame-then (h .frame) (t .frame);
 }
 
 -- ---- past the names in a directory
 
--- of the names xs those in the directory q have been passed in part: so many, with one before them
-pub record Passing (v : ℕ) (b work : List ℕ) (s : Front) (q : List ℕ) (xs : List (List ℕ)) (count : ℕ) : Type 0 where
+-- of the names xs those in the directory q have been passed in part, with one before them
+pub record Passing (v : ℕ) (b work : List ℕ) (s : Front) (q : List ℕ) (xs : List (List ℕ)) : Type 0 where
   pub rest : List (List ℕ)
   pub last : List ℕ
   pub in-it : begins q last ≡ true
   pub after : After v b work s last rest
-  pub counted : count + length (within q rest) ≡ 1 + length (within q xs)
   pub left : beyond (begins q) rest ≡ beyond (begins q) xs
 
 module _ (v : ℕ) (b : List ℕ) (q : List ℕ) (xs : List (List ℕ)) where
-  pub pass-start : (work : List ℕ) (s : Front) (last : List ℕ) → After v b work s last xs → begins q last ≡ true → Passing v b work s q xs 1
-  pass-start work s last h i = record { rest = xs; last = last; in-it = i; after = h; counted = refl; left = refl }
+  pub pass-start : (work : List ℕ) (s : Front) (last : List ℕ) → After v b work s last xs → begins q last ≡ true → Passing v b work s q xs
+  pass-start work s last h i = record { rest = xs; last = last; in-it = i; after = h; left = refl }
 
-  module _ (work : List ℕ) (s : Front) (count : ℕ) (h : Passing v b work s q xs count) where
-    pub pass-on : (work′ : List ℕ) (r : Front) → (ltb 0 (s .ahead) && leb (length q) (s .common)) ≡ true → Advanced v b work s work′ r → Passing v b work′ r q xs (count + 1)
+  module _ (work : List ℕ) (s : Front) (h : Passing v b work s q xs) where
+    pub pass-on : (work′ : List ℕ) (r : Front) → (ltb 0 (s .ahead) && leb (length q) (s .common)) ≡ true → FrontAdvanced v b work s work′ r → Passing v b work′ r q xs
     pass-on work′ r e t =
         stays-in v b work s (h .last) q (h .rest) (h .after) (h .in-it) e λ y ys is ahead c i.
-        let n : length (within q (h .rest)) ≡ 1 + length (within q ys) = ap (λ (l : List (List ℕ)). length (within q l)) is ∙ ap length (within-step q y ys i) ∙ omega arith in
-        record {
-          rest = ys;
-          last = y;
-          in-it = i;
-          after = t .after y ys ahead;
-          counted = omega (arith, h .counted);
-          left = sym (beyond-step q y ys i) ∙ ap (beyond (begins q)) (sym is) ∙ h .left;
-        }
+        record { rest = ys; last = y; in-it = i; after = t .after y ys ahead; left = sym (beyond-step q y ys i) ∙ ap (beyond (begins q)) (sym is) ∙ h .left }
 
-    pub pass-end : (x : List ℕ) → begins q x ≡ true → (ltb 0 (s .ahead) && leb (length q) (s .common)) ≡ false
-        → (count ≡ length (within q (x ∷ xs))) × Left v b work s q (x ∷ xs)
+    pub pass-end : (x : List ℕ) → begins q x ≡ true → (ltb 0 (s .ahead) && leb (length q) (s .common)) ≡ false → DirectoryPassed v b work s q (x ∷ xs)
     pass-end x i e =
         let out : leads (begins q) (h .rest) ≡ false = sym (stays-is v b work s (h .last) q (h .rest) (h .after) (h .in-it)) ∙ e in
-        let n : length (within q (h .rest)) ≡ 0 = ap length (within-end q (h .rest) out) in
-        let m : length (within q (x ∷ xs)) ≡ 1 + length (within q xs) = ap length (within-step q x xs i) ∙ omega arith in (
-          omega (arith, h .counted),
-          record {
-            last = h .last;
-            in-it = h .in-it;
-            after = subst (After v b work s (h .last)) (sym (beyond-end (begins q) (h .rest) out) ∙ h .left ∙ sym (beyond-step q x xs i)) (h .after);
-          },
-        )
+        record {
+          last = h .last;
+          in-it = h .in-it;
+          after = subst (After v b work s (h .last)) (sym (beyond-end (begins q) (h .rest) out) ∙ h .left ∙ sym (beyond-step q x xs i)) (h .after);
+        }
 
 -- ---- past the files of a directory
 
@@ -186,12 +166,12 @@ file-after q s t h i l =
     record { in-it = i; alone = lacks-common 47 (drop (length q) s) (drop (length q) t) (h .alone) (ap (lacks 47) (drop-to t (length q) _ _ sum) ∙ l) }
 
 module _ (v : ℕ) (b : List ℕ) (q : List ℕ) where
-  pub files-start : (work : List ℕ) (s : Front) (x : List ℕ) (xs : List (List ℕ)) → After v b work s x xs → File q x → FilesLeft v b work s q (x ∷ xs) 1
+  pub files-start : (work : List ℕ) (s : Front) (x : List ℕ) (xs : List (List ℕ)) → After v b work s x xs → File q x → FilesPassed v b work s q (x ∷ xs)
   files-start work s x xs h i = record { rest = xs; files = files-more files-none i; last = x; is-file = i; after = h }
 
-  pub files-on : (whole : List (List ℕ)) (work : List ℕ) (s : Front) (count : ℕ) → FilesLeft v b work s q whole count → (work′ : List ℕ) (r : Front) → MoreFiles v b work s (length q)
-      → Advanced v b work s work′ r → FilesLeft v b work′ r q whole (count + 1)
-  files-on whole work s count h work′ r m t =
+  pub files-on : (whole : List (List ℕ)) (work : List ℕ) (s : Front) → FilesPassed v b work s q whole → (work′ : List ℕ) (r : Front) → MoreFiles v b work s (length q)
+      → FrontAdvanced v b work s work′ r → FilesPassed v b work′ r q whole
+  files-on whole work s h work′ r m t =
       stays-in v b work s (h .last) q (h .rest) (h .after) (h .is-file .in-it) (m .stays) λ y ys is ahead c i.
       let i′ = file-after q (h .last) y (h .is-file) i (rw (← c, ← (ahead .name)) (m .alone)) in
-      record { rest = ys; files = files-more (subst (Files q whole count) is (h .files)) i′; last = y; is-file = i′; after = t .after y ys ahead }
+      record { rest = ys; files = files-more (subst (Files q whole) is (h .files)) i′; last = y; is-file = i′; after = t .after y ys ahead }

@@ -48,7 +48,7 @@ begins-append [] r s = refl
 begins-append (x ∷ q) r [] = refl
 begins-append (x ∷ q) r (y ∷ s) = by-test (eqb x y) (λ e. rw e (begins-append q r s)) (λ e. rw e)
 
--- two names that begin alike stand to each other as what follows does
+-- two names that begin alike compare as what follows does
 pub compare-cut : (q s t : List ℕ) → begins q s ≡ true → begins q t ≡ true → compare (drop (length q) s) (drop (length q) t) ≡ compare s t
 compare-cut q s t p r = sym (compare-append q (drop (length q) s) (drop (length q) t)) ∙ ap₂ compare (sym (begins-split q s p)) (sym (begins-split q t r))
 

@@ -1,4 +1,4 @@
--- In a list of names that rises, those that begin alike stand together.
+-- In a list of names that rises, those that begin alike are together.
 use mathlib.Core.Path.{_≡_, refl, sym, ap, _∙_}
 use mathlib.Core.List.{List, [], _∷_, _++_}
 use mathlib.Core.Bool.{Bool, true, false, cond, not}
@@ -38,7 +38,7 @@ through-most Below p h = refl
 through-most Same p h = h
 through-most Above p h = h
 
-pub order-trans : (s t u : List ℕ) → notAbove (compare s t) ≡ true → notAbove (compare t u) ≡ true → notAbove (compare s u) ≡ true
+order-trans : (s t u : List ℕ) → notAbove (compare s t) ≡ true → notAbove (compare t u) ≡ true → notAbove (compare s u) ≡ true
 order-trans s t u h k =
     ap notAbove (names-through s t u (not-above (compare s t) h) (not-above (compare t u) k) .order) ∙ through-most (compare s t) (compare t u) k
 
@@ -82,7 +82,7 @@ under-begins (x ∷ d) (y ∷ s) = rw (under-begins d s)
 
 -- ---- names that rise
 
-pub sorted-at : (a : List ℕ) (done : List (List ℕ)) (s : List ℕ) (ss : List (List ℕ)) → sortedFrom a (done ++ (s ∷ ss)) ≡ true
+sorted-at : (a : List ℕ) (done : List (List ℕ)) (s : List ℕ) (ss : List (List ℕ)) → sortedFrom a (done ++ (s ∷ ss)) ≡ true
     → (notAbove (compare a s) ≡ true) × (sortedFrom s ss ≡ true)
 unfolding sortedFrom
 sorted-at a [] s ss h = and-inv (notAbove (compare a s)) (sortedFrom s ss) h

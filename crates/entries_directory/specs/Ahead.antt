@@ -2,21 +2,20 @@
 use mathlib.Core.Path.{_≡_}
 use mathlib.Core.List.{List, [], _∷_}
 use mathlib.Core.Bool.{true, _&&_}
-use Prim.Native.Nat.{ℕ, _+_, _-_, _≤_}
+use Prim.Native.Nat.{ℕ, _-_, _≤_, _<_}
 use lib.ListN.{length, drop}
 use lib.Dec.{leb, ltb}
 use Rattle.format.specs.Bytes.{lacks}
 use Rattle.format.specs.Names.{common}
 use Rattle.format.specs.Records.{Entry}
 use Rattle.format.specs.Layout.{names}
-use Rattle.format.specs.Reading.{good}
-use Rattle.entries_run.specs.Steps.{nameAt, Inside, runFrom}
-use Rattle.entries_directory.specs.Names.{sortedFrom, begins, beyond, within}
+use Rattle.fields.specs.Workspace.{Frame}
+use Rattle.entries_run.specs.Steps.{nameAt, Inside, RunRead}
+use Rattle.entries_directory.specs.Names.{sortedFrom, begins, beyond}
 use Rattle.entries_directory.specs.declared.Front.{Front}
-use Rattle.entries_directory.specs.declared.Passage.{Passage}
 
 -- the cursor is in the body, the name before it has the bytes in common, and what is ahead can be counted
-pub record Fits (b : List ℕ) (s : Front) : Type 0 where
+pub record FrontFits (b : List ℕ) (s : Front) : Type 0 where
   pub inside : Inside b (s .cursor)
   pub short : s .common ≤ s .cursor .len
   pub few : s .ahead ≤ 4294967296
@@ -27,42 +26,39 @@ pub record Ahead (v : ℕ) (b work : List ℕ) (s : Front) (x : List ℕ) (xs : 
   pub name : nameAt v b work (s .cursor .start) (s .cursor .len) ≡ x
   pub entries : List Entry
   pub taken : ℕ
-  pub reads : runFrom v (s .ahead - 1) b work (s .cursor) ≡ good entries taken
+  pub reads : RunRead v (s .ahead - 1) b work (s .cursor) entries taken
   pub rest : names entries ≡ xs
   pub sorted : sortedFrom x xs ≡ true
 
--- the names ahead after one, of which the first has so many bytes in common with it
+-- the names ahead after the name last, of which the first has s .common bytes in common with it
 pub data After (v : ℕ) (b work : List ℕ) (s : Front) (last : List ℕ) : List (List ℕ) → Type 0 where
   after-none : s .ahead ≡ 0 → After v b work s last []
   after-some : {x : List ℕ} {xs : List (List ℕ)} → Ahead v b work s x xs → s .common ≡ common last x → After v b work s last (x ∷ xs)
 
 -- what a step over the first name leaves behind
-pub record Advanced (v : ℕ) (b work : List ℕ) (s : Front) (work′ : List ℕ) (r : Front) : Type 0 where
-  pub fits : Fits b r
+pub record FrontAdvanced (v : ℕ) (b work : List ℕ) (s : Front) (work′ : List ℕ) (r : Front) : Type 0 where
+  pub fits : FrontFits b r
   pub fewer : r .ahead ≤ s .ahead - 1
-  pub long : length work′ ≡ length work
-  pub past : drop 8192 work′ ≡ drop 8192 work
+  pub frame : Frame work work′
   pub after : (x : List ℕ) (xs : List (List ℕ)) → Ahead v b work s x xs → After v b work′ r x xs
 
 -- of the names whole, those in the directory q have been passed
-pub record Left (v : ℕ) (b work : List ℕ) (s : Front) (q : List ℕ) (whole : List (List ℕ)) : Type 0 where
+pub record DirectoryPassed (v : ℕ) (b work : List ℕ) (s : Front) (q : List ℕ) (whole : List (List ℕ)) : Type 0 where
   pub last : List ℕ
   pub in-it : begins q last ≡ true
   pub after : After v b work s last (beyond (begins q) whole)
 
 -- what any walk past one name or more leaves behind
-pub record Gone (b work : List ℕ) (s : Front) (work′ : List ℕ) (r : Passage) : Type 0 where
-  pub fits : Fits b (r .front)
-  pub fewer : r .count + r .front .ahead ≤ s .ahead
-  pub some : 1 ≤ r .count
-  pub long : length work′ ≡ length work
-  pub past : drop 8192 work′ ≡ drop 8192 work
+pub record FrontMoved (b work : List ℕ) (s : Front) (work′ : List ℕ) (r : Front) : Type 0 where
+  pub fits : FrontFits b r
+  pub less : r .ahead < s .ahead
+  pub frame : Frame work work′
 
 -- the same, past the names that begin with the first k bytes of the first one
-pub record Went (v : ℕ) (b work : List ℕ) (s : Front) (k : ℕ) (work′ : List ℕ) (r : Passage) : Type 0 where
-  pub gone : Gone b work s work′ r
+pub record FrontPassed (v : ℕ) (b work : List ℕ) (s : Front) (k : ℕ) (work′ : List ℕ) (r : Front) : Type 0 where
+  pub gone : FrontMoved b work s work′ r
   pub passed : (q x : List ℕ) (xs : List (List ℕ)) → Ahead v b work s x xs → begins q x ≡ true → length q ≡ k
-      → (r .count ≡ length (within q (x ∷ xs))) × Left v b work′ (r .front) q (x ∷ xs)
+      → DirectoryPassed v b work′ r q (x ∷ xs)
 
 -- ---- the files of a directory
 
@@ -76,21 +72,21 @@ pub record MoreFiles (v : ℕ) (b work : List ℕ) (s : Front) (k : ℕ) : Type 
   pub stays : (ltb 0 (s .ahead) && leb k (s .common)) ≡ true
   pub alone : lacks 47 (drop (s .common) (nameAt v b work (s .cursor .start) (s .cursor .len))) ≡ true
 
--- Files q whole n rest: the first n of the names whole are files of the directory q, and rest are those after them
-pub data Files (q : List ℕ) (whole : List (List ℕ)) : ℕ → List (List ℕ) → Type 0 where
-  files-none : Files q whole 0 whole
-  files-more : {n : ℕ} {x : List ℕ} {xs : List (List ℕ)} → Files q whole n (x ∷ xs) → File q x → Files q whole (n + 1) xs
+-- Files q whole rest: the first of the names whole are files of the directory q, and rest are those after them
+pub data Files (q : List ℕ) (whole : List (List ℕ)) : List (List ℕ) → Type 0 where
+  files-none : Files q whole whole
+  files-more : {x : List ℕ} {xs : List (List ℕ)} → Files q whole (x ∷ xs) → File q x → Files q whole xs
 
--- of the names whole, the first n, which are files of the directory q, have been passed
-pub record FilesLeft (v : ℕ) (b work : List ℕ) (s : Front) (q : List ℕ) (whole : List (List ℕ)) (n : ℕ) : Type 0 where
+-- of the names whole, the first, which are files of the directory q, have been passed
+pub record FilesPassed (v : ℕ) (b work : List ℕ) (s : Front) (q : List ℕ) (whole : List (List ℕ)) : Type 0 where
   pub rest : List (List ℕ)
-  pub files : Files q whole n rest
+  pub files : Files q whole rest
   pub last : List ℕ
   pub is-file : File q last
   pub after : After v b work s last rest
 
 -- what a walk past files of the directory whose name is the first k bytes of the first one leaves behind
-pub record WentFiles (v : ℕ) (b work : List ℕ) (s : Front) (k : ℕ) (work′ : List ℕ) (r : Passage) : Type 0 where
-  pub gone : Gone b work s work′ r
+pub record FrontPassedFiles (v : ℕ) (b work : List ℕ) (s : Front) (k : ℕ) (work′ : List ℕ) (r : Front) : Type 0 where
+  pub gone : FrontMoved b work s work′ r
   pub passed : (q x : List ℕ) (xs : List (List ℕ)) → Ahead v b work s x xs → File q x → length q ≡ k
-      → FilesLeft v b work′ (r .front) q (x ∷ xs) (r .count)
+      → FilesPassed v b work′ r q (x ∷ xs)

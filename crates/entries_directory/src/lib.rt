@@ -9,25 +9,19 @@ ghost use mathlib.Core.Bool.{true, _&&_};
 ghost use Prim.Native.Nat.{_≤_};
 ghost use lib.ListN.{length};
 ghost use lib.Dec.{leb, ltb};
-ghost use Rattle.entries_directory.specs.Ahead.{Fits, Advanced, Went, MoreFiles, WentFiles};
+ghost use Rattle.entries_directory.specs.Ahead.{FrontFits, FrontAdvanced, FrontPassed, MoreFiles, FrontPassedFiles};
 
-// The name of the first entry ahead stands before the cursor. common is what it has in common with the name before it.
+// The name of the first entry ahead is before the cursor. common is what it has in common with the name before it.
 pub struct Front {
     pub cursor: Cursor,
     pub ahead: usize,
     pub common: usize,
 }
 
-// How many entries were passed, and what is ahead of them.
-pub struct Passage {
-    pub count: usize,
-    pub front: Front,
-}
-
 // The next entry. All entries were read before the walk, so that nothing is tested again. One that is not there ends the walk.
 pub fn advance(b: &[u8], v: u32, work: &mut [u8], s: Front) -> Front
-    requires { ⌜ Fits (now b) s × (8192 ≤ length (now work)) ⌝ }
-    ensures { λ r. ⌜ Advanced v (now (b .entry)) (now (work .entry)) s (now (work .exit)) r ⌝ }
+    requires { ⌜ FrontFits (now b) s × (8192 ≤ length (now work)) ⌝ }
+    ensures { λ r. ⌜ FrontAdvanced v (now (b .entry)) (now (work .entry)) s (now (work .exit)) r ⌝ }
 {
     let c = s.cursor;
     if s.ahead <= 1 {
@@ -55,7 +49,7 @@ pub fn advance(b: &[u8], v: u32, work: &mut [u8], s: Front) -> Front
     }
 }
 
-// Whether the first entry ahead begins with the same so many bytes as the one before it.
+// Whether the first entry ahead begins with the same q bytes as the one before it.
 pub fn stays(s: Front, q: usize) -> bool
     ensures { λ r. ⌜ r ≡ (ltb 0 (s .ahead) && leb q (s .common)) ⌝ }
 {
@@ -66,26 +60,21 @@ pub fn stays(s: Front, q: usize) -> bool
 }
 
 // Past all entries that begin with the first q bytes of the first one ahead.
-pub fn pass(b: &[u8], v: u32, work: &mut [u8], s: Front, q: usize) -> Passage
-    requires { ⌜ Fits (now b) s × (8192 ≤ length (now work)) × (1 ≤ s .ahead) ⌝ }
-    ensures { λ r. ⌜ Went v (now (b .entry)) (now (work .entry)) s q (now (work .exit)) r ⌝ }
+pub fn pass(b: &[u8], v: u32, work: &mut [u8], s: Front, q: usize) -> Front
+    requires { ⌜ FrontFits (now b) s × (8192 ≤ length (now work)) × (1 ≤ s .ahead) ⌝ }
+    ensures { λ r. ⌜ FrontPassed v (now (b .entry)) (now (work .entry)) s q (now (work .exit)) r ⌝ }
 {
     let mut front = advance(b, v, &mut *work, s);
-    let mut count = 1;
     while stays(front, q) {
         front = advance(b, v, &mut *work, front);
-        count += 1;
     }
-    Passage {
-        count: count,
-        front: front,
-    }
+    front
 }
 
 // Whether the first entry ahead is one more file of the directory whose name is the first q bytes of the entry before it, which is one. What the two
 // names have in common has no further "/", so only the rest is looked at.
 fn is_file<'a>(b: &'a [u8], v: u32, work: &'a [u8], s: Front, q: usize) -> bool
-    requires { ⌜ Fits (now b) s × (8192 ≤ length (now work)) ⌝ }
+    requires { ⌜ FrontFits (now b) s × (8192 ≤ length (now work)) ⌝ }
     ensures { λ r. ⌜ (r ≡ true → MoreFiles v (now (b .entry)) (now (work .entry)) s q) ⌝ }
 {
     if stays(s, q) {
@@ -99,18 +88,13 @@ fn is_file<'a>(b: &'a [u8], v: u32, work: &'a [u8], s: Front, q: usize) -> bool
 }
 
 // Past the files of the directory whose name is the first q bytes of the first one ahead, which is one, up to the first entry that is none.
-pub fn pass_files(b: &[u8], v: u32, work: &mut [u8], s: Front, q: usize) -> Passage
-    requires { ⌜ Fits (now b) s × (8192 ≤ length (now work)) × (1 ≤ s .ahead) ⌝ }
-    ensures { λ r. ⌜ WentFiles v (now (b .entry)) (now (work .entry)) s q (now (work .exit)) r ⌝ }
+pub fn pass_files(b: &[u8], v: u32, work: &mut [u8], s: Front, q: usize) -> Front
+    requires { ⌜ FrontFits (now b) s × (8192 ≤ length (now work)) × (1 ≤ s .ahead) ⌝ }
+    ensures { λ r. ⌜ FrontPassedFiles v (now (b .entry)) (now (work .entry)) s q (now (work .exit)) r ⌝ }
 {
     let mut front = advance(b, v, &mut *work, s);
-    let mut count = 1;
     while is_file(b, v, &work[..], front, q) {
         front = advance(b, v, &mut *work, front);
-        count += 1;
     }
-    Passage {
-        count: count,
-        front: front,
-    }
+    front
 }

@@ -8,22 +8,21 @@ use lib.ListN.{length, take, drop, getElem?}
 use lib.Seq.{drop-drop}
 use lib.Dec.{eqb}
 use Rattle.format.specs.Names.{common}
-use Rattle.format.specs.Records.{Entry, start}
+use Rattle.format.specs.Records.{Entry}
 use Rattle.format.specs.Layout.{bit}
-use Rattle.format.specs.Reading.{good}
-use Rattle.format.specs.Reader.{readEntries}
 use Rattle.format.specs.Writer.{needsWord}
 use Rattle.format_laws.proofs.Tests.{false-true, by-cond}
-use Rattle.entries_run.specs.Steps.{nameAt, keyAt, firstCursor, runFrom}
+use Rattle.fields.proofs.Workspace.{frame-then}
+use Rattle.entries_run.specs.Steps.{nameAt, keyAt, firstCursor, RunRead, EntriesRead, AllRead, Readable}
 use Rattle.entries_run.proofs.Names.{nameAt-length}
 use Rattle.entries_run.proofs.Steps.{run-first}
 use Rattle.entries_write.specs.declared.Progress.{Progress}
-use Rattle.entries_write.specs.Parts.{Beside, EntryWritten, Readable, lastName, EntriesWritten}
+use Rattle.entries_write.specs.Parts.{Beside, EntryWritten, lastName, WriteBounds, EntriesWritten}
 use Rattle.entries.specs.declared.record.Fields.{Fields}
 use Rattle.entries.specs.Record.{entryWith}
-use Rattle.entries_edit.specs.declared.rest.Laid.{Laid}
-use Rattle.entries_edit.specs.Rests.{NamedAt, Lays, Leaves, OthersLaid, RemovedLaid}
-use Rattle.entries_edit.proofs.Rests.{lays-one, lays-front, all-laid, all-leaves}
+use Rattle.entries_edit.specs.declared.rest.WriteEnd.{WriteEnd}
+use Rattle.entries_edit.specs.Rests.{NamedAt, EntriesWrittenAfter, OthersWritten, RemovedWritten}
+use Rattle.entries_edit.proofs.Rests.{written-one, written-front, all-written}
 use Rattle.entries_edit.specs.declared.Edit.{Edit}
 use Rattle.entries_edit.specs.declared.Edit.the-variants as E
 use Rattle.entries_edit.specs.Edits.{edited, Replaces, EntriesEdited}
@@ -38,20 +37,14 @@ first-of-rest (suc k) (x ∷ xs) = first-of-rest k xs
 
 -- ---- all entries, edited
 
-edited-laid : (v : ℕ) (b work : List ℕ) (count : ℕ) (edit : Edit) (e : Entry) (version : ℕ) (out : List ℕ) (at : ℕ) {work′ out′ : List ℕ} {r : Laid} (n : ℕ)
+edited-written : (v : ℕ) (b work : List ℕ) (count : ℕ) (edit : Edit) (e : Entry) (version : ℕ) (out : List ℕ) (at : ℕ) {work′ out′ : List ℕ} {r : WriteEnd} (n : ℕ)
     → n ≤ count + 1
-    → ((es : List Entry) (m : ℕ) → readEntries 20 v count start 12 (drop 12 b) ≡ good es m → Replaces edit (e .name) es
-    → Lays version out at [] (edited edit e es) out′ r)
-    → Leaves work out at n work′ out′ r → EntriesEdited v b work count edit e version out at work′ out′ r
-edited-laid v b work count edit e version out at n few x y =
+    → ((es : List Entry) (m : ℕ) → EntriesRead v count b es m → Replaces edit (e .name) es
+    → EntriesWrittenAfter version out at [] (edited edit e es) out′ r)
+    → WriteBounds work out at n work′ out′ (r .at) → EntriesEdited v b work count edit e version out at work′ out′ r
+edited-written v b work count edit e version out at n few x y =
     let close = y .near in
-    record {
-      edited-is = λ es m q same. let l = x es m q same in (l .wrote, l .extended);
-      near = omega arith;
-      long = y .long;
-      past = y .past;
-      out-long = y .out-long;
-    }
+    record { edited-is = x; bounds = record { near = omega arith; frame = y .frame; out-long = y .out-long } }
 
 replaces-there : (k : ℕ) (there : Bool) (name : List ℕ) (es : List Entry) → Replaces (E.Put k there) name es → there ≡ true → NamedAt k name es
 replaces-there k true name es h is = h
@@ -61,21 +54,14 @@ first-name : (v : ℕ) (b work : List ℕ) → keyAt v b work firstCursor .name 
 unfolding nameAt
 first-name v b work = by-cond (λ s. s ≡ []) (eqb v 4) (take 0 work) (take 0 (drop 0 b)) (λ packed. refl) (λ plain. refl)
 
--- the first of entries that were read
-pub readable-first : (v count k : ℕ) (b work : List ℕ) → k ≤ count → (es : List Entry) × (m : ℕ) × (readEntries 20 v count start 12 (drop 12 b) ≡ good es m)
-    → Readable v k b work firstCursor
-readable-first v count k b work few (es, m, q) =
-    let sum : k + (count - k) ≡ count = omega arith in
-    record { more = count - k; entries = es; taken = m; run = rw sum (run-first v count b work ∙ q) }
-
 -- as they are
-pub kept-laid : {v : ℕ} {b work : List ℕ} {count version : ℕ} {out : List ℕ} {at : ℕ} {work′ out′ : List ℕ} {r : Progress}
+pub kept-written : {v : ℕ} {b work : List ℕ} {count version : ℕ} {out : List ℕ} {at : ℕ} {work′ out′ : List ℕ} {r : Progress}
     → EntriesWritten v b work firstCursor count version out at work′ out′ r
     → (e : Entry) → EntriesEdited v b work count E.Keep e version out at work′ out′ (record { at = r .at; extended = r .extended })
-kept-laid {v} {b} {work} {count} {version} {out} {at} h e =
-    edited-laid v b work count E.Keep e version out at count (omega arith)
-    (λ es m q same. rw (first-name v b work) at (all-laid h es m (run-first v count b work ∙ q)))
-    (all-leaves h)
+kept-written {v} {b} {work} {count} {version} {out} {at} h e =
+    edited-written v b work count E.Keep e version out at count (omega arith)
+    (λ es m q same. rw (first-name v b work) at (all-written h es m (run-first v count b work ∙ q)))
+    (h .bounds)
 
 -- whether the entry that is put, one in front of it or one of the others needs the extended word
 pub put-word : (x : Fields) (name : List ℕ) (front rest : Bool)
@@ -86,9 +72,9 @@ put-word x name front rest = ap (λ (t : Bool). t || rest) (or-assoc front _ _) 
 -- the first k of them, then a change
 module _ {v : ℕ} {b work : List ℕ} (count : ℕ) {k version : ℕ} {out : List ℕ} {at : ℕ} {work₁ out₁ : List ℕ} {p : Progress} (few : k ≤ count)
     (h : EntriesWritten v b work firstCursor k version out at work₁ out₁ p) where
-  front-on {ℓ} : {X : Type ℓ} (es : List Entry) (m : ℕ) → readEntries 20 v count start 12 (drop 12 b) ≡ good es m
-      → ((j : ℕ) → Lays version out at [] (take k es) out₁ (record { at = p .at; extended = p .extended })
-      → keyAt v b work₁ (p .cursor) .name ≡ lastName [] (take k es) → runFrom v (count - k) b work₁ (p .cursor) ≡ good (drop k es) j → X)
+  front-on {ℓ} : {X : Type ℓ} (es : List Entry) (m : ℕ) → EntriesRead v count b es m
+      → ((j : ℕ) → EntriesWrittenAfter version out at [] (take k es) out₁ (record { at = p .at; extended = p .extended })
+      → keyAt v b work₁ (p .cursor) .name ≡ lastName [] (take k es) → RunRead v (count - k) b work₁ (p .cursor) (drop k es) j → X)
       → X
   front-on es m q f =
       let sum : k + (count - k) ≡ count = omega arith in
@@ -97,42 +83,42 @@ module _ {v : ℕ} {b work : List ℕ} (count : ℕ) {k version : ℕ} {out : Li
       f (x .taken) (record { wrote = rw none at (x .wrote); extended = x .extended }) (rw none at (x .last)) (x .left)
 
   -- the others were read too
-  pub readable-rest : (es : List Entry) × (m : ℕ) × (readEntries 20 v count start 12 (drop 12 b) ≡ good es m) → Readable v (count - k) b work₁ (p .cursor)
+  pub readable-rest : AllRead v count b → Readable v (count - k) b work₁ (p .cursor)
   readable-rest (es, m, q) =
       let none : count - k + 0 ≡ count - k = omega arith in
       front-on es m q (λ j front last left. record { more = 0; entries = drop k es; taken = j; run = rw none left })
 
   -- the next entry is removed
-  pub without-laid : {work₂ out₂ : List ℕ} {r : Laid} {also : Bool} → RemovedLaid v b work₁ (p .cursor) (count - k) version out₁ (p .at) work₂ out₂ r
+  pub without-written : {work₂ out₂ : List ℕ} {r : WriteEnd} {also : Bool} → RemovedWritten v b work₁ (p .cursor) (count - k) version out₁ (p .at) work₂ out₂ r
       → also ≡ (p .extended || r .extended)
       → (e : Entry) → EntriesEdited v b work count (E.Remove k) e version out at work₂ out₂ (record { at = r .at; extended = also })
-  without-laid {r = r} {also = also} x is e =
-      let first = h .near in
-      let near = x .left .near in
-      edited-laid v b work count (E.Remove k) e version out at count (omega arith)
+  without-written {r = r} {also = also} x is e =
+      let first = h .bounds .near in
+      let near = x .bounds .near in
+      edited-written v b work count (E.Remove k) e version out at count (omega arith)
       (λ es m q same.
       front-on es m q λ j front last left.
-      lays-front version out at [] (take k es) _ (drop (k + 1) es) r also front (rw (last, drop-drop 1 k es) at (x .laid (drop k es) j left)) is)
-      (record { near = omega arith; long = x .left .long ∙ h .long; past = x .left .past ∙ h .past; out-long = x .left .out-long ∙ h .out-long })
+      written-front version out at [] (take k es) _ (drop (k + 1) es) r also front (rw (last, drop-drop 1 k es) at (x .written (drop k es) j left)) is)
+      (record { near = omega arith; frame = frame-then (h .bounds .frame) (x .bounds .frame); out-long = x .bounds .out-long ∙ h .bounds .out-long })
 
   -- the entry e is put, in place of the next one or not
-  pub with-laid : (e : Entry) {out₂ : List ℕ} {kept q : ℕ} (there : Bool) {work₂ out₃ : List ℕ} {r : Laid} {also : Bool} → 8192 ≤ length work₁
+  pub with-written : (e : Entry) {out₂ : List ℕ} {kept q : ℕ} (there : Bool) {work₂ out₃ : List ℕ} {r : WriteEnd} {also : Bool} → 8192 ≤ length work₁
       → kept ≡ common (keyAt v b work₁ (p .cursor) .name) (e .name) → EntryWritten out₁ (p .at) version e (p .cursor .len) kept out₂ q → length out₂ ≡ length out₁
-      → OthersLaid v b work₁ (p .cursor) (count - k) there (e .name) version out₂ q work₂ out₃ r → also ≡ (p .extended || (needsWord e || r .extended))
+      → OthersWritten v b work₁ (p .cursor) (count - k) there (e .name) version out₂ q work₂ out₃ r → also ≡ (p .extended || (needsWord e || r .extended))
       → EntriesEdited v b work count (E.Put k there) e version out at work₂ out₃ (record { at = r .at; extended = also })
-  with-laid e {kept = kept} there {r = r} {also = also} room is one long x all =
-      let first = h .near in
+  with-written e {kept = kept} there {r = r} {also = also} room is one long x all =
+      let first = h .bounds .near in
       let next = one .near in
-      let near = x .left .near in
+      let near = x .bounds .near in
       let before : List ℕ = keyAt v b work₁ (p .cursor) .name in
       let beside : Beside before (e .name) (p .cursor .len) kept = record { long = nameAt-length v b work₁ (p .cursor) (h .inside) room; shared = sym is } in
-      edited-laid v b work count (E.Put k there) e version out at (count + 1) (omega arith)
+      edited-written v b work count (E.Put k there) e version out at (count + 1) (omega arith)
       (λ es m run same.
       front-on es m run λ j front last left.
       let named : there ≡ true → NamedAt 0 (e .name) (drop k es) =
       λ is y first. replaces-there k there (e .name) es same is y (sym (first-of-rest k es) ∙ first) in
       let gs : List Entry = drop (k + bit there) es in
-      let others = rw (drop-drop (bit there) k es) at (x .laid (drop k es) j left named) in
-      let from-e = lays-one version out₁ (p .at) before e gs r (needsWord e || r .extended) (one .wrote before beside) others refl in
-      lays-front version out at [] (take k es) _ (e ∷ gs) _ also front (rw last at from-e) all)
-      (record { near = omega arith; long = x .left .long ∙ h .long; past = x .left .past ∙ h .past; out-long = x .left .out-long ∙ long ∙ h .out-long })
+      let others = rw (drop-drop (bit there) k es) at (x .written (drop k es) j left named) in
+      let from-e = written-one version out₁ (p .at) before e gs r (needsWord e || r .extended) (one .wrote before beside) others refl in
+      written-front version out at [] (take k es) _ (e ∷ gs) _ also front (rw last at from-e) all)
+      (record { near = omega arith; frame = frame-then (h .bounds .frame) (x .bounds .frame); out-long = x .bounds .out-long ∙ long ∙ h .bounds .out-long })

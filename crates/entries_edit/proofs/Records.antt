@@ -9,7 +9,7 @@ use Rattle.format.specs.Writer.{writeEntry}
 use Rattle.format_laws.proofs.Numbers.{length-put32}
 use Rattle.output.specs.Output.{Wrote}
 use Rattle.output.proofs.Laws.{wrote-then}
-use Rattle.entries_write.specs.Parts.{Told, RestWritten, EntryWritten}
+use Rattle.entries_write.specs.Parts.{EntryParts, RestWritten, EntryWritten}
 use Rattle.entries.specs.declared.record.Fields.{Fields}
 use Rattle.entries.specs.Record.{entryWith}
 
@@ -55,7 +55,7 @@ fields-wrote {out} {at} ms ns object {o₁} {o₂} {out′} {p₁} {p₂} {r} x 
 
 module _ (x : Fields) (name : List ℕ) where
   put-told : (assume skip intent : ℕ) → assume ≡ bit (x .«assume_valid») * 32768 → skip ≡ bit (x .«skip_worktree») * 16384
-      → intent ≡ bit (x .«intent_to_add») * 8192 → Told (entryWith x name) (assume + x .stage * 4096) (skip + intent) name
+      → intent ≡ bit (x .«intent_to_add») * 8192 → EntryParts (entryWith x name) (assume + x .stage * 4096) (skip + intent) name
   unfolding wordOf
   put-told assume skip intent is also last = record { flags = omega arith; word-is = omega arith; name-is = refl }
 

@@ -1,18 +1,14 @@
 -- What is changed among entries, and what their writing leaves behind.
-use mathlib.Core.Path.{_≡_}
 use mathlib.Core.List.{List, [], _∷_, _++_}
 use mathlib.Core.Bool.{true, false}
-use Prim.Native.Nat.{ℕ, _+_, _*_, _≤_}
-use lib.ListN.{length, take, drop}
-use Rattle.format.specs.Records.{Entry, start}
+use Prim.Native.Nat.{ℕ, _+_}
+use lib.ListN.{take, drop}
+use Rattle.format.specs.Records.{Entry}
 use Rattle.format.specs.Layout.{bit}
-use Rattle.format.specs.Reading.{good}
-use Rattle.format.specs.Reader.{readEntries}
-use Rattle.format.specs.Writer.{writeEntries}
-use Rattle.format.specs.Requests.{anyWord}
-use Rattle.output.specs.Output.{Wrote}
-use Rattle.entries_edit.specs.declared.rest.Laid.{Laid}
-use Rattle.entries_edit.specs.Rests.{NamedAt}
+use Rattle.entries_run.specs.Steps.{EntriesRead}
+use Rattle.entries_write.specs.Parts.{WriteBounds}
+use Rattle.entries_edit.specs.declared.rest.WriteEnd.{WriteEnd}
+use Rattle.entries_edit.specs.Rests.{NamedAt, EntriesWrittenAfter}
 use Rattle.entries_edit.specs.declared.Edit.{Edit}
 use Rattle.entries_edit.specs.declared.Edit.the-variants as E
 
@@ -41,11 +37,8 @@ Replaces (E.Remove k) name es = Unit {0}
 
 -- what the writing of the first count entries of the body b, edited, leaves behind; e is what is put
 pub record EntriesEdited
-    (v : ℕ) (b work : List ℕ) (count : ℕ) (edit : Edit) (e : Entry) (version : ℕ) (out : List ℕ) (at : ℕ) (work′ out′ : List ℕ) (r : Laid)
+    (v : ℕ) (b work : List ℕ) (count : ℕ) (edit : Edit) (e : Entry) (version : ℕ) (out : List ℕ) (at : ℕ) (work′ out′ : List ℕ) (r : WriteEnd)
     : Type 0 where
-  pub edited-is : (es : List Entry) (m : ℕ) → readEntries 20 v count start 12 (drop 12 b) ≡ good es m → Replaces edit (e .name) es
-      → Wrote out at (writeEntries 20 version [] (edited edit e es)) out′ (r .at) × (r .extended ≡ anyWord (edited edit e es))
-  pub near : r .at ≤ at + (count + 1) * 8264
-  pub long : length work′ ≡ length work
-  pub past : drop 8192 work′ ≡ drop 8192 work
-  pub out-long : length out′ ≡ length out
+  pub edited-is : (es : List Entry) (m : ℕ) → EntriesRead v count b es m → Replaces edit (e .name) es
+      → EntriesWrittenAfter version out at [] (edited edit e es) out′ r
+  pub bounds : WriteBounds work out at (count + 1) work′ out′ (r .at)

@@ -2,22 +2,18 @@
 pub mod record;
 pub mod rest;
 
-ghost use mathlib.Core.Path.{_≡_};
-ghost use mathlib.Core.List.{List};
-ghost use Prim.Native.Nat.{ℕ, _+_, _≤_};
-ghost use lib.ListN.{length, drop};
-ghost use Rattle.format.specs.Records.{Entry, start};
+ghost use Prim.Native.Nat.{_+_, _≤_};
+ghost use lib.ListN.{length};
+ghost use Rattle.format.specs.Records.{Entry};
 ghost use Rattle.format.specs.Layout.{bit};
-ghost use Rattle.format.specs.Reading.{good};
-ghost use Rattle.format.specs.Reader.{readEntries};
-ghost use Rattle.entries_run.specs.Steps.{Room};
+ghost use Rattle.entries_run.specs.Steps.{Room, AllRead};
 ghost use Rattle.entries.specs.Record.{entryWith};
 ghost use Rattle.entries_edit.specs.declared.Edit.the-variants as E;
 ghost use Rattle.entries_edit.specs.Edits.{passes, EntriesEdited};
-use crate::rest::Laid;
+use crate::rest::WriteEnd;
 use entries::record::Fields;
 
-// What changes: nothing; an entry is put after so many, in place of the next one or not; the entry after so many is removed.
+// What changes: nothing; an entry is put after the first k, in place of the next one or not; the entry after the first k is removed.
 pub enum Edit {
     Keep,
     Put(u32, bool),
@@ -33,13 +29,13 @@ fn put_kept(
     version: u32,
     out: &mut [u8],
     at: usize,
-) -> Laid
-    requires { ⌜ Room (now b) (now work) × (at ≤ 16777216) × ((es : List Entry) × (m : ℕ) × (readEntries 20 v count start 12 (drop 12 (now b)) ≡ good es m)) ⌝ }
+) -> WriteEnd
+    requires { ⌜ Room (now b) (now work) × (at ≤ 16777216) × AllRead v count (now b) ⌝ }
     ensures { λ r. ⌜ ((e : Entry) → EntriesEdited v (now (b .entry)) (now (work .entry)) count E.Keep e version (now (out .entry)) at (now (work .exit)) (now (out .exit)) r) ⌝ }
 {
     let start = entries_run::first();
     let all = entries_write::put_entries(b, v, work, start, count, version, out, at);
-    Laid {
+    WriteEnd {
         at: all.at,
         extended: all.extended,
     }
@@ -58,8 +54,8 @@ fn put_with(
     version: u32,
     out: &mut [u8],
     at: usize,
-) -> Laid
-    requires { ⌜ Room (now b) (now work) × (k + bit there ≤ count) × (fields .stage ≤ 3) × (length (now name) ≤ 8192) × (at ≤ 16777216) × ((es : List Entry) × (m : ℕ) × (readEntries 20 v count start 12 (drop 12 (now b)) ≡ good es m)) ⌝ }
+) -> WriteEnd
+    requires { ⌜ Room (now b) (now work) × (k + bit there ≤ count) × (fields .stage ≤ 3) × (length (now name) ≤ 8192) × (at ≤ 16777216) × AllRead v count (now b) ⌝ }
     ensures { λ r. ⌜ EntriesEdited v (now (b .entry)) (now (work .entry)) count (E.Put k there) (entryWith fields (now (name .entry))) version (now (out .entry)) at (now (work .exit)) (now (out .exit)) r ⌝ }
 {
     let start = entries_run::first();
@@ -68,7 +64,7 @@ fn put_with(
     let kept = crate::rest::common_at(b, v, &*work, c, name);
     let middle = crate::record::put_record(&mut *out, front.at, version, fields, name, c.len, kept);
     let rest = crate::rest::put_others(b, v, work, c, count - k, there, name, version, out, middle);
-    Laid {
+    WriteEnd {
         at: rest.at,
         extended: front.extended | fields.skip_worktree | fields.intent_to_add | rest.extended,
     }
@@ -84,8 +80,8 @@ fn put_without(
     version: u32,
     out: &mut [u8],
     at: usize,
-) -> Laid
-    requires { ⌜ Room (now b) (now work) × (k + 1 ≤ count) × (at ≤ 16777216) × ((es : List Entry) × (m : ℕ) × (readEntries 20 v count start 12 (drop 12 (now b)) ≡ good es m)) ⌝ }
+) -> WriteEnd
+    requires { ⌜ Room (now b) (now work) × (k + 1 ≤ count) × (at ≤ 16777216) × AllRead v count (now b) ⌝ }
     ensures { λ r. ⌜ ((e : Entry) → EntriesEdited v (now (b .entry)) (now (work .entry)) count (E.Remove k) e version (now (out .entry)) at (now (work .exit)) (now (out .exit)) r) ⌝ }
 {
     let start = entries_run::first();
@@ -100,7 +96,7 @@ fn put_without(
         out,
         front.at,
     );
-    Laid {
+    WriteEnd {
         at: rest.at,
         extended: front.extended | rest.extended,
     }
@@ -118,8 +114,8 @@ pub fn put_edited(
     version: u32,
     out: &mut [u8],
     at: usize,
-) -> Laid
-    requires { ⌜ Room (now b) (now work) × (passes edit ≤ count) × (fields .stage ≤ 3) × (length (now name) ≤ 8192) × (at ≤ 16777216) × ((es : List Entry) × (m : ℕ) × (readEntries 20 v count start 12 (drop 12 (now b)) ≡ good es m)) ⌝ }
+) -> WriteEnd
+    requires { ⌜ Room (now b) (now work) × (passes edit ≤ count) × (fields .stage ≤ 3) × (length (now name) ≤ 8192) × (at ≤ 16777216) × AllRead v count (now b) ⌝ }
     ensures { λ r. ⌜ EntriesEdited v (now (b .entry)) (now (work .entry)) count edit (entryWith fields (now (name .entry))) version (now (out .entry)) at (now (work .exit)) (now (out .exit)) r ⌝ }
 {
     match edit {

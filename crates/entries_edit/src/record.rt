@@ -5,7 +5,7 @@ ghost use Prim.Native.Nat.{_+_, _*_, _≤_};
 ghost use Rattle.format.specs.Bytes.{put32s};
 ghost use Rattle.format.specs.Layout.{bit};
 ghost use Rattle.output.specs.Output.{Wrote};
-ghost use Rattle.entries_write.specs.Parts.{Kept, EntryWritten};
+ghost use Rattle.entries_write.specs.Parts.{PrefixKept, EntryWritten};
 ghost use Rattle.entries.specs.Record.{entryWith};
 use entries::record::Fields;
 
@@ -58,7 +58,7 @@ fn bit_of(set: bool, value: u32) -> u32
     0
 }
 
-// An entry of these fields and this name, after a name of so many bytes, of which it keeps the first.
+// An entry of these fields and this name, after a name of previous bytes, of which it keeps the first kept.
 pub fn put_record(
     out: &mut [u8],
     at: usize,
@@ -68,7 +68,7 @@ pub fn put_record(
     previous: usize,
     kept: usize,
 ) -> usize
-    requires { ⌜ (at + 8264 ≤ 1125899906842624) × (fields .stage ≤ 3) × Kept (now name) previous kept ⌝ }
+    requires { ⌜ (at + 8264 ≤ 1125899906842624) × (fields .stage ≤ 3) × PrefixKept (now name) previous kept ⌝ }
     ensures { λ r. ⌜ EntryWritten (now (out .entry)) at version (entryWith fields (now (name .entry))) previous kept (now (out .exit)) r ⌝ }
 {
     let middle = put_fields(&mut *out, at, fields);

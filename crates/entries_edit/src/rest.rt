@@ -6,15 +6,15 @@ ghost use Prim.Native.Nat.{ℕ, _+_, _*_, _≤_, min};
 ghost use lib.ListN.{length};
 ghost use Rattle.format.specs.Names as Names;
 ghost use Rattle.format.specs.Layout.{bit};
-ghost use Rattle.entries_run.specs.Steps.{Inside, nameAt, keyAt};
-ghost use Rattle.entries_write.specs.Parts.{Kept, Readable};
-ghost use Rattle.entries_edit.specs.Rests.{StepLaid, OthersLaid, PastLaid, RemovedLaid};
+ghost use Rattle.entries_run.specs.Steps.{Inside, nameAt, keyAt, Readable};
+ghost use Rattle.entries_write.specs.Parts.{PrefixKept};
+ghost use Rattle.entries_edit.specs.Rests.{StepWritten, OthersWritten, PastWritten, RemovedWritten};
 use entries_run::Cursor;
 use entries_run::Next;
 use entries_run::Step;
 
-// The place after the entries, and whether one of them needs the extended word.
-pub struct Laid {
+// The place after what was written, and whether an entry of it needs the extended word.
+pub struct WriteEnd {
     pub at: usize,
     pub extended: bool,
 }
@@ -37,7 +37,7 @@ fn least(m: usize, n: usize) -> usize
     n
 }
 
-// The entry that a step read, after a name of so many bytes, of which it keeps the first; then n entries more.
+// The entry that a step read, after a name of previous bytes, of which it keeps the first kept; then n entries more.
 fn put_stepped(
     b: &[u8],
     v: u32,
@@ -50,9 +50,9 @@ fn put_stepped(
     version: u32,
     out: &mut [u8],
     at: usize,
-) -> Laid
-    requires { ⌜ (at + (n + 1) * 8264 ≤ 1125899906842624) × (from + 62 ≤ length (now b)) × Inside (now b) (st .next) × (8192 ≤ length (now work)) × Kept (nameAt v (now b) (now work) (st .next .start) (st .next .len)) previous kept × Readable v n (now b) (now work) (st .next) ⌝ }
-    ensures { λ r. ⌜ StepLaid v (now (b .entry)) (now (work .entry)) from st n previous kept version (now (out .entry)) at (now (work .exit)) (now (out .exit)) r ⌝ }
+) -> WriteEnd
+    requires { ⌜ (at + (n + 1) * 8264 ≤ 1125899906842624) × (from + 62 ≤ length (now b)) × Inside (now b) (st .next) × (8192 ≤ length (now work)) × PrefixKept (nameAt v (now b) (now work) (st .next .start) (st .next .len)) previous kept × Readable v n (now b) (now work) (st .next) ⌝ }
+    ensures { λ r. ⌜ StepWritten v (now (b .entry)) (now (work .entry)) from st n previous kept version (now (out .entry)) at (now (work .exit)) (now (out .exit)) r ⌝ }
 {
     let middle = entries_write::put_step(
         b,
@@ -70,7 +70,7 @@ fn put_stepped(
         at,
     );
     let rest = entries_write::put_entries(b, v, work, st.next, n, version, out, middle);
-    Laid {
+    WriteEnd {
         at: rest.at,
         extended: entries_write::either(rest.extended, st.word),
     }
@@ -87,19 +87,19 @@ fn put_after(
     version: u32,
     out: &mut [u8],
     at: usize,
-) -> Laid
+) -> WriteEnd
     requires { ⌜ (at + n * 8264 ≤ 1125899906842624) × Inside (now b) c × (8192 ≤ length (now work)) × (length (now name) ≤ 8192) × Readable v n (now b) (now work) c ⌝ }
-    ensures { λ r. ⌜ OthersLaid v (now (b .entry)) (now (work .entry)) c n false (now (name .entry)) version (now (out .entry)) at (now (work .exit)) (now (out .exit)) r ⌝ }
+    ensures { λ r. ⌜ OthersWritten v (now (b .entry)) (now (work .entry)) c n false (now (name .entry)) version (now (out .entry)) at (now (work .exit)) (now (out .exit)) r ⌝ }
 {
     if n == 0 {
-        return Laid {
+        return WriteEnd {
             at: at,
             extended: false,
         };
     }
     let g = entries_run::pass_entry(b, v, &mut *work, c);
     match g {
-        Next::Bad(_) => Laid {
+        Next::Bad(_) => WriteEnd {
             at: at,
             extended: false,
         },
@@ -132,19 +132,19 @@ fn put_replaced(
     version: u32,
     out: &mut [u8],
     at: usize,
-) -> Laid
+) -> WriteEnd
     requires { ⌜ (at + n * 8264 ≤ 1125899906842624) × Inside (now b) c × (8192 ≤ length (now work)) × (1 ≤ n) × Readable v n (now b) (now work) c ⌝ }
-    ensures { λ r. ⌜ ((p : List ℕ) → OthersLaid v (now (b .entry)) (now (work .entry)) c n true p version (now (out .entry)) at (now (work .exit)) (now (out .exit)) r) ⌝ }
+    ensures { λ r. ⌜ ((p : List ℕ) → OthersWritten v (now (b .entry)) (now (work .entry)) c n true p version (now (out .entry)) at (now (work .exit)) (now (out .exit)) r) ⌝ }
 {
     let g = entries_run::pass_entry(b, v, &mut *work, c);
     match g {
-        Next::Bad(_) => Laid {
+        Next::Bad(_) => WriteEnd {
             at: at,
             extended: false,
         },
         Next::Good(st) => {
             let rest = entries_write::put_entries(b, v, work, st.next, n - 1, version, out, at);
-            Laid {
+            WriteEnd {
                 at: rest.at,
                 extended: rest.extended,
             }
@@ -164,9 +164,9 @@ pub fn put_others(
     version: u32,
     out: &mut [u8],
     at: usize,
-) -> Laid
+) -> WriteEnd
     requires { ⌜ (at + n * 8264 ≤ 1125899906842624) × Inside (now b) c × (8192 ≤ length (now work)) × (length (now name) ≤ 8192) × (bit there ≤ n) × Readable v n (now b) (now work) c ⌝ }
-    ensures { λ r. ⌜ OthersLaid v (now (b .entry)) (now (work .entry)) c n there (now (name .entry)) version (now (out .entry)) at (now (work .exit)) (now (out .exit)) r ⌝ }
+    ensures { λ r. ⌜ OthersWritten v (now (b .entry)) (now (work .entry)) c n there (now (name .entry)) version (now (out .entry)) at (now (work .exit)) (now (out .exit)) r ⌝ }
 {
     if there {
         return put_replaced(b, v, work, c, n, version, out, at);
@@ -174,7 +174,7 @@ pub fn put_others(
     put_after(b, v, work, c, n, name, version, out, at)
 }
 
-// n entries after one that is left out, the one before the cursor. It came after a name of so many bytes, of which it keeps the first.
+// n entries after one that is left out, the one before the cursor. It came after a name of previous bytes, of which it keeps the first kept.
 fn put_past(
     b: &[u8],
     v: u32,
@@ -186,19 +186,19 @@ fn put_past(
     version: u32,
     out: &mut [u8],
     at: usize,
-) -> Laid
+) -> WriteEnd
     requires { ⌜ (at + n * 8264 ≤ 1125899906842624) × Inside (now b) c × (8192 ≤ length (now work)) × (previous ≤ 8192) × (kept ≤ previous) × Readable v n (now b) (now work) c ⌝ }
-    ensures { λ r. ⌜ PastLaid v (now (b .entry)) (now (work .entry)) c n previous kept version (now (out .entry)) at (now (work .exit)) (now (out .exit)) r ⌝ }
+    ensures { λ r. ⌜ PastWritten v (now (b .entry)) (now (work .entry)) c n previous kept version (now (out .entry)) at (now (work .exit)) (now (out .exit)) r ⌝ }
 {
     if n == 0 {
-        return Laid {
+        return WriteEnd {
             at: at,
             extended: false,
         };
     }
     let g = entries_run::pass_entry(b, v, &mut *work, c);
     match g {
-        Next::Bad(_) => Laid {
+        Next::Bad(_) => WriteEnd {
             at: at,
             extended: false,
         },
@@ -228,13 +228,13 @@ pub fn put_removed(
     version: u32,
     out: &mut [u8],
     at: usize,
-) -> Laid
+) -> WriteEnd
     requires { ⌜ (at + n * 8264 ≤ 1125899906842624) × Inside (now b) c × (8192 ≤ length (now work)) × (1 ≤ n) × Readable v n (now b) (now work) c ⌝ }
-    ensures { λ r. ⌜ RemovedLaid v (now (b .entry)) (now (work .entry)) c n version (now (out .entry)) at (now (work .exit)) (now (out .exit)) r ⌝ }
+    ensures { λ r. ⌜ RemovedWritten v (now (b .entry)) (now (work .entry)) c n version (now (out .entry)) at (now (work .exit)) (now (out .exit)) r ⌝ }
 {
     let g = entries_run::pass_entry(b, v, &mut *work, c);
     match g {
-        Next::Bad(_) => Laid {
+        Next::Bad(_) => WriteEnd {
             at: at,
             extended: false,
         },

@@ -10,20 +10,17 @@ use borrow.Author.Tests.{eq-eqb, ne-eqb}
 use Rattle.format.specs.declared.Order.{Order}
 use Rattle.format.specs.Names.{compare, isBelow}
 use Rattle.format.specs.Records.{Entry, Key, keyOf, start}
-use Rattle.format.specs.Reading.{good}
 use Rattle.format.specs.Reader.{entryOf, readEntries}
 use Rattle.format.specs.Requests.{goesBefore, sameKey}
 use Rattle.format_laws.proofs.Numbers.{bit-below}
 use Rattle.format_laws.proofs.Tests.{by-test}
-use Rattle.format_laws.proofs.Readings.{bad-good, good-inv, front-inv}
+use Rattle.format_laws.proofs.Readings.{good-inv}
 use Rattle.entries_run.specs.declared.Cursor.{Cursor}
 use Rattle.entries_run.specs.declared.Step.{Step}
-use Rattle.entries_run.specs.declared.Next.{Next}
 use Rattle.entries_run.specs.declared.Next.the-variants as N
-use Rattle.entries_run.specs.Steps as Steps
-use Rattle.entries_run.specs.Steps.{nameAt, keyAt, entryAt, Found, Stepped, firstCursor}
-use Rattle.entries_run.proofs.Steps.{entries-again, Walked, walked-first, walked-end, walked-take, walked-bad, walked-more}
-use Rattle.entries_place.specs.Places.{thenStage, compareKeys, rank, startsWith, isThere, Ranked}
+use Rattle.entries_run.specs.Steps.{nameAt, keyAt, entryAt, Room, StepFound, EntryStepped, firstCursor, AllRead, Readable}
+use Rattle.entries_run.proofs.Steps.{walked-end, walked-take, walked-left, Walking, walking-first, walking-more}
+use Rattle.entries_place.specs.Places.{thenStage, compareKeys, rank, startsWith, isThere, PlaceFound}
 use Rattle.entries_place.proofs.Keys.{isSame, before-by, same-by}
 
 -- ---- the entry before a cursor
@@ -39,11 +36,11 @@ module _ (v : ℕ) (b work : List ℕ) (c : Cursor) (k : Key) (r : Order) where
   unfolding compareKeys nameAt
   order-plain e n is h = rw (ne-eqb v 4 e, ← is) h
 
-pub key-at : (v : ℕ) (b w : List ℕ) (c : Cursor) (w′ : List ℕ) (st : Step) → Found v b w c w′ st → keyOf (entryAt v b w′ (c .at) st) ≡ keyAt v b w′ (st .next)
+pub key-at : (v : ℕ) (b w : List ℕ) (c : Cursor) (w′ : List ℕ) (st : Step) → StepFound v b w c w′ st → keyOf (entryAt v b w′ (c .at) st) ≡ keyAt v b w′ (st .next)
 unfolding entryOf
 key-at v b w c w′ st f = ap (λ (n : ℕ). record { name = nameAt v b w′ (st .next .start) (st .next .len); stage = n }) (sym (f .stage))
 
--- ---- entries that all stand before the key
+-- ---- entries that all are before the key
 
 rank-past : (k : Key) (es gs : List Entry) → rank k es ≡ length es → rank k (es ++ gs) ≡ length es + rank k gs
 unfolding rank
@@ -65,88 +62,77 @@ module _ (k : Key) (es : List Entry) (x : Entry) (all-before : rank k es ≡ len
       let at : length es ≡ rank k all = sym (rw parts (rank-past k es (x ∷ gs) all-before ∙ rw p (omega arith))) in
       (at, rw (← at, parts, drop-append-seam es (x ∷ gs)))
 
--- so many entries lie between the start and the cursor, and all of them stand before the key
-pub record Passed (v : ℕ) (b : List ℕ) (k : Key) (n : ℕ) (w : List ℕ) (c : Cursor) : Type 0 where
+-- ---- the search
+
+-- n entries have been passed, and all of them are before the key k
+pub record Searching (v : ℕ) (b work₀ : List ℕ) (k : Key) (n : ℕ) (w : List ℕ) (c : Cursor) : Type 0 where
   pub entries : List Entry
-  pub walked : Walked v b entries w c
+  pub walking : Walking v b work₀ entries w c
   pub many : length entries ≡ n
   pub before : rank k entries ≡ n
 
-module _ (v : ℕ) (b : List ℕ) (k : Key) where
-  pub passed-first : (w : List ℕ) → Passed v b k 0 w firstCursor
-  unfolding rank
-  passed-first w = record { entries = []; walked = walked-first v b w; many = refl; before = refl }
+pub search-first : (v : ℕ) (b w : List ℕ) (k : Key) → Room b w → Searching v b w k 0 w firstCursor
+unfolding rank
+search-first v b w k room = record { entries = []; walking = walking-first v b w room; many = refl; before = refl }
 
-  module _ (n : ℕ) (w : List ℕ) (c : Cursor) (h : Passed v b k n w c) (w′ : List ℕ) where
-    -- where more entries were read, a step without tests is one with them
-    pub passed-again : (count : ℕ) → n < count → (es : List Entry) × (m : ℕ) × (readEntries 20 v count start 12 (drop 12 b) ≡ good es m) → (r : Next)
-        → Steps.Passed v b w c w′ r → Stepped v b w c w′ r
-    passed-again count more (es, m, q) r t =
-        let left : length (h .entries) + (count - length (h .entries)) ≡ count = omega (arith, h .many) in
-        front-inv _ _ _ _ _ (sym (rw left at (h .walked .whole (count - length (h .entries)))) ∙ q) λ gs l rest parts sum.
-        entries-again v b w c w′ (count - length (h .entries)) (omega (arith, h .many)) gs l r rest t (λ u. u)
+module _ {v : ℕ} {b work₀ : List ℕ} {k : Key} {n : ℕ} {w : List ℕ} {c : Cursor} (h : Searching v b work₀ k n w c) where
+  abbrev es : List Entry
+  es = h .entries
 
-    -- the next entry stands to the key as o says
-    module _ (st : Step) (t : Stepped v b w c w′ (N.Good st)) (o : Order) (e : o ≡ compareKeys (keyAt v b w′ (st .next)) k) where
+  -- no entry is left
+  pub search-end : {count : ℕ} → n ≡ count → PlaceFound v b work₀ count k w (record { before = n; there = false })
+  unfolding startsWith
+  search-end {count} all-of =
+      record {
+        is = λ all m q.
+            let read = ap (λ (i : ℕ). readEntries 20 v i start 12 (drop 12 b)) (h .many ∙ all-of) in
+            good-inv _ _ _ _ (sym (walked-end v b es w c (h .walking .walked)) ∙ read ∙ q) λ is l.
+            let at : rank k all ≡ length all = ap (rank k) (sym is) ∙ h .before ∙ sym (h .many) ∙ ap length is in
+            (sym (h .before) ∙ ap (rank k) is, rw (at, drop-length all));
+        few = omega arith;
+        frame = h .walking .frame;
+      }
+
+  -- where all entries were read, those from the cursor on were
+  pub search-left : {count : ℕ} → n ≤ count → AllRead v count b → Readable v (count - n) b w c
+  search-left {count} few all = rw (h .many) at (walked-left v b es w c (h .walking .walked) count (omega (arith, h .many)) all)
+
+  module _ {count : ℕ} {w′ : List ℕ} (more : n < count) where
+    -- the next entry compares to the key as o says
+    module _ {st : Step} (t : EntryStepped v b w c w′ (N.Good st)) {o : Order} (e : o ≡ compareKeys (keyAt v b w′ (st .next)) k) where
       abbrev next : Entry
       next = entryAt v b w′ (c .at) st
 
       order-is : o ≡ compareKeys (keyOf next) k
       order-is = e ∙ ap (λ (x : Key). compareKeys x k) (sym (key-at v b w c w′ st (t .found st refl)))
 
-      all-before : rank k (h .entries) ≡ length (h .entries)
+      all-before : rank k es ≡ length es
       all-before = h .before ∙ sym (h .many)
 
-      pub passed-more : isBelow o ≡ true → Passed v b k (n + 1) w′ (st .next)
-      passed-more below =
+      on : Walking v b work₀ (es ++ (next ∷ [])) w′ (st .next)
+      on = walking-more (h .walking) t
+
+      pub search-more : isBelow o ≡ true → Searching v b work₀ k (n + 1) w′ (st .next)
+      search-more below =
           record {
-            entries = h .entries ++ (next ∷ []);
-            walked = walked-more v b (h .entries) w c (h .walked) w′ st t;
+            entries = _;
+            walking = on;
             many = rw length-append (omega (arith, h .many));
-            before = one-more k (h .entries) next all-before (before-by (keyOf next) k o order-is ∙ below) ∙ omega (arith, h .many);
+            before = one-more k es next all-before (before-by (keyOf next) k o order-is ∙ below) ∙ omega (arith, h .many);
           }
 
-      pub stopped-at : isBelow o ≡ false → (count : ℕ) → n < count → (all : List Entry) (m : ℕ) → readEntries 20 v count start 12 (drop 12 b) ≡ good all m
-          → (n ≡ rank k all) × (isSame o ≡ isThere k all)
-      stopped-at not-below count more all m q =
-          let es : List Entry = h .entries ++ (next ∷ []) in
-          let few : length es ≤ count = rw length-append (omega (arith, h .many)) in
-          let begins : es ≡ take (length es) all = walked-take v b es w′ (st .next) (walked-more v b (h .entries) w c (h .walked) w′ st t) count all m q few in
-          let gs : List Entry = drop (length es) all in
-          let parts : all ≡ h .entries ++ (next ∷ gs) =
-          sym (take-append-drop (length es) all) ∙ ap (λ (l : List Entry). l ++ gs) (sym begins) ∙ append-assoc (h .entries) (next ∷ []) gs in
-          let (at, there) = stopped k (h .entries) next all-before all gs parts (before-by (keyOf next) k o order-is ∙ not-below) in
-          (sym (h .many) ∙ at, sym (same-by (keyOf next) k o order-is) ∙ there)
-
-    module _ (count : ℕ) (w₀ : List ℕ) (long : length w′ ≡ length w₀) (past : drop 8192 w′ ≡ drop 8192 w₀) where
-      -- no entry is left
-      pub passed-end : n ≡ count → Ranked v b w₀ count k w′ (record { before = n; there = false })
-      unfolding startsWith
-      passed-end all-of =
+      -- it has the key, or is after it
+      pub search-stop : isBelow o ≡ false → PlaceFound v b work₀ count k w′ (record { before = n; there = isSame o })
+      search-stop not-below =
           record {
             is = λ all m q.
-                let read = ap (λ (i : ℕ). readEntries 20 v i start 12 (drop 12 b)) (h .many ∙ all-of) in
-                good-inv _ _ _ _ (sym (walked-end v b (h .entries) w c (h .walked)) ∙ read ∙ q) λ is l.
-                let at : rank k all ≡ length all = ap (rank k) (sym is) ∙ h .before ∙ sym (h .many) ∙ ap length is in
-                (sym (h .before) ∙ ap (rank k) is, rw (at, drop-length all));
-            few = omega arith;
-            long = long;
-            past = past;
+                let few : length (es ++ (next ∷ [])) ≤ count = rw length-append (omega (arith, h .many)) in
+                let begins : es ++ (next ∷ []) ≡ take (length (es ++ (next ∷ []))) all = walked-take v b _ w′ (st .next) (on .walked) count all m q few in
+                let gs : List Entry = drop (length (es ++ (next ∷ []))) all in
+                let parts : all ≡ es ++ (next ∷ gs) =
+                sym (take-append-drop (length (es ++ (next ∷ []))) all) ∙ ap (λ (l : List Entry). l ++ gs) (sym begins) ∙ append-assoc es (next ∷ []) gs in
+                let (at, there) = stopped k es next all-before all gs parts (before-by (keyOf next) k o order-is ∙ not-below) in
+                (sym (h .many) ∙ at, sym (same-by (keyOf next) k o order-is) ∙ there);
+            few = omega (arith, bit-below (isSame o));
+            frame = on .frame;
           }
-
-      module _ (more : n < count) where
-        -- the next entry is refused
-        pub passed-bad : (m : ℕ) → Stepped v b w c w′ (N.Bad m) → Ranked v b w₀ count k w′ (record { before = n; there = false })
-        passed-bad m t =
-            record {
-              is = λ all j q. bad-good _ _ _ _ (sym (walked-bad v b (h .entries) w c (h .walked) w′ m t count (omega (arith, h .many))) ∙ q);
-              few = omega arith;
-              long = long;
-              past = past;
-            }
-
-        -- the next entry has the key, or stands after it
-        pub passed-stop : (st : Step) (t : Stepped v b w c w′ (N.Good st)) (o : Order) → o ≡ compareKeys (keyAt v b w′ (st .next)) k → isBelow o ≡ false
-            → Ranked v b w₀ count k w′ (record { before = n; there = isSame o })
-        passed-stop st t o e not-below =
-            record { is = stopped-at st t o e not-below count more; few = omega (arith, bit-below (isSame o)); long = long; past = past }

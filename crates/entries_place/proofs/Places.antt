@@ -14,8 +14,9 @@ use Rattle.format.specs.Requests.{goesBefore, sameKey, putEntry, removeEntry, h
 use Rattle.format_laws.proofs.Tests.{false-true, by-test, and-inv}
 use Rattle.format_laws.proofs.Readings.{good-inv, bind-inv}
 use Rattle.spelling.proofs.Entries.{entry-rises}
+use Rattle.entries_run.specs.Steps.{EntriesRead}
 use Rattle.entries_place.specs.declared.Place.{Place}
-use Rattle.entries_place.specs.Places.{rank, startsWith, isThere, rising, Ranked}
+use Rattle.entries_place.specs.Places.{rank, startsWith, isThere, rising, PlaceFound}
 use Rattle.format_laws.proofs.Keys.{before-trans, same-key, before-other}
 
 -- ---- the place
@@ -75,7 +76,7 @@ holds-late k a (x ∷ xs) h n =
     (λ q. false-true (sym n ∙ before-trans a (keyOf x) k (i .0) q))
     (λ q. rw p (holds-late k (keyOf x) xs (i .1) q)))
 
-pub holds-is : (k a : Key) (es : List Entry) → rising a es ≡ true → holds k es ≡ isThere k es
+holds-is : (k a : Key) (es : List Entry) → rising a es ≡ true → holds k es ≡ isThere k es
 unfolding rising holds rank startsWith
 holds-is k a [] h = refl
 holds-is k a (x ∷ xs) h =
@@ -97,8 +98,8 @@ read-rising w v (suc n) k p s es m q =
 
 -- ---- the same from the place that was found
 
-module _ (v : ℕ) (b work : List ℕ) (count : ℕ) (k : Key) (work′ : List ℕ) (r : Place) (h : Ranked v b work count k work′ r) (es : List Entry) (m : ℕ)
-    (q : readEntries 20 v count start 12 (drop 12 b) ≡ good es m) where
+module _ (v : ℕ) (b work : List ℕ) (count : ℕ) (k : Key) (work′ : List ℕ) (r : Place) (h : PlaceFound v b work count k work′ r) (es : List Entry) (m : ℕ)
+    (q : EntriesRead v count b es m) where
   pub put-at : (e : Entry) → keyOf e ≡ k → putEntry e es ≡ take (r .before) es ++ (e ∷ drop (r .before + bit (r .there)) es)
   put-at e is = let (before, there) = h .is es m q in rw (before, there, ← is) (put-is e es)
 

@@ -1,21 +1,21 @@
--- Where a name and a stage stand, or would stand, among entries.
+-- Where a name and a stage are, or would be, among entries.
 use mathlib.Core.Path.{_≡_}
 use mathlib.Core.List.{List, [], _∷_}
 use mathlib.Core.Bool.{Bool, true, false, cond, _&&_}
 use Prim.Native.Nat.{ℕ, suc, _+_, _≤_}
-use lib.ListN.{length, drop}
+use lib.ListN.{drop}
 use lib.Dec.{ltb}
 use Rattle.format.specs.declared.Order.{Order}
 use Rattle.format.specs.declared.Order.the-variants.{Below, Same, Above}
 use Rattle.format.specs.Names.{compare}
-use Rattle.format.specs.Records.{Entry, Key, keyOf, start}
+use Rattle.format.specs.Records.{Entry, Key, keyOf}
 use Rattle.format.specs.Layout.{bit}
-use Rattle.format.specs.Reading.{good}
-use Rattle.format.specs.Reader.{readEntries}
 use Rattle.format.specs.Requests.{goesBefore, sameKey}
+use Rattle.fields.specs.Workspace.{Frame}
+use Rattle.entries_run.specs.Steps.{EntriesRead}
 use Rattle.entries_place.specs.declared.Place.{Place}
 
--- how stage s of a name stands to stage t of another, of which the first stands to the second as the order says
+-- how stage s of a name compares to stage t of another, where the names compare as the order says
 abbrev pub thenStage : Order → ℕ → ℕ → Order
 thenStage Below s t = Below
 thenStage Same s t = cond (ltb s t) Below (cond (ltb t s) Above Same)
@@ -25,7 +25,7 @@ thenStage Above s t = Above
 unfoldable pub compareKeys : Key → Key → Order
 compareKeys a b = thenStage (compare (a .name) (b .name)) (a .stage) (b .stage)
 
--- how many entries, from the first on, stand before the key k
+-- how many entries, from the first on, are before the key k
 unfoldable pub rank : Key → List Entry → ℕ
 rank k [] = 0
 rank k (x ∷ xs) = cond (goesBefore (keyOf x) k) (suc (rank k xs)) 0
@@ -35,19 +35,17 @@ unfoldable pub startsWith : Key → List Entry → Bool
 startsWith k [] = false
 startsWith k (x ∷ xs) = sameKey (keyOf x) k
 
--- whether an entry of the key k stands at its place
+-- whether an entry of the key k is at its place
 abbrev pub isThere : Key → List Entry → Bool
 isThere k es = startsWith k (drop (rank k es) es)
 
--- whether each entry stands after the one before it, and the first after the key k
+-- whether each entry is after the one before it, and the first after the key k
 unfoldable pub rising : Key → List Entry → Bool
 rising k [] = true
 rising k (x ∷ xs) = goesBefore k (keyOf x) && rising (keyOf x) xs
 
 -- the place of the key k among the first count entries of the body b, and what the search leaves of the workspace
-pub record Ranked (v : ℕ) (b work : List ℕ) (count : ℕ) (k : Key) (work′ : List ℕ) (r : Place) : Type 0 where
-  pub is : (es : List Entry) (m : ℕ) → readEntries 20 v count start 12 (drop 12 b) ≡ good es m
-      → (r .before ≡ rank k es) × (r .there ≡ isThere k es)
+pub record PlaceFound (v : ℕ) (b work : List ℕ) (count : ℕ) (k : Key) (work′ : List ℕ) (r : Place) : Type 0 where
+  pub is : (es : List Entry) (m : ℕ) → EntriesRead v count b es m → (r .before ≡ rank k es) × (r .there ≡ isThere k es)
   pub few : r .before + bit (r .there) ≤ count
-  pub long : length work′ ≡ length work
-  pub past : drop 8192 work′ ≡ drop 8192 work
+  pub frame : Frame work work′

@@ -1,25 +1,21 @@
-// Where a name and a stage stand among the entries of a body.
+// Where a name and a stage are among the entries of a body.
 ghost use mathlib.Core.Path.{_≡_};
-ghost use mathlib.Core.List.{List};
-ghost use Prim.Native.Nat.{ℕ, _≤_};
-ghost use lib.ListN.{length, drop};
+ghost use Prim.Native.Nat.{_≤_};
+ghost use lib.ListN.{length};
 ghost use Rattle.format.specs.Names as Names;
-ghost use Rattle.format.specs.Records.{Entry, start};
-ghost use Rattle.format.specs.Reading.{good};
-ghost use Rattle.format.specs.Reader.{readEntries};
-ghost use Rattle.entries_run.specs.Steps.{keyAt, Room, Inside};
-ghost use Rattle.entries_place.specs.Places.{thenStage, compareKeys, Ranked};
+ghost use Rattle.entries_run.specs.Steps.{keyAt, Room, Inside, AllRead};
+ghost use Rattle.entries_place.specs.Places.{thenStage, compareKeys, PlaceFound};
 use entries_run::Cursor;
 use entries_run::Next;
 use format::Order;
 
-// How many entries stand before a name and stage, and whether the next one has them.
+// How many entries are before a name and stage, and whether the next one has them.
 pub struct Place {
     pub before: u32,
     pub there: bool,
 }
 
-// How the name x, of stage s, stands to the name y, of stage t.
+// How the name x, of stage s, compares to the name y, of stage t.
 fn order_of(x: &[u8], s: u32, y: &[u8], t: u32) -> Order
     ensures { λ r. ⌜ r ≡ thenStage (Names.compare (now (x .entry)) (now (y .entry))) s t ⌝ }
 {
@@ -39,7 +35,7 @@ fn order_of(x: &[u8], s: u32, y: &[u8], t: u32) -> Order
     }
 }
 
-// How the entry before a cursor stands to a name and stage. Its name is in the workspace in version 4, else in the body.
+// How the entry before a cursor compares to a name and stage. Its name is in the workspace in version 4, else in the body.
 fn order_at(b: &[u8], v: u32, work: &[u8], c: Cursor, name: &[u8], stage: u32) -> Order
     requires { ⌜ Inside (now b) c × (8192 ≤ length (now work)) ⌝ }
     ensures { λ r. ⌜ r ≡ compareKeys (keyAt v (now (b .entry)) (now (work .entry)) c) (record { name = now (name .entry); stage = stage }) ⌝ }
@@ -53,10 +49,10 @@ fn order_at(b: &[u8], v: u32, work: &[u8], c: Cursor, name: &[u8], stage: u32) -
     order_of(&b[a..e], c.stage, name, stage)
 }
 
-// Where an entry of this name and stage stands, or would stand, among the first count entries of a body, which were read before.
+// Where an entry of this name and stage is, or would be, among the first count entries of a body, which were read before.
 pub fn find_place(b: &[u8], v: u32, work: &mut [u8], count: u32, name: &[u8], stage: u32) -> Place
-    requires { ⌜ Room (now b) (now work) × ((es : List Entry) × (m : ℕ) × (readEntries 20 v count start 12 (drop 12 (now b)) ≡ good es m)) ⌝ }
-    ensures { λ r. ⌜ Ranked v (now (b .entry)) (now (work .entry)) count (record { name = now (name .entry); stage = stage }) (now (work .exit)) r ⌝ }
+    requires { ⌜ Room (now b) (now work) × AllRead v count (now b) ⌝ }
+    ensures { λ r. ⌜ PlaceFound v (now (b .entry)) (now (work .entry)) count (record { name = now (name .entry); stage = stage }) (now (work .exit)) r ⌝ }
 {
     let mut c = entries_run::first();
     let mut before = 0;

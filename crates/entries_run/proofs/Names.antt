@@ -15,7 +15,7 @@ use Rattle.format_laws.proofs.Tests.{by-test, by-cond}
 use Rattle.format_laws.proofs.Names.{compare-append, common-append}
 use Rattle.entries_run.specs.declared.Cursor.{Cursor}
 use Rattle.entries_run.specs.declared.Standing.{Standing}
-use Rattle.entries_run.specs.Steps.{nameAt, Inside, Stands, Rebuilt}
+use Rattle.entries_run.specs.Steps.{nameAt, Inside, StandingOf, NameRebuilt}
 
 -- ---- a name at its place
 
@@ -54,7 +54,7 @@ module _ (v : ℕ) (b work : List ℕ) (start len : ℕ) where
 
 -- two names that have k bytes in common, s standing to t as o says
 pub stands : (s t : List ℕ) (m n k : ℕ) (o : Order) → k ≡ common s t → k ≤ length s → compare s t ≡ o
-    → Stands s t m n (record { rises = rises o m n; common = k })
+    → StandingOf s t m n (record { rises = rises o m n; common = k })
 stands s t m n k o is within order = record { rises = ap (λ (x : Order). rises x m n) (sym order); common = is; fits = within }
 
 -- the first p bytes of w less their last n, then s
@@ -64,10 +64,10 @@ module _ (w s : List ℕ) (p n : ℕ) (fits : n ≤ p) (long : p ≤ length w) w
       let e : p ≡ p - n + (p - (p - n)) = omega arith in
       ap (λ (k : ℕ). take k w) e ∙ take-add (p - n) (p - (p - n)) w
 
-  -- the replaced bytes stand to s as the old name to the new one
-  pub rebuilt : (k l : ℕ) (w′ : List ℕ) (d : Standing) → Stands (take (p - (p - n)) (drop (p - n) w)) s k l d
+  -- the replaced bytes compare to s as the old name to the new one
+  pub rebuilt : (k l : ℕ) (w′ : List ℕ) (d : Standing) → StandingOf (take (p - (p - n)) (drop (p - n) w)) s k l d
       → w′ ≡ take (p - n) w ++ (s ++ drop (p - n + length s) w)
-      → Rebuilt w p n s k l w′ (record { rises = d .rises; common = p - n + d .common })
+      → NameRebuilt w p n s k l w′ (record { rises = d .rises; common = p - n + d .common })
   rebuilt k l w′ d h e =
       let q : List ℕ = take (p - n) w in
       let dropped : List ℕ = take (p - (p - n)) (drop (p - n) w) in

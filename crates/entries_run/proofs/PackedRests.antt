@@ -16,7 +16,9 @@ use Rattle.format_laws.proofs.Tests.{false-true, and-inv}
 use Rattle.format_laws.proofs.Names.{okName-over, common-le}
 use Rattle.format_laws.proofs.Readings.{good-inv, need-inv, shift-need}
 use Rattle.fields.specs.Begun.{Begun}
+use Rattle.fields.specs.Workspace.{Frame}
 use Rattle.fields.proofs.Beginnings.{begun-take, begun-kept}
+use Rattle.fields.proofs.Workspace.{frame-same}
 use Rattle.entries.specs.declared.Head.{Head}
 use Rattle.entries.specs.declared.Number.the-variants as M
 use Rattle.entries.specs.Answers.{numberOf}
@@ -24,7 +26,7 @@ use Rattle.entries.proofs.Names.{readN-bad, readN-good}
 use Rattle.entries_run.specs.declared.Cursor.{Cursor}
 use Rattle.entries_run.specs.declared.Next.the-variants as N
 use Rattle.entries_run.specs.declared.Standing.{Standing}
-use Rattle.entries_run.specs.Steps.{nameAt, Sound, Headed, Numbered, Rebuilt, stepOf, Answered, Tested, readRest}
+use Rattle.entries_run.specs.Steps.{nameAt, KnownBegun, HeadAt, NumberAt, NameRebuilt, stepOf, StepAnswered, StepTested, readRest}
 use Rattle.entries_run.proofs.Rests.{answered-bad, answered-good, repeated-good, nameRead, rest-bad, rest-order, rest-good, rest-inv}
 
 module _ (b w : List ℕ) (c : Cursor) (h : Head) (room : c .len ≤ length w) where
@@ -34,17 +36,17 @@ module _ (b w : List ℕ) (c : Cursor) (h : Head) (room : c .len ≤ length w) w
   name-packed p = rw (length-take-le (c .len) w room)
 
   pub packed-bad : (n : ℕ) → ((p : ℕ) → M.Bad n ≡ numberOf (readN p (c .len) (drop (c .at + h .length) b)))
-      → Answered (readRest 4 b w c h) 4 b w c w (N.Bad n)
+      → StepAnswered (readRest 4 b w c h) 4 b w c w (N.Bad n)
   unfolding bind
   packed-bad n e =
-      answered-bad _ 4 b w c w refl refl (λ q. refl) n λ p.
+      answered-bad _ 4 b w c w (frame-same w) (λ q. refl) n λ p.
       rest-bad 4 b w c h p n (name-packed p ∙ rw (readN-bad p _ _ n (sym (e p))))
 
-pub numbered : (b w : List ℕ) (c : Cursor) (h : Head) (n took : ℕ) → Headed b c h → ((p : ℕ) → M.Good n took ≡ numberOf (readN p (c .len) (drop (c .at + h .length) b)))
-    → n ≤ c .len → c .at + h .length + took ≤ length b → 8192 ≤ length w → Numbered b w c h n took
+pub numbered : (b w : List ℕ) (c : Cursor) (h : Head) (n took : ℕ) → HeadAt b c h → ((p : ℕ) → M.Good n took ≡ numberOf (readN p (c .len) (drop (c .at + h .length) b)))
+    → n ≤ c .len → c .at + h .length + took ≤ length b → 8192 ≤ length w → NumberAt b w c h n took
 numbered b w c h n took q e fits more room = record { head = q; number = λ p. readN-good p _ _ n took (sym (e p)); fits = fits; more = more; room = room }
 
--- where the name's own bytes begin, after the number n, which took so many bytes
+-- where the name's own bytes begin, after the number n, in took bytes
 abbrev from : Cursor → Head → ℕ → ℕ
 from c h took = c .at + h .length + took
 
@@ -60,7 +62,7 @@ new b w c h n took z = take (c .len - n) w ++ own b c h took z
 
 -- the number and the first NUL are read
 pub record Ended (b w : List ℕ) (c : Cursor) (h : Head) (n took z : ℕ) : Type 0 where
-  pub numbered : Numbered b w c h n took
+  pub numbered : NumberAt b w c h n took
   pub is-z : z ≡ c .at + h .length + took + before 0 (drop (c .at + h .length + took) b)
   pub within : z ≤ length b
 
@@ -69,7 +71,7 @@ pub record Copied (b w : List ℕ) (c : Cursor) (h : Head) (n took z : ℕ) (w�
   pub ended : Ended b w c h n took z
   pub inside : z ≡ length b → ⊥
   pub short : c .len - n + (z - (c .at + h .length + took)) ≤ 8192
-  pub rebuilt : Rebuilt w (c .len) n (take (z - (c .at + h .length + took)) (drop (c .at + h .length + took) b)) (c .stage) (h .flags / 4096 % 4) w′ d
+  pub rebuilt : NameRebuilt w (c .len) n (take (z - (c .at + h .length + took)) (drop (c .at + h .length + took) b)) (c .stage) (h .flags / 4096 % 4) w′ d
 
 module _ (b w : List ℕ) (c : Cursor) (h : Head) (n took z : ℕ) (q : Ended b w c h n took z) where
   size : length (drop (from c h took) b) ≡ length b - from c h took
@@ -95,11 +97,11 @@ module _ (b w : List ℕ) (c : Cursor) (h : Head) (n took z : ℕ) (q : Ended b 
       let l : c .len ≤ length w = omega arith in
       name-packed b w c h l p ∙ rw (q .numbered .number p, drop-drop took (c .at + h .length) b)
 
-  pub suffix-cut : z ≡ length b → Answered (readRest 4 b w c h) 4 b w c w (N.Bad 6)
+  pub suffix-cut : z ≡ length b → StepAnswered (readRest 4 b w c h) 4 b w c w (N.Bad 6)
   unfolding readSuffix need shift
   suffix-cut e =
       let l : length (drop (from c h took) b) ≤ before 0 (drop (from c h took) b) = omega (arith, size) in
-      answered-bad _ 4 b w c w refl refl (λ v. refl) 6 λ p.
+      answered-bad _ 4 b w c w (frame-same w) (λ v. refl) 6 λ p.
       rest-bad 4 b w c h p 6 (name-suffix p ∙ rw (le-ltb _ _ l))
 
   module _ (inside : z ≡ length b → ⊥) where
@@ -117,10 +119,10 @@ module _ (b w : List ℕ) (c : Cursor) (h : Head) (n took z : ℕ) (q : Ended b 
     unfolding need
     name-bad p e = rest-bad 4 b w c h p 9 (name-from p ∙ rw e)
 
-    pub suffix-long : 8192 < newLength c h n took z → Answered (readRest 4 b w c h) 4 b w c w (N.Bad 9)
+    pub suffix-long : 8192 < newLength c h n took z → StepAnswered (readRest 4 b w c h) 4 b w c w (N.Bad 9)
     suffix-long e =
         let over : 8192 < length (new b w c h n took z) = omega (arith, length-new) in
-        answered-bad _ 4 b w c w refl refl (λ v. refl) 9 (λ p. name-bad p (okName-over _ over))
+        answered-bad _ 4 b w c w (frame-same w) (λ v. refl) 9 (λ p. name-bad p (okName-over _ over))
 
 module _ (b w : List ℕ) (c : Cursor) (h : Head) (n took z : ℕ) (w′ : List ℕ) (d : Standing) (r : Copied b w c h n took z w′ d) where
   long-new : length (new b w c h n took z) ≡ newLength c h n took z
@@ -135,19 +137,20 @@ module _ (b w : List ℕ) (c : Cursor) (h : Head) (n took z : ℕ) (w′ : List 
   unfolding nameAt
   shown = rw held (take-at (new b w c h n took z) _ _ long-new)
 
-  long : length w′ ≡ length w
-  long = rw (held, length-append (new b w c h n took z), length-drop (length (new b w c h n took z)) w) (omega (arith, long-new))
-
-  past : drop 8192 w′ ≡ drop 8192 w
-  past =
+  frame : Frame w w′
+  frame =
       let s : List ℕ = new b w c h n took z in
       let e : 8192 ≡ length s + (8192 - length s) = omega (arith, long-new) in
-      rw held
-      (ap (λ (k : ℕ). drop k (s ++ drop (length s) w)) e ∙ drop-append-add s (drop (length s) w) (8192 - length s) ∙ drop-drop (8192 - length s) (length s) w
-      ∙ ap (λ (k : ℕ). drop k w) (sym e))
+      record {
+        long = rw (held, length-append s, length-drop (length s) w) (omega (arith, long-new));
+        past =
+            rw held
+            (ap (λ (k : ℕ). drop k (s ++ drop (length s) w)) e ∙ drop-append-add s (drop (length s) w) (8192 - length s) ∙ drop-drop (8192 - length s) (length s) w
+            ∙ ap (λ (k : ℕ). drop k w) (sym e));
+      }
 
   -- what is kept of a sound name begins a sound one
-  pub kept-begun : (known : Bool) → Sound known (take (c .len) w)
+  pub kept-begun : (known : Bool) → KnownBegun known (take (c .len) w)
       → (cond known (c .len - n) 0 ≤ length (take (newLength c h n took z) w′)) × Begun (take (cond known (c .len - n) 0) (take (newLength c h n took z) w′))
   unfolding nameAt
   kept-begun known sound =
@@ -156,14 +159,14 @@ module _ (b w : List ℕ) (c : Cursor) (h : Head) (n took z : ℕ) (w′ : List 
       ap (take (c .len - n)) shown ∙ take-at (take (c .len - n) w) _ _ size ∙ sym (take-take (c .len - n) (c .len) w (omega arith)) in
       begun-kept known _ _ (omega (arith, ap length shown, long-new)) (λ e. rw same (begun-take (c .len - n) (take (c .len) w) (sound e)))
 
-  refused : (m : ℕ) → ((p : ℕ) → readRest 4 b w c h p ≡ bad m p) → Answered (readRest 4 b w c h) 4 b w c w′ (N.Bad m)
-  refused m e = answered-bad _ 4 b w c w′ long past (λ v. false-true (sym v)) m e
+  refused : (m : ℕ) → ((p : ℕ) → readRest 4 b w c h p ≡ bad m p) → StepAnswered (readRest 4 b w c h) 4 b w c w′ (N.Bad m)
+  refused m e = answered-bad _ 4 b w c w′ frame (λ v. false-true (sym v)) m e
 
   order-is : d .rises ≡ rises (compare (nameAt 4 b w (c .start) (c .len)) (new b w c h n took z)) (c .stage) (h .flags / 4096 % 4)
   unfolding nameAt
   order-is = r .rebuilt .rises
 
-  pub suffix-name : okName (take (newLength c h n took z) w′) ≡ false → Answered (readRest 4 b w c h) 4 b w c w′ (N.Bad 9)
+  pub suffix-name : okName (take (newLength c h n took z) w′) ≡ false → StepAnswered (readRest 4 b w c h) 4 b w c w′ (N.Bad 9)
   unfolding nameAt
   suffix-name e = refused 9 (λ p. name-bad b w c h n took z (r .ended) (r .inside) p (ap okName (sym shown) ∙ e))
 
@@ -172,7 +175,7 @@ module _ (b w : List ℕ) (c : Cursor) (h : Head) (n took z : ℕ) (w′ : List 
     unfolding nameAt
     sound = ap okName (sym shown) ∙ ok
 
-    pub suffix-field : (h .flags % 4096 ≡ lengthField (newLength c h n took z) → ⊥) → Answered (readRest 4 b w c h) 4 b w c w′ (N.Bad 9)
+    pub suffix-field : (h .flags % 4096 ≡ lengthField (newLength c h n took z) → ⊥) → StepAnswered (readRest 4 b w c h) 4 b w c w′ (N.Bad 9)
     unfolding need
     suffix-field e = refused 9 (λ p. rest-bad 4 b w c h p 9 (name-from b w c h n took z (r .ended) (r .inside) p ∙ rw (sound, ne-eqb _ _ e)))
 
@@ -181,16 +184,16 @@ module _ (b w : List ℕ) (c : Cursor) (h : Head) (n took z : ℕ) (w′ : List 
       unfolding need
       named p = name-from b w c h n took z (r .ended) (r .inside) p ∙ rw (sound, eq-eqb _ _ counted)
 
-      pub suffix-order : d .rises ≡ false → Answered (readRest 4 b w c h) 4 b w c w′ (N.Bad 11)
+      pub suffix-order : d .rises ≡ false → StepAnswered (readRest 4 b w c h) 4 b w c w′ (N.Bad 11)
       suffix-order e = refused 11 (λ p. rest-order 4 b w c h p _ _ (named p) (sym order-is ∙ e))
 
       pub suffix-good : d .rises ≡ true
-          → Answered (readRest 4 b w c h) 4 b w c w′
+          → StepAnswered (readRest 4 b w c h) 4 b w c w′
           (N.Good (stepOf h (d .common) (z + 1) 0 (newLength c h n took z)))
       suffix-good e =
-          let q : Headed b c h = r .ended .numbered .head in
+          let q : HeadAt b c h = r .ended .numbered .head in
           let taken : h .length + (z + 1 - (c .at + h .length) + 0) ≡ z + 1 - c .at = omega arith in
-          answered-good _ 4 b w c w′ long past (λ v. false-true (sym v)) _ (λ p. rest-good 4 b w c h p _ _ (named p) (sym order-is ∙ e) ∙ rw (shown, taken))
+          answered-good _ 4 b w c w′ frame (λ v. false-true (sym v)) _ (λ p. rest-good 4 b w c h p _ _ (named p) (sym order-is ∙ e) ∙ rw (shown, taken))
           (record {
             next = record { small = q .cursor .small; inside = omega (arith, r .inside); behind = omega arith; short = r .short };
             flags = q .flags;
@@ -203,10 +206,10 @@ module _ (b w : List ℕ) (c : Cursor) (h : Head) (n took z : ℕ) (w′ : List 
           })
 
   -- of an entry that was read before
-  pub suffix-passed : Tested true (readRest 4 b w c h) 4 b w c w′ (N.Good (stepOf h (d .common) (z + 1) 0 (newLength c h n took z)))
+  pub suffix-passed : StepTested true (readRest 4 b w c h) 4 b w c w′ (N.Good (stepOf h (d .common) (z + 1) 0 (newLength c h n took z)))
   unfolding nameAt
   suffix-passed =
-      let q : Headed b c h = r .ended .numbered .head in
+      let q : HeadAt b c h = r .ended .numbered .head in
       let few = common-le (take (c .len) w) (new b w c h n took z) .1 in
       record {
         first = λ e. false-true (sym e);
@@ -220,6 +223,5 @@ module _ (b w : List ℕ) (c : Cursor) (h : Head) (n took z : ℕ) (w′ : List 
             suffix-good (ap okName shown ∙ ok) (eqb-true _ _ counted) (order-is ∙ rw is order))
             (record { small = q .cursor .small; inside = omega (arith, r .inside); behind = omega arith; short = r .short })
             (omega (arith, few, r .rebuilt .common, long-new))
-            long
-            past;
+            frame;
       }

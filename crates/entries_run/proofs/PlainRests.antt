@@ -16,6 +16,7 @@ use Rattle.format_laws.proofs.Readings.{good-inv}
 use Rattle.spelling.proofs.Names.{name-read}
 use Rattle.fields.specs.Begun.{Begun}
 use Rattle.fields.proofs.Beginnings.{begun-common, begun-kept}
+use Rattle.fields.proofs.Workspace.{frame-same}
 use Rattle.entries.specs.declared.Head.{Head}
 use Rattle.entries.specs.declared.Text.the-variants as T
 use Rattle.entries.specs.Answers.{textOf, NamePassed}
@@ -23,13 +24,13 @@ use Rattle.entries.proofs.Names.{readPlain-bad, readPlain-good, plain-place, ba
 use Rattle.entries_run.specs.declared.Cursor.{Cursor}
 use Rattle.entries_run.specs.declared.Next.the-variants as N
 use Rattle.entries_run.specs.declared.Standing.{Standing}
-use Rattle.entries_run.specs.Steps.{nameAt, Sound, Headed, Stands, stepOf, Answered, Repeated, readRest}
+use Rattle.entries_run.specs.Steps.{nameAt, KnownBegun, HeadAt, StandingOf, stepOf, StepAnswered, StepRepeated, readRest}
 use Rattle.entries_run.proofs.Names.{nameAt-plain}
-use Rattle.entries_run.proofs.Rests.{answered-bad, answered-good, repeated-good, bad-next, nameRead, rest-bad, rest-order, rest-good, rest-inv}
+use Rattle.entries_run.proofs.Rests.{answered-bad, answered-good, repeated-good, repeated-bad, nameRead, rest-bad, rest-order, rest-good, rest-inv}
 
 -- what the name of n bytes at a place has in common with the one before it, where that is sound, begins a sound one
 pub named-begun : (b : List ℕ) (a len at n : ℕ) (known : Bool) (i j : ℕ) (d : Standing) → n < length b - at
-    → Stands (take (a + len - a) (drop a b)) (take (at + n - at) (drop at b)) i j d → Sound known (take len (drop a b))
+    → StandingOf (take (a + len - a) (drop a b)) (take (at + n - at) (drop at b)) i j d → KnownBegun known (take len (drop a b))
     → (cond known (d .common) 0 ≤ n) × Begun (take (cond known (d .common) 0) (drop at b))
 named-begun b a len at n known i j d inside stands sound =
     let before : a + len - a ≡ len = omega arith in
@@ -42,12 +43,12 @@ named-begun b a len at n known i j d inside stands sound =
 
 -- the name of n bytes, m with the NULs after it, is read, and compared with the one before
 pub record Compared (b : List ℕ) (c : Cursor) (h : Head) (n m : ℕ) (d : Standing) : Type 0 where
-  pub headed : Headed b c h
+  pub headed : HeadAt b c h
   pub text : (p : ℕ) → T.Good n m ≡ textOf (readPlain (h .length) p (h .flags % 4096) (drop (c .at + h .length) b))
   pub fits : n ≤ m
   pub more : c .at + h .length + m ≤ length b
   pub stands :
-      Stands
+      StandingOf
       (take (c .start + c .len - c .start) (drop (c .start) b))
       (take (c .at + h .length + n - (c .at + h .length)) (drop (c .at + h .length) b))
       (c .stage)
@@ -61,9 +62,9 @@ module _ (v : ℕ) (b w : List ℕ) (old : eqb v 4 ≡ false) where
 
   module _ (c : Cursor) (h : Head) where
     pub plain-bad : (n : ℕ) → ((p : ℕ) → T.Bad n ≡ textOf (readPlain (h .length) p (h .flags % 4096) (drop (c .at + h .length) b)))
-        → Answered (readRest v b w c h) v b w c w (N.Bad n)
+        → StepAnswered (readRest v b w c h) v b w c w (N.Bad n)
     plain-bad n e =
-        answered-bad _ v b w c w refl refl (λ q. refl) n λ p.
+        answered-bad _ v b w c w (frame-same w) (λ q. refl) n λ p.
         rest-bad v b w c h p n (name-plain _ p _ _ _ ∙ readPlain-bad _ p _ _ n (sym (e p)))
 
     before-is : take (c .start + c .len - c .start) (drop (c .start) b) ≡ nameAt v b w (c .start) (c .len)
@@ -85,16 +86,16 @@ module _ (v : ℕ) (b w : List ℕ) (old : eqb v 4 ≡ false) where
           let l : n ≤ length (drop (c .at + h .length) b) = rw (length-drop (c .at + h .length) b) (omega arith) in
           rw (length-take-le n (drop (c .at + h .length) b) l) at (okName-length name (name-read v _ 0 _ _ _ _ m (named 0) .2))
 
-      pub plain-order : d .rises ≡ false → Answered (readRest v b w c h) v b w c w (N.Bad 11)
-      plain-order e = answered-bad _ v b w c w refl refl (λ q. refl) 11 (λ p. rest-order v b w c h p _ m (named p) (sym order-is ∙ e))
+      pub plain-order : d .rises ≡ false → StepAnswered (readRest v b w c h) v b w c w (N.Bad 11)
+      plain-order e = answered-bad _ v b w c w (frame-same w) (λ q. refl) 11 (λ p. rest-order v b w c h p _ m (named p) (sym order-is ∙ e))
 
       pub plain-good : d .rises ≡ true
-          → Answered (readRest v b w c h) v b w c w
+          → StepAnswered (readRest v b w c h) v b w c w
           (N.Good (stepOf h (d .common) (c .at + h .length + m) (c .at + h .length) n))
       plain-good e =
-          let q : Headed b c h = r .headed in
+          let q : HeadAt b c h = r .headed in
           let taken : h .length + (m + 0) ≡ c .at + h .length + m - c .at = omega arith in
-          answered-good _ v b w c w refl refl (λ u. refl) _
+          answered-good _ v b w c w (frame-same w) (λ u. refl) _
           (λ p. rest-good v b w c h p _ m (named p) (sym order-is ∙ e) ∙ rw (nameAt-plain v b w (c .at + h .length) n old, taken))
           (record {
             next = record { small = q .cursor .small; inside = r .more; behind = omega arith; short = sized .1 };
@@ -113,19 +114,13 @@ module _ (v : ℕ) (b w : List ℕ) (old : eqb v 4 ≡ false) where
         → rises (compare (nameAt v b w (c .start) (c .len)) name) (c .stage) (h .flags / 4096 % 4) ≡ true → X) → X
     text-inv p e m q f = rest-inv v b w c h p e m q (λ name j named order. f name j (sym (name-plain _ p _ _ _) ∙ named) order)
 
-    pub plain-unread : (n : ℕ) → NamePassed b (c .at + h .length) (h .length) (h .flags % 4096) (T.Bad n) → Repeated (readRest v b w c h) v b w c w (N.Bad n)
+    pub plain-unread : (n : ℕ) → NamePassed b (c .at + h .length) (h .length) (h .flags % 4096) (T.Bad n) → StepRepeated (readRest v b w c h) v b w c w (N.Bad n)
     unfolding textOf
     plain-unread n t =
-        record {
-          same = λ p e m q. text-inv p e m q (λ name j plain order. bad-text (t .same p (length name) j (ap textOf plain)));
-          inside = λ st q. bad-next q;
-          common = λ st q. bad-next q;
-          long = refl;
-          past = refl;
-        }
+        repeated-bad _ v b w c n (λ p e m q. text-inv p e m q (λ name j plain order. bad-text (t .same p (length name) j (ap textOf plain))))
 
     -- the name of n bytes, m with the NULs after it, has k bytes in common with the one before
-    module _ (n m k : ℕ) (q : Headed b c h) (t : NamePassed b (c .at + h .length) (h .length) (h .flags % 4096) (T.Good n m))
+    module _ (n m k : ℕ) (q : HeadAt b c h) (t : NamePassed b (c .at + h .length) (h .length) (h .flags % 4096) (T.Good n m))
         (is-k : k ≡ common (take (c .start + c .len - c .start) (drop (c .start) b)) (take (c .at + h .length + n - (c .at + h .length)) (drop (c .at + h .length) b))) where
       within : (k ≤ length (take (c .start + c .len - c .start) (drop (c .start) b))) × (k ≤ length (take (c .at + h .length + n - (c .at + h .length)) (drop (c .at + h .length) b)))
       within = rw is-k (common-le _ _)
@@ -149,11 +144,10 @@ module _ (v : ℕ) (b w : List ℕ) (old : eqb v 4 ≡ false) where
             stands = record { rises = rw (before-is, after-is n, is) (sym order); common = is-k; fits = within .0 };
           }
 
-      pub plain-passed : Repeated (readRest v b w c h) v b w c w (N.Good (stepOf h k (c .at + h .length + m) (c .at + h .length) n))
+      pub plain-passed : StepRepeated (readRest v b w c h) v b w c w (N.Good (stepOf h k (c .at + h .length + m) (c .at + h .length) n))
       plain-passed =
           repeated-good _ v b w c w _
           (λ p e i r. text-inv p e i r (λ name j plain order. plain-good n m _ (as-read p name j plain order) refl))
           (record { small = q .cursor .small; inside = t .there; behind = omega (arith, t .fits); short = t .short })
           shorter
-          refl
-          refl
+          (frame-same w)

@@ -14,6 +14,8 @@ use Rattle.format.specs.Reader.{readName, entryOf, readTail}
 use Rattle.format_laws.proofs.Tests.{false-true}
 use Rattle.format_laws.proofs.Names.{common-le}
 use Rattle.format_laws.proofs.Readings.{need-inv, shift-inv, bind-inv}
+use Rattle.fields.specs.Workspace.{Frame}
+use Rattle.fields.proofs.Workspace.{frame-same}
 use Rattle.entries.specs.declared.Head.{Head}
 use Rattle.entries.specs.declared.Fixed.the-variants as F
 use Rattle.entries.specs.Answers.{readHead, fixedOf, Size, HeadPassed}
@@ -22,57 +24,59 @@ use Rattle.entries_run.specs.declared.Cursor.{Cursor}
 use Rattle.entries_run.specs.declared.Step.{Step}
 use Rattle.entries_run.specs.declared.Next.{Next}
 use Rattle.entries_run.specs.declared.Next.the-variants as N
-use Rattle.entries_run.specs.Steps.{nameAt, keyAt, Inside, Headed, said, Found, Answered, Repeated, Tested, readRest, Stepped, Passed}
+use Rattle.entries_run.specs.Steps.{nameAt, keyAt, Inside, HeadAt, readOf, StepFound, StepAnswered, StepRepeated, StepTested, readRest, EntryStepped, EntryPassed}
 use Rattle.entries_run.proofs.Names.{nameAt-short}
 
--- ---- what stands before the name
+-- ---- what is before the name
 
-pub headed-as : (b : List ℕ) (c : Cursor) (h : Head) → Inside b c → Size (drop (c .at) b) h → c .at + h .length ≤ length b → Headed b c h
+pub headed-as : (b : List ℕ) (c : Cursor) (h : Head) → Inside b c → Size (drop (c .at) b) h → c .at + h .length ≤ length b → HeadAt b c h
 headed-as b c h inside size there = record { cursor = inside; flags = size .flags; is = size .is; least = size .least; most = size .most; there = there }
 
 -- ---- what answers say
 
 module _ (read : ℕ → Read Entry) (v : ℕ) (b w : List ℕ) (c : Cursor) (w′ : List ℕ)
-    (long : length w′ ≡ length w) (past : drop 8192 w′ ≡ drop 8192 w) (unwritten : eqb v 4 ≡ false → w′ ≡ w) where
-  pub answered-bad : (n : ℕ) → ((p : ℕ) → read p ≡ bad n p) → Answered read v b w c w′ (N.Bad n)
+    (frame : Frame w w′) (unwritten : eqb v 4 ≡ false → w′ ≡ w) where
+  pub answered-bad : (n : ℕ) → ((p : ℕ) → read p ≡ bad n p) → StepAnswered read v b w c w′ (N.Bad n)
   answered-bad n e =
       record {
         same = e;
         found = λ st q. let z : _≡_ {A = ℕ} 0 1 = cc in absurd (omega arith);
-        long = long;
-        past = past;
+        frame = frame;
         plain = unwritten;
       }
 
-  pub answered-good : (st : Step) → ((p : ℕ) → read p ≡ said v b w′ (c .at) p (N.Good st)) → Found v b w c w′ st → Answered read v b w c w′ (N.Good st)
+  pub answered-good : (st : Step) → ((p : ℕ) → read p ≡ readOf v b w′ (c .at) p (N.Good st)) → StepFound v b w c w′ st → StepAnswered read v b w c w′ (N.Good st)
   answered-good st e f =
       record {
         same = e;
-        found = λ other q. let same : st ≡ other = cc in subst (λ (x : Step). Found v b w c w′ x) same f;
-        long = long;
-        past = past;
+        found = λ other q. let same : st ≡ other = cc in subst (λ (x : Step). StepFound v b w c w′ x) same f;
+        frame = frame;
         plain = unwritten;
       }
 
-pub bad-next : {X : Type 0} {n : ℕ} {st : Step} → N.Bad n ≡ N.Good st → X
+bad-next : {X : Type 0} {n : ℕ} {st : Step} → N.Bad n ≡ N.Good st → X
 bad-next e = let z : _≡_ {A = ℕ} 0 1 = cc in absurd (omega arith)
 
 -- a step that was not tested
 pub repeated-good : (read : ℕ → Read Entry) (v : ℕ) (b w : List ℕ) (c : Cursor) (w′ : List ℕ) (st : Step)
-    → ((p : ℕ) (e : Entry) (m : ℕ) → read p ≡ good e m → Answered read v b w c w′ (N.Good st))
-    → Inside b (st .next) → st .common ≤ st .next .len → length w′ ≡ length w → drop 8192 w′ ≡ drop 8192 w → Repeated read v b w c w′ (N.Good st)
-repeated-good read v b w c w′ st same inside common long past =
+    → ((p : ℕ) (e : Entry) (m : ℕ) → read p ≡ good e m → StepAnswered read v b w c w′ (N.Good st))
+    → Inside b (st .next) → st .common ≤ st .next .len → Frame w w′ → StepRepeated read v b w c w′ (N.Good st)
+repeated-good read v b w c w′ st same inside common frame =
     record {
       same = same;
       inside = λ other q. let is : st ≡ other = cc in subst (λ (x : Step). Inside b (x .next)) is inside;
       common = λ other q. let is : st ≡ other = cc in subst (λ (x : Step). x .common ≤ x .next .len) is common;
-      long = long;
-      past = past;
+      frame = frame;
     }
 
+-- nothing is read there
+pub repeated-bad : (read : ℕ → Read Entry) (v : ℕ) (b w : List ℕ) (c : Cursor) (n : ℕ)
+    → ((p : ℕ) (e : Entry) (m : ℕ) → read p ≡ good e m → StepAnswered read v b w c w (N.Bad n)) → StepRepeated read v b w c w (N.Bad n)
+repeated-bad read v b w c n same = record { same = same; inside = λ st q. bad-next q; common = λ st q. bad-next q; frame = frame-same w }
+
 -- what is said with all tests holds without them
-module _ (read : ℕ → Read Entry) (v : ℕ) (b w : List ℕ) (c : Cursor) (w′ : List ℕ) (r : Next) (t : Answered read v b w c w′ r) where
-  repeated : Repeated read v b w c w′ r
+module _ (read : ℕ → Read Entry) (v : ℕ) (b w : List ℕ) (c : Cursor) (w′ : List ℕ) (r : Next) (t : StepAnswered read v b w c w′ r) where
+  repeated : StepRepeated read v b w c w′ r
   repeated =
       record {
         same = λ p e m q. t;
@@ -81,50 +85,42 @@ module _ (read : ℕ → Read Entry) (v : ℕ) (b w : List ℕ) (c : Cursor) (w�
             let x = nameAt v b w (c .start) (c .len) in
             let y = nameAt v b w′ (st .next .start) (st .next .len) in
             omega (arith, t .found st q .common, common-le x y .1, nameAt-short v b w′ (st .next .start) (st .next .len));
-        long = t .long;
-        past = t .past;
+        frame = t .frame;
       }
 
-  pub tested : (again : Bool) → Tested again read v b w c w′ r
+  pub tested : (again : Bool) → StepTested again read v b w c w′ r
   tested again = record { first = λ e. t; later = repeated }
 
 -- by whether it was read before
 pub tested-by : (again : Bool) (read : ℕ → Read Entry) (v : ℕ) (b w : List ℕ) (c : Cursor) (w′ : List ℕ) (r : Next)
-    → (again ≡ false → Answered read v b w c w′ r) → (again ≡ true → Repeated read v b w c w′ r) → Tested again read v b w c w′ r
+    → (again ≡ false → StepAnswered read v b w c w′ r) → (again ≡ true → StepRepeated read v b w c w′ r) → StepTested again read v b w c w′ r
 tested-by true read v b w c w′ r first later = record { first = λ e. false-true (sym e); later = later refl }
 tested-by false read v b w c w′ r first later = tested read v b w c w′ r (first refl) false
 
 -- of another reader that reads the same
 answered-as : (read other : ℕ → Read Entry) (v : ℕ) (b w : List ℕ) (c : Cursor) (w′ : List ℕ) (r : Next) → ((p : ℕ) → read p ≡ other p)
-    → Answered other v b w c w′ r → Answered read v b w c w′ r
-answered-as read other v b w c w′ r e t = record { same = λ p. e p ∙ t .same p; found = t .found; long = t .long; past = t .past; plain = t .plain }
+    → StepAnswered other v b w c w′ r → StepAnswered read v b w c w′ r
+answered-as read other v b w c w′ r e t = record { same = λ p. e p ∙ t .same p; found = t .found; frame = t .frame; plain = t .plain }
 
 module _ (v : ℕ) (b w : List ℕ) (c : Cursor) where
-  pub step-refused : (n : ℕ) → ((p : ℕ) → F.Bad n ≡ fixedOf (readHead 20 v p (drop (c .at) b))) → Stepped v b w c w (N.Bad n)
-  step-refused n e = answered-bad _ v b w c w refl refl (λ q. refl) n (λ p. readEntry-bad 20 v (keyAt v b w c) p (drop (c .at) b) n (sym (e p)))
+  pub step-refused : (n : ℕ) → ((p : ℕ) → F.Bad n ≡ fixedOf (readHead 20 v p (drop (c .at) b))) → EntryStepped v b w c w (N.Bad n)
+  step-refused n e = answered-bad _ v b w c w (frame-same w) (λ q. refl) n (λ p. readEntry-bad 20 v (keyAt v b w c) p (drop (c .at) b) n (sym (e p)))
 
   pub step-on : (h : Head) (w′ : List ℕ) (r : Next) → ((p : ℕ) → F.Good h ≡ fixedOf (readHead 20 v p (drop (c .at) b)))
-      → Answered (readRest v b w c h) v b w c w′ r → Stepped v b w c w′ r
+      → StepAnswered (readRest v b w c h) v b w c w′ r → EntryStepped v b w c w′ r
   unfolding readRest
   step-on h w′ r e t = answered-as _ (readRest v b w c h) v b w c w′ r (λ p. readEntry-good 20 v (keyAt v b w c) p (drop (c .at) b) h (sym (e p))) t
 
   pub step-four : (h : Head) (w′ : List ℕ) (r : Next) → ((p : ℕ) → F.Good h ≡ fixedOf (readHead 20 v p (drop (c .at) b)))
-      → v ≡ 4 → Answered (readRest 4 b w c h) 4 b w c w′ r → Stepped v b w c w′ r
-  step-four h w′ r e four t = step-on h w′ r e (subst (λ (u : ℕ). Answered (readRest u b w c h) u b w c w′ r) (sym four) t)
+      → v ≡ 4 → StepAnswered (readRest 4 b w c h) 4 b w c w′ r → EntryStepped v b w c w′ r
+  step-four h w′ r e four t = step-on h w′ r e (subst (λ (u : ℕ). StepAnswered (readRest u b w c h) u b w c w′ r) (sym four) t)
 
 -- the same of an entry that was read before
 module _ (v : ℕ) (b w : List ℕ) (c : Cursor) where
-  pub pass-refused : (n : ℕ) → HeadPassed b (c .at) (F.Bad n) → Passed v b w c w (N.Bad n)
-  pass-refused n t =
-      record {
-        same = λ p e m q. entry-head 20 v _ p _ e m q (λ h is. bad-head (t .same v p h is));
-        inside = λ st q. bad-next q;
-        common = λ st q. bad-next q;
-        long = refl;
-        past = refl;
-      }
+  pub pass-refused : (n : ℕ) → HeadPassed b (c .at) (F.Bad n) → EntryPassed v b w c w (N.Bad n)
+  pass-refused n t = repeated-bad _ v b w c n (λ p e m q. entry-head 20 v _ p _ e m q (λ h is. bad-head (t .same v p h is)))
 
-  pub pass-on : (h : Head) (w′ : List ℕ) (r : Next) → HeadPassed b (c .at) (F.Good h) → Repeated (readRest v b w c h) v b w c w′ r → Passed v b w c w′ r
+  pub pass-on : (h : Head) (w′ : List ℕ) (r : Next) → HeadPassed b (c .at) (F.Good h) → StepRepeated (readRest v b w c h) v b w c w′ r → EntryPassed v b w c w′ r
   unfolding readRest
   pass-on h w′ r t u =
       record {
@@ -133,12 +129,11 @@ module _ (v : ℕ) (b w : List ℕ) (c : Cursor) where
             step-on v b w c h w′ r here (u .same p e m (sym (readEntry-good 20 v (keyAt v b w c) p (drop (c .at) b) h (sym (here p))) ∙ q));
         inside = u .inside;
         common = u .common;
-        long = u .long;
-        past = u .past;
+        frame = u .frame;
       }
 
-  pub pass-four : (h : Head) (w′ : List ℕ) (r : Next) → HeadPassed b (c .at) (F.Good h) → v ≡ 4 → Repeated (readRest 4 b w c h) 4 b w c w′ r → Passed v b w c w′ r
-  pass-four h w′ r t four u = pass-on h w′ r t (subst (λ (n : ℕ). Repeated (readRest n b w c h) n b w c w′ r) (sym four) u)
+  pub pass-four : (h : Head) (w′ : List ℕ) (r : Next) → HeadPassed b (c .at) (F.Good h) → v ≡ 4 → StepRepeated (readRest 4 b w c h) 4 b w c w′ r → EntryPassed v b w c w′ r
+  pass-four h w′ r t four u = pass-on h w′ r t (subst (λ (n : ℕ). StepRepeated (readRest n b w c h) n b w c w′ r) (sym four) u)
 
 -- ---- the rest, from the name on
 

@@ -3,7 +3,7 @@ use mathlib.Core.Path.{_≡_, refl, sym, ap, subst₂, _∙_}
 use mathlib.Core.List.{List, [], _∷_, _++_, append-nil}
 use mathlib.Core.Bool.{Bool, true, false, cond}
 use mathlib.Core.Option.{some}
-use Prim.Native.Nat.{ℕ, suc, _+_, _-_, _≤_, _<_}
+use Prim.Native.Nat.{ℕ, zero, suc, _+_, _-_, _≤_, _<_, zero-le}
 use native.Mathlib.Nat.{zero-add}
 use native.Mathlib.Omega.{arith}
 use lib.ListN.{length, take, drop, getElem?, length-append}
@@ -13,17 +13,19 @@ use Rattle.format.specs.Records.{Entry, Key, keyOf, start}
 use Rattle.format.specs.Reading.{Read, bad, good, bind}
 use Rattle.format.specs.Reader.{entryOf, readEntry, readEntries}
 use Rattle.format.specs.Places.{entryPlace, namePlace}
-use Rattle.format_laws.proofs.Readings.{bad-good, bind-inv, inFront, front-none, front-one, front-front, front-inv}
+use Rattle.format_laws.proofs.Readings.{bad-good, good-inv, bind-inv, inFront, front-none, front-one, front-front, front-inv}
 use Rattle.spelling.proofs.Entries.{entry-named}
 use Rattle.fields.specs.Begun.{Begun}
+use Rattle.fields.specs.Workspace.{Frame}
 use Rattle.fields.proofs.Beginnings.{begun-none, begun-name}
+use Rattle.fields.proofs.Workspace.{frame-same, frame-then}
 use Rattle.entries_run.specs.declared.Cursor.{Cursor}
 use Rattle.entries_run.specs.declared.Step.{Step}
 use Rattle.entries_run.specs.declared.Next.{Next}
 use Rattle.entries_run.specs.declared.Next.the-variants as N
 use Rattle.entries_run.specs.declared.Run.the-variants as R
 use Rattle.entries_run.specs.declared.Sought.the-variants as S
-use Rattle.entries_run.specs.Steps.{nameAt, entryAt, Inside, Room, Found, Stepped, Passed, firstCursor, runFrom, runOf, Placed, Reaches}
+use Rattle.entries_run.specs.Steps.{nameAt, entryAt, Inside, Room, StepFound, EntryStepped, EntryPassed, firstCursor, runFrom, RunRead, EntriesRead, AllRead, Readable, runOf, RunAnswered, EntryPlaced, SeekAnswered}
 
 -- ---- one entry more
 
@@ -53,20 +55,39 @@ module _ (v n : ℕ) (k : Key) (p : ℕ) (s : List ℕ) (more : 0 < n) where
 
 -- a step from the cursor c, of which n entries are left
 module _ (v : ℕ) (b w : List ℕ) (c : Cursor) (w′ : List ℕ) (n : ℕ) (more : 0 < n) where
-  pub entries-bad : (m : ℕ) → Stepped v b w c w′ (N.Bad m) → runFrom v n b w c ≡ bad m (c .at)
+  pub entries-bad : (m : ℕ) → EntryStepped v b w c w′ (N.Bad m) → runFrom v n b w c ≡ bad m (c .at)
   entries-bad m t = run-refused v n _ (c .at) _ more m (t .same (c .at))
 
-  pub entries-good : (st : Step) → Stepped v b w c w′ (N.Good st)
+  pub entries-good : (st : Step) → EntryStepped v b w c w′ (N.Good st)
       → runFrom v n b w c ≡ inFront (entryAt v b w′ (c .at) st ∷ []) (st .next .at - c .at) (runFrom v (n - 1) b w′ (st .next))
   unfolding entryOf
   entries-good st t =
-      let f : Found v b w c w′ st = t .found st refl in
+      let f : StepFound v b w c w′ st = t .found st refl in
       let here : c .at + (st .next .at - c .at) ≡ st .next .at = omega arith in
       run-on v n _ (c .at) _ more _ _ (t .same (c .at)) ∙ rw (drop-drop (st .next .at - c .at) (c .at) b, here, ← (f .stage))
 
   -- where the run was read, a step without tests is one with them
-  pub entries-again {ℓ} : {X : Type ℓ} (es : List Entry) (m : ℕ) (r : Next) → runFrom v n b w c ≡ good es m → Passed v b w c w′ r → (Stepped v b w c w′ r → X) → X
+  pub entries-again {ℓ} : {X : Type ℓ} (es : List Entry) (m : ℕ) (r : Next) → RunRead v n b w c es m → EntryPassed v b w c w′ r → (EntryStepped v b w c w′ r → X) → X
   entries-again es m r q t f = run-first-entry v n _ (c .at) _ more es m q (λ e j is. f (t .same (c .at) e j is))
+
+  -- and refuses nothing
+  pub entries-never {ℓ} : {X : Type ℓ} (es : List Entry) (m j : ℕ) → RunRead v n b w c es m → EntryPassed v b w c w′ (N.Bad j) → X
+  entries-never es m j q t = entries-again es m (N.Bad j) q t (λ u. bad-good _ _ _ _ (sym (entries-bad j u) ∙ q))
+
+-- entries that were read before
+module _ {v n : ℕ} {b w : List ℕ} {c : Cursor} {w′ : List ℕ} (h : Readable v n b w c) (more : 0 < n) where
+  pub readable-again : (r : Next) → EntryPassed v b w c w′ r → EntryStepped v b w c w′ r
+  readable-again r t = entries-again v b w c w′ (n + h .more) (omega arith) (h .entries) (h .taken) r (h .run) t (λ u. u)
+
+  pub readable-never {ℓ} : {X : Type ℓ} (j : ℕ) → EntryPassed v b w c w′ (N.Bad j) → X
+  readable-never j t = entries-never v b w c w′ (n + h .more) (omega arith) (h .entries) (h .taken) j (h .run) t
+
+  -- the others after the first
+  pub readable-next : {st : Step} → EntryStepped v b w c w′ (N.Good st) → Readable v (n - 1) b w′ (st .next)
+  readable-next {st} t =
+      let less : n + h .more - 1 ≡ n - 1 + h .more = omega arith in
+      front-inv _ _ _ _ _ (sym (entries-good v b w c w′ (n + h .more) (omega arith) st t) ∙ h .run) λ gs k on parts sum.
+      record { more = h .more; entries = gs; taken = k; run = rw less at on }
 
 -- the run from the start
 nameAt-none : (v : ℕ) (b w : List ℕ) (t : Bool) → cond t (take 0 w) (take 0 (drop 0 b)) ≡ []
@@ -77,12 +98,18 @@ pub run-first : (v n : ℕ) (b w : List ℕ) → runFrom v n b w firstCursor ≡
 unfolding nameAt
 run-first v n b w = ap (λ (s : List ℕ). readEntries 20 v n (record { name = s; stage = 0 }) 12 (drop 12 b)) (nameAt-none v b w (eqb v 4))
 
+-- of count entries that were read, the first k
+pub readable-first : (v count k : ℕ) (b w : List ℕ) → k ≤ count → AllRead v count b → Readable v k b w firstCursor
+readable-first v count k b w few (es, m, q) =
+    let sum : k + (count - k) ≡ count = omega arith in
+    record { more = count - k; entries = es; taken = m; run = rw sum (run-first v count b w ∙ q) }
+
 -- before the first entry nothing is known to be unsound, and after one its name is sound
 pub begun-first : (v : ℕ) (b w : List ℕ) → Begun (nameAt v b w 0 0)
 unfolding nameAt
 begun-first v b w = rw (nameAt-none v b w (eqb v 4)) begun-none
 
-pub begun-next : (v : ℕ) (b w : List ℕ) (c : Cursor) (w′ : List ℕ) (st : Step) → Stepped v b w c w′ (N.Good st) → Begun (nameAt v b w′ (st .next .start) (st .next .len))
+pub begun-next : (v : ℕ) (b w : List ℕ) (c : Cursor) (w′ : List ℕ) (st : Step) → EntryStepped v b w c w′ (N.Good st) → Begun (nameAt v b w′ (st .next .start) (st .next .len))
 unfolding entryOf
 begun-next v b w c w′ st t = begun-name _ (entry-named 20 v _ (c .at) _ _ _ (t .same (c .at)))
 
@@ -105,12 +132,12 @@ getElem?-seam [] gs e = refl
 getElem?-seam (x ∷ es) gs e = getElem?-seam es gs e
 
 module _ (v : ℕ) (b : List ℕ) where
-  pub walked-first : (w : List ℕ) → Walked v b [] w firstCursor
+  walked-first : (w : List ℕ) → Walked v b [] w firstCursor
   walked-first w = record { after = omega arith; whole = λ n. rw zero-add (sym (front-none _ ∙ run-first v n b w)) }
 
   module _ (es : List Entry) (w : List ℕ) (c : Cursor) (h : Walked v b es w c) where
-    -- the run of so many entries, and of more
-    pub walked-end : readEntries 20 v (length es) start 12 (drop 12 b) ≡ good es (c .at - 12)
+    -- the run of es, and of more entries
+    pub walked-end : EntriesRead v (length es) b es (c .at - 12)
     unfolding inFront
     walked-end =
         let none-more : length es + 0 ≡ length es = omega arith in
@@ -126,22 +153,28 @@ module _ (v : ℕ) (b : List ℕ) where
     walked-on count few = let sum : length es + (count - length es) ≡ count = omega arith in rw sum at (h .whole (count - length es))
 
     -- where all entries are read, es are the first of them
-    pub walked-take : (count : ℕ) (all : List Entry) (m : ℕ) → readEntries 20 v count start 12 (drop 12 b) ≡ good all m → length es ≤ count
+    pub walked-take : (count : ℕ) (all : List Entry) (m : ℕ) → EntriesRead v count b all m → length es ≤ count
         → es ≡ take (length es) all
     walked-take count all m e few = front-inv _ _ _ _ _ (sym (walked-on count few) ∙ e) (λ gs l q parts sum. rw (← parts) (sym (take-append-seam es gs)))
 
+    -- and the others from the cursor on were read too
+    pub walked-left : (count : ℕ) → length es ≤ count → AllRead v count b → Readable v (count - length es) b w c
+    walked-left count few (all, m, q) =
+        let none : count - length es + 0 ≡ count - length es = omega arith in
+        front-inv _ _ _ _ _ (sym (walked-on count few) ∙ q) (λ gs l on parts sum. record { more = 0; entries = gs; taken = l; run = rw none on })
+
     module _ (w′ : List ℕ) where
       -- a step that refuses
-      pub walked-bad : (m : ℕ) → Stepped v b w c w′ (N.Bad m) → (count : ℕ) → length es < count
+      walked-bad : (m : ℕ) → EntryStepped v b w c w′ (N.Bad m) → (count : ℕ) → length es < count
           → readEntries 20 v count start 12 (drop 12 b) ≡ bad m (c .at)
       unfolding inFront
       walked-bad m t count more = walked-on count (omega arith) ∙ rw (entries-bad v b w c w′ (count - length es) (omega arith) m t)
 
       -- a step over one entry more
-      module _ (st : Step) (t : Stepped v b w c w′ (N.Good st)) where
-        pub walked-more : Walked v b (es ++ (entryAt v b w′ (c .at) st ∷ [])) w′ (st .next)
+      module _ (st : Step) (t : EntryStepped v b w c w′ (N.Good st)) where
+        walked-more : Walked v b (es ++ (entryAt v b w′ (c .at) st ∷ [])) w′ (st .next)
         walked-more =
-            let f : Found v b w c w′ st = t .found st refl in
+            let f : StepFound v b w c w′ st = t .found st refl in
             record {
               after = omega (arith, h .after);
               whole = λ n.
@@ -151,17 +184,56 @@ module _ (v : ℕ) (b : List ℕ) where
                   rw (count, h .whole (n + 1), entries-good v b w c w′ (n + 1) (omega arith) st t, left) (front-front es _ _ _ _ ∙ rw taken);
             }
 
-        pub walked-entry : (count : ℕ) (all : List Entry) (m : ℕ) → readEntries 20 v count start 12 (drop 12 b) ≡ good all m → length es < count
+        walked-entry : (count : ℕ) (all : List Entry) (m : ℕ) → EntriesRead v count b all m → length es < count
             → getElem? all (length es) ≡ some (entryAt v b w′ (c .at) st)
         walked-entry count all m e more =
             let sum : length (es ++ (entryAt v b w′ (c .at) st ∷ [])) + (count - length es - 1) ≡ count = rw length-append (omega arith) in
             front-inv _ _ _ _ _ (sym (rw sum at (walked-more .whole (count - length es - 1))) ∙ e) λ gs l q parts rest.
             rw (← parts) (getElem?-seam es gs _)
 
+-- ---- a walk over entries, which has passed the entries es; work₀ is what it starts from
+
+pub record Walking (v : ℕ) (b work₀ : List ℕ) (es : List Entry) (w : List ℕ) (c : Cursor) : Type 0 where
+  pub inside : Inside b c
+  pub frame : Frame work₀ w
+  pub walked : Walked v b es w c
+
+pub walking-first : (v : ℕ) (b w : List ℕ) → Room b w → Walking v b w [] w firstCursor
+walking-first v b w room = record { inside = inside-first b w room; frame = frame-same w; walked = walked-first v b w }
+
+module _ {v : ℕ} {b work₀ : List ℕ} {es : List Entry} {w : List ℕ} {c : Cursor} (h : Walking v b work₀ es w c) where
+  pub walking-more : {w′ : List ℕ} {st : Step} → EntryStepped v b w c w′ (N.Good st)
+      → Walking v b work₀ (es ++ (entryAt v b w′ (c .at) st ∷ [])) w′ (st .next)
+  walking-more {w′} {st} t =
+      record { inside = t .found st refl .next; frame = frame-then (h .frame) (t .frame); walked = walked-more v b es w c (h .walked) w′ st t }
+
+  module _ {count : ℕ} where
+    pub ran-bad : {w′ : List ℕ} {n : ℕ} → length es < count → EntryStepped v b w c w′ (N.Bad n) → RunAnswered v b work₀ count w′ (R.Bad n (c .at))
+    ran-bad {w′} {n} more t =
+        record {
+          same = sym (ap runOf (walked-bad v b es w c (h .walked) w′ n t count more));
+          inside = zero-le;
+          frame = frame-then (h .frame) (t .frame);
+        }
+
+    pub ran-good : length es ≡ count → RunAnswered v b work₀ count w (R.Good (c .at))
+    ran-good all =
+        let end : 12 + (c .at - 12) ≡ c .at = omega (arith, h .walked .after) in
+        record { same = sym (ap runOf (rw all at (walked-end v b es w c (h .walked))) ∙ ap R.Good end); inside = h .inside .inside; frame = h .frame }
+
 -- ---- what callers read from answers
 
+-- how many entries are read
+pub entries-length : (w v n : ℕ) (k : Key) (p : ℕ) (s : List ℕ) (es : List Entry) (m : ℕ) → readEntries w v n k p s ≡ good es m → length es ≡ n
+unfolding readEntries
+entries-length w v zero k p s es m q = good-inv _ _ _ _ q λ es-is m-is. rw (← es-is) refl
+entries-length w v (suc n) k p s es m q =
+    bind-inv _ _ _ _ q λ e i j q₁ q₂ m-is.
+    bind-inv _ _ _ _ q₂ λ fs c d q₃ q₄ j-is.
+    good-inv _ _ _ _ q₄ λ es-is d-is. rw (← es-is) (ap suc (entries-length w v n (keyOf e) (p + i) (drop i s) fs c q₃))
+
 -- where the name begins that a step found
-found-name : (v : ℕ) (b w : List ℕ) (c : Cursor) (w′ : List ℕ) (st : Step) → Found v b w c w′ st → eqb v 4 ≡ false → st .next .start ≡ namePlace 20 (c .at) b
+found-name : (v : ℕ) (b w : List ℕ) (c : Cursor) (w′ : List ℕ) (st : Step) → StepFound v b w c w′ st → eqb v 4 ≡ false → st .next .start ≡ namePlace 20 (c .at) b
 unfolding namePlace
 found-name v b w c w′ st f old = f .begins old ∙ rw (f .head, f .flags)
 
@@ -188,28 +260,25 @@ good-sought P at at′ st st′ q =
     let there : at ≡ at′ = cc in
     let same : st ≡ st′ = cc in subst₂ P there same
 
-module _ (v : ℕ) (b : List ℕ) (k : ℕ) (es : List Entry) (w : List ℕ) (c : Cursor) (h : Walked v b es w c)
-    (w′ w₀ : List ℕ) (long : length w′ ≡ length w₀) (past : drop 8192 w′ ≡ drop 8192 w₀) where
-  pub sought-bad : (n p : ℕ) → length es ≤ k → Stepped v b w c w′ (N.Bad n) → Reaches v b w₀ k w′ (S.Bad n p)
-  sought-bad n p few t =
+module _ {v : ℕ} {b work₀ : List ℕ} {es : List Entry} {w : List ℕ} {c : Cursor} (h : Walking v b work₀ es w c) {k : ℕ} {w′ : List ℕ} where
+  pub sought-bad : {n p : ℕ} → length es ≤ k → EntryStepped v b w c w′ (N.Bad n) → SeekAnswered v b work₀ k w′ (S.Bad n p)
+  sought-bad few t =
       record {
-        entry = λ count all m e more. bad-good _ _ _ _ (sym (walked-bad v b es w c h w′ n t count (omega arith)) ∙ e);
+        entry = λ count all m e more. bad-good _ _ _ _ (sym (walked-bad v b es w c (h .walked) w′ _ t count (omega arith)) ∙ e);
         placed = λ at st q. bad-sought q;
         place = λ at st q. bad-sought q;
         name = λ at st q. bad-sought q;
-        long = long;
-        past = past;
+        frame = frame-then (h .frame) (t .frame);
       }
 
-  pub sought-good : (st : Step) → length es ≡ k → Stepped v b w c w′ (N.Good st) → Reaches v b w₀ k w′ (S.Good (c .at) st)
-  sought-good st all-of t =
-      let f : Found v b w c w′ st = t .found st refl in
-      let parts : Placed b (c .at) st = record { fixed = omega arith; name = omega arith; short = f .next .short; stage = f .stage } in
+  pub sought-good : {st : Step} → length es ≡ k → EntryStepped v b w c w′ (N.Good st) → SeekAnswered v b work₀ k w′ (S.Good (c .at) st)
+  sought-good {st} all-of t =
+      let f : StepFound v b w c w′ st = t .found st refl in
+      let parts : EntryPlaced b (c .at) st = record { fixed = omega arith; name = omega arith; short = f .next .short; stage = f .stage } in
       record {
-        entry = λ count all m e more. rw all-of at (walked-entry v b es w c h w′ st t count all m e (omega arith));
-        placed = λ at other q. good-sought (Placed b) _ at _ other q parts;
-        place = λ at other q. good-sought (λ a s. a ≡ entryPlace 20 v k b) _ at _ other q (rw all-of at (walked-place v b es w c h));
+        entry = λ count all m e more. rw all-of at (walked-entry v b es w c (h .walked) w′ st t count all m e (omega arith));
+        placed = λ at other q. good-sought (EntryPlaced b) _ at _ other q parts;
+        place = λ at other q. good-sought (λ a s. a ≡ entryPlace 20 v k b) _ at _ other q (rw all-of at (walked-place v b es w c (h .walked)));
         name = λ at other q. good-sought (λ a s. eqb v 4 ≡ false → s .next .start ≡ namePlace 20 a b) _ at _ other q (found-name v b w c w′ st f);
-        long = long;
-        past = past;
+        frame = frame-then (h .frame) (t .frame);
       }

@@ -1,4 +1,4 @@
--- Where names stand, and what a step over an entry leaves behind.
+-- Where names are, and what a step over an entry leaves behind.
 use mathlib.Core.Path.{_≡_}
 use mathlib.Core.List.{List, _++_}
 use mathlib.Core.Bool.{Bool, true, false, cond}
@@ -14,6 +14,7 @@ use Rattle.format.specs.Reading.{Read, bad, good, shift}
 use Rattle.format.specs.Reader.{isSet, readN, entryOf, readTail, readEntry, readEntries}
 use Rattle.format.specs.Places.{entryPlace, namePlace}
 use Rattle.fields.specs.Begun.{Begun}
+use Rattle.fields.specs.Workspace.{Frame}
 use Rattle.entries.specs.declared.Head.{Head}
 use Rattle.entries.specs.declared.Fixed.{Fixed}
 use Rattle.entries.specs.declared.Fixed.the-variants as F
@@ -39,8 +40,8 @@ abbrev pub cursorOf : ℕ → ℕ → ℕ → ℕ → Cursor
 cursorOf at start len stage = record { at = at; start = start; len = len; stage = stage }
 
 -- where it is known, the name before a cursor begins a sound one
-abbrev pub Sound : Bool → List ℕ → Type 0
-Sound known name = known ≡ true → Begun name
+abbrev pub KnownBegun : Bool → List ℕ → Type 0
+KnownBegun known name = known ≡ true → Begun name
 
 -- the name and the stage before a cursor
 abbrev pub keyAt : ℕ → List ℕ → List ℕ → Cursor → Key
@@ -58,7 +59,7 @@ pub record Inside (b : List ℕ) (c : Cursor) : Type 0 where
   pub short : c .len ≤ 8192
 
 -- and the bytes h before the name of the entry there
-pub record Headed (b : List ℕ) (c : Cursor) (h : Head) : Type 0 where
+pub record HeadAt (b : List ℕ) (c : Cursor) (h : Head) : Type 0 where
   pub cursor : Inside b c
   pub flags : h .flags ≡ be16 (drop (c .at) b) 60
   pub is : h .length ≡ fixedLength 20 (isSet 16384 (h .flags))
@@ -74,8 +75,8 @@ pub record HeadRead (again : Bool) (v : ℕ) (b : List ℕ) (at : ℕ) (r : Fixe
   pub there : at + headLength r ≤ length b
 
 -- and the number N after them, in version 4
-pub record Numbered (b work : List ℕ) (c : Cursor) (h : Head) (n took : ℕ) : Type 0 where
-  pub head : Headed b c h
+pub record NumberAt (b work : List ℕ) (c : Cursor) (h : Head) (n took : ℕ) : Type 0 where
+  pub head : HeadAt b c h
   pub number : (p : ℕ) → readN p (c .len) (drop (c .at + h .length) b) ≡ good n took
   pub fits : n ≤ c .len
   pub more : c .at + h .length + took ≤ length b
@@ -89,14 +90,14 @@ pub record Room (b work : List ℕ) : Type 0 where
 
 -- ---- two names
 
--- how the name t, of stage n, stands to the name s, of stage m
-pub record Stands (s t : List ℕ) (m n : ℕ) (r : Standing) : Type 0 where
+-- how the name t, of stage n, compares to the name s, of stage m
+pub record StandingOf (s t : List ℕ) (m n : ℕ) (r : Standing) : Type 0 where
   pub rises : r .rises ≡ rises (compare s t) m n
   pub common : r .common ≡ common s t
   pub fits : r .common ≤ length s
 
 -- of the first p bytes of the workspace the last n are replaced by s
-pub record Rebuilt (work : List ℕ) (p n : ℕ) (s : List ℕ) (k l : ℕ) (work′ : List ℕ) (r : Standing) : Type 0 where
+pub record NameRebuilt (work : List ℕ) (p n : ℕ) (s : List ℕ) (k l : ℕ) (work′ : List ℕ) (r : Standing) : Type 0 where
   pub rises : r .rises ≡ rises (compare (take p work) (take (p - n) work ++ s)) k l
   pub common : r .common ≡ common (take p work) (take (p - n) work ++ s)
   pub held : work′ ≡ take (p - n) work ++ (s ++ drop (p - n + length s) work)
@@ -114,12 +115,12 @@ stepOf h common at start len = record {
 }
 
 -- an answer as the reader gives it, for the entry at a place that the reader calls p
-abbrev pub said : ℕ → List ℕ → List ℕ → ℕ → ℕ → Next → Read Entry
-said v b work at p (N.Bad n) = bad n p
-said v b work at p (N.Good st) = good (entryAt v b work at st) (st .next .at - at)
+abbrev pub readOf : ℕ → List ℕ → List ℕ → ℕ → ℕ → Next → Read Entry
+readOf v b work at p (N.Bad n) = bad n p
+readOf v b work at p (N.Good st) = good (entryAt v b work at st) (st .next .at - at)
 
 -- the parts of a step
-pub record Found (v : ℕ) (b work : List ℕ) (c : Cursor) (work′ : List ℕ) (st : Step) : Type 0 where
+pub record StepFound (v : ℕ) (b work : List ℕ) (c : Cursor) (work′ : List ℕ) (st : Step) : Type 0 where
   pub next : Inside b (st .next)
   pub flags : st .flags ≡ be16 (drop (c .at) b) 60
   pub head : st .head ≡ fixedLength 20 (isSet 16384 (st .flags))
@@ -130,48 +131,69 @@ pub record Found (v : ℕ) (b work : List ℕ) (c : Cursor) (work′ : List ℕ)
   pub common : st .common ≡ common (nameAt v b work (c .start) (c .len)) (nameAt v b work′ (st .next .start) (st .next .len))
 
 -- what a function leaves behind that reads an entry as read does, at each place: the answer r, and work′, which was work
-pub record Answered (read : ℕ → Read Entry) (v : ℕ) (b work : List ℕ) (c : Cursor) (work′ : List ℕ) (r : Next) : Type 0 where
-  pub same : (p : ℕ) → read p ≡ said v b work′ (c .at) p r
-  pub found : (st : Step) → r ≡ N.Good st → Found v b work c work′ st
-  pub long : length work′ ≡ length work
-  pub past : drop 8192 work′ ≡ drop 8192 work
+pub record StepAnswered (read : ℕ → Read Entry) (v : ℕ) (b work : List ℕ) (c : Cursor) (work′ : List ℕ) (r : Next) : Type 0 where
+  pub same : (p : ℕ) → read p ≡ readOf v b work′ (c .at) p r
+  pub found : (st : Step) → r ≡ N.Good st → StepFound v b work c work′ st
+  pub frame : Frame work work′
   pub plain : eqb v 4 ≡ false → work′ ≡ work
 
--- what a function leaves behind that passes an entry, which was read before, without its tests: where read reads one, what Answered says;
+-- what a function leaves behind that passes an entry, which was read before, without its tests: where read reads one, what StepAnswered says;
 -- in any case a place in the body
-pub record Repeated (read : ℕ → Read Entry) (v : ℕ) (b work : List ℕ) (c : Cursor) (work′ : List ℕ) (r : Next) : Type 0 where
-  pub same : (p : ℕ) (e : Entry) (m : ℕ) → read p ≡ good e m → Answered read v b work c work′ r
+pub record StepRepeated (read : ℕ → Read Entry) (v : ℕ) (b work : List ℕ) (c : Cursor) (work′ : List ℕ) (r : Next) : Type 0 where
+  pub same : (p : ℕ) (e : Entry) (m : ℕ) → read p ≡ good e m → StepAnswered read v b work c work′ r
   pub inside : (st : Step) → r ≡ N.Good st → Inside b (st .next)
   pub common : (st : Step) → r ≡ N.Good st → st .common ≤ st .next .len
-  pub long : length work′ ≡ length work
-  pub past : drop 8192 work′ ≡ drop 8192 work
+  pub frame : Frame work work′
 
 -- the one or the other, whether the entry was read before or not
-pub record Tested (again : Bool) (read : ℕ → Read Entry) (v : ℕ) (b work : List ℕ) (c : Cursor) (work′ : List ℕ) (r : Next) : Type 0 where
-  pub first : again ≡ false → Answered read v b work c work′ r
-  pub later : Repeated read v b work c work′ r
+pub record StepTested (again : Bool) (read : ℕ → Read Entry) (v : ℕ) (b work : List ℕ) (c : Cursor) (work′ : List ℕ) (r : Next) : Type 0 where
+  pub first : again ≡ false → StepAnswered read v b work c work′ r
+  pub later : StepRepeated read v b work c work′ r
 
 -- what readEntry reads after the bytes h
 unfoldable pub readRest : ℕ → List ℕ → List ℕ → Cursor → Head → ℕ → Read Entry
 readRest v b work c h p = shift (h .length) (readTail 20 v (keyAt v b work c) p (h .length) (h .flags) (h .word) (drop (c .at) b))
 
 -- a step over the entry at a cursor
-abbrev pub Stepped : ℕ → List ℕ → List ℕ → Cursor → List ℕ → Next → Type 0
-Stepped v b work c work′ r = Answered (λ p. readEntry 20 v (keyAt v b work c) p (drop (c .at) b)) v b work c work′ r
+abbrev pub EntryStepped : ℕ → List ℕ → List ℕ → Cursor → List ℕ → Next → Type 0
+EntryStepped v b work c work′ r = StepAnswered (λ p. readEntry 20 v (keyAt v b work c) p (drop (c .at) b)) v b work c work′ r
 
 -- the same over an entry that was read before
-abbrev pub Passed : ℕ → List ℕ → List ℕ → Cursor → List ℕ → Next → Type 0
-Passed v b work c work′ r = Repeated (λ p. readEntry 20 v (keyAt v b work c) p (drop (c .at) b)) v b work c work′ r
+abbrev pub EntryPassed : ℕ → List ℕ → List ℕ → Cursor → List ℕ → Next → Type 0
+EntryPassed v b work c work′ r = StepRepeated (λ p. readEntry 20 v (keyAt v b work c) p (drop (c .at) b)) v b work c work′ r
 
 -- ---- the run
 
--- before the first entry stands the empty name
+-- before the first entry is the empty name
 abbrev pub firstCursor : Cursor
 firstCursor = cursorOf 12 0 0 0
 
 -- n entries of the body b, from a cursor on
 abbrev pub runFrom : ℕ → ℕ → List ℕ → List ℕ → Cursor → Read (List Entry)
 runFrom v n b work c = readEntries 20 v n (keyAt v b work c) (c .at) (drop (c .at) b)
+
+-- n entries of the body b after the key k, from a place on, were read: es, m bytes
+abbrev pub ReadAfter : ℕ → ℕ → List ℕ → Key → ℕ → List Entry → ℕ → Type 0
+ReadAfter v n b k at es m = readEntries 20 v n k at (drop at b) ≡ good es m
+
+-- from a cursor on
+abbrev pub RunRead : ℕ → ℕ → List ℕ → List ℕ → Cursor → List Entry → ℕ → Type 0
+RunRead v n b work c es m = ReadAfter v n b (keyAt v b work c) (c .at) es m
+
+-- from the first entry on
+abbrev pub EntriesRead : ℕ → ℕ → List ℕ → List Entry → ℕ → Type 0
+EntriesRead v count b es m = ReadAfter v count b start 12 es m
+
+-- count entries of the body b were read
+abbrev pub AllRead : ℕ → ℕ → List ℕ → Type 0
+AllRead v count b = (es : List Entry) × (m : ℕ) × EntriesRead v count b es m
+
+-- n entries, and perhaps more after them, were read from a cursor on
+pub record Readable (v n : ℕ) (b work : List ℕ) (c : Cursor) : Type 0 where
+  pub more : ℕ
+  pub entries : List Entry
+  pub taken : ℕ
+  pub run : RunRead v (n + more) b work c entries taken
 
 -- the answer as the code gives it
 abbrev pub runOf : Read (List Entry) → Run
@@ -184,11 +206,10 @@ endOf (R.Bad n p) = 0
 endOf (R.Good e) = e
 
 -- what the run of count entries leaves behind
-pub record Ran (v : ℕ) (b work : List ℕ) (count : ℕ) (work′ : List ℕ) (r : Run) : Type 0 where
+pub record RunAnswered (v : ℕ) (b work : List ℕ) (count : ℕ) (work′ : List ℕ) (r : Run) : Type 0 where
   pub same : r ≡ runOf (readEntries 20 v count start 12 (drop 12 b))
   pub inside : endOf r ≤ length b
-  pub long : length work′ ≡ length work
-  pub past : drop 8192 work′ ≡ drop 8192 work
+  pub frame : Frame work work′
 
 -- ---- entry number k
 
@@ -197,19 +218,17 @@ abbrev pub soughtIn : ℕ → List ℕ → List ℕ → Sought → Option Entry
 soughtIn v b work (S.Bad n p) = none
 soughtIn v b work (S.Good at st) = some (entryAt v b work at st)
 
--- where the parts of the entry at a place stand
-pub record Placed (b : List ℕ) (at : ℕ) (st : Step) : Type 0 where
+-- where the parts of the entry at a place are
+pub record EntryPlaced (b : List ℕ) (at : ℕ) (st : Step) : Type 0 where
   pub fixed : at + 62 ≤ length b
   pub name : st .next .start + st .next .len ≤ length b
   pub short : st .next .len ≤ 8192
   pub stage : st .next .stage ≡ st .flags / 4096 % 4
 
 -- of a body with more than k entries, entry k was found: its place and, in versions 2 and 3, that of its name
-pub record Reaches (v : ℕ) (b work : List ℕ) (k : ℕ) (work′ : List ℕ) (r : Sought) : Type 0 where
-  pub entry : (count : ℕ) (es : List Entry) (m : ℕ) → readEntries 20 v count start 12 (drop 12 b) ≡ good es m → k < count
-      → getElem? es k ≡ soughtIn v b work′ r
-  pub placed : (at : ℕ) (st : Step) → r ≡ S.Good at st → Placed b at st
+pub record SeekAnswered (v : ℕ) (b work : List ℕ) (k : ℕ) (work′ : List ℕ) (r : Sought) : Type 0 where
+  pub entry : (count : ℕ) (es : List Entry) (m : ℕ) → EntriesRead v count b es m → k < count → getElem? es k ≡ soughtIn v b work′ r
+  pub placed : (at : ℕ) (st : Step) → r ≡ S.Good at st → EntryPlaced b at st
   pub place : (at : ℕ) (st : Step) → r ≡ S.Good at st → at ≡ entryPlace 20 v k b
   pub name : (at : ℕ) (st : Step) → r ≡ S.Good at st → eqb v 4 ≡ false → st .next .start ≡ namePlace 20 at b
-  pub long : length work′ ≡ length work
-  pub past : drop 8192 work′ ≡ drop 8192 work
+  pub frame : Frame work work′

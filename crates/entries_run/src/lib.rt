@@ -6,14 +6,14 @@ ghost use Prim.Native.Nat.{ℕ, _+_, _-_, _≤_};
 ghost use lib.ListN.{length, take, drop};
 ghost use lib.Dec.{eqb};
 ghost use Rattle.format.specs.Reader.{readEntry};
-ghost use Rattle.entries_run.specs.Steps.{nameAt, keyAt, cursorOf, Stands, Rebuilt, Room, Inside, Headed, HeadRead, Numbered, Sound, Answered, Repeated, Tested, stepOf, readRest, Stepped, Passed, firstCursor, Ran, Reaches};
+ghost use Rattle.entries_run.specs.Steps.{nameAt, keyAt, cursorOf, StandingOf, NameRebuilt, Room, Inside, HeadAt, HeadRead, NumberAt, KnownBegun, StepAnswered, StepRepeated, StepTested, stepOf, readRest, EntryStepped, EntryPassed, firstCursor, RunAnswered, SeekAnswered};
 use entries::Fixed;
 use entries::Head;
 use entries::Number;
 use entries::Text;
 use format::Order;
 
-// The place of the next entry, and where the name of the one before stands, with its stage.
+// The place of the next entry, and where the name of the one before is, with its stage.
 pub struct Cursor {
     pub at: usize,
     pub start: usize,
@@ -54,7 +54,7 @@ pub struct Standing {
     pub common: usize,
 }
 
-// Before the first entry stands the empty name.
+// Before the first entry is the empty name.
 pub fn first() -> Cursor
     ensures { λ r. ⌜ r ≡ firstCursor ⌝ }
 {
@@ -80,7 +80,7 @@ pub fn name_at<'a>(b: &'a [u8], v: u32, work: &'a [u8], start: usize, len: usize
 
 // Whether a name of stage t may follow the previous one, of stage s, and how many bytes the two have in common.
 fn standing_of(previous: &[u8], name: &[u8], s: u32, t: u32) -> Standing
-    ensures { λ r. ⌜ Stands (now (previous .entry)) (now (name .entry)) s t r ⌝ }
+    ensures { λ r. ⌜ StandingOf (now (previous .entry)) (now (name .entry)) s t r ⌝ }
 {
     let n = fields::common(previous, name);
     let o = fields::order_after(previous, name, n);
@@ -100,7 +100,7 @@ fn standing_of(previous: &[u8], name: &[u8], s: u32, t: u32) -> Standing
     }
 }
 
-// The entry with the bytes h before its name, which has len bytes and stands at start; the next entry is at a place.
+// The entry with the bytes h before its name, which has len bytes and is at start; the next entry is at a place.
 fn step_of(h: Head, common: usize, at: usize, start: usize, len: usize) -> Step
     ensures { λ r. ⌜ r ≡ stepOf h common at start len ⌝ }
 {
@@ -121,7 +121,7 @@ fn step_of(h: Head, common: usize, at: usize, start: usize, len: usize) -> Step
 // In the name in the first p bytes of the workspace, the last n are replaced by suffix. The two names are compared before the copy.
 fn rebuild(work: &mut [u8], p: usize, n: usize, suffix: &[u8], s: u32, t: u32) -> Standing
     requires { ⌜ (n ≤ p) × (p ≤ 8192) × (p - n + length (now suffix) ≤ 8192) × (8192 ≤ length (now work)) ⌝ }
-    ensures { λ r. ⌜ Rebuilt (now (work .entry)) p n (now (suffix .entry)) s t (now (work .exit)) r ⌝ }
+    ensures { λ r. ⌜ NameRebuilt (now (work .entry)) p n (now (suffix .entry)) s t (now (work .exit)) r ⌝ }
 {
     let kept = p - n;
     let d = standing_of(&work[kept..p], suffix, s, t);
@@ -153,8 +153,8 @@ fn suffix(
     again: bool,
     known: bool,
 ) -> Next
-    requires { ⌜ Numbered (now b) (now work) c h n took × Sound known (take (c .len) (now work)) ⌝ }
-    ensures { λ r. ⌜ Tested again (readRest 4 (now (b .entry)) (now (work .entry)) c h) 4 (now (b .entry)) (now (work .entry)) c (now (work .exit)) r ⌝ }
+    requires { ⌜ NumberAt (now b) (now work) c h n took × KnownBegun known (take (c .len) (now work)) ⌝ }
+    ensures { λ r. ⌜ StepTested again (readRest 4 (now (b .entry)) (now (work .entry)) c h) 4 (now (b .entry)) (now (work .entry)) c (now (work .exit)) r ⌝ }
 {
     let at = c.at + h.length + took;
     let z = fields::find(b, at, 0);
@@ -185,8 +185,8 @@ fn suffix(
 
 // The rest of an entry of version 4 after the bytes h. One that was read before is not tested again.
 fn packed(b: &[u8], work: &mut [u8], c: Cursor, h: Head, again: bool, known: bool) -> Next
-    requires { ⌜ Headed (now b) c h × (8192 ≤ length (now work)) × Sound known (take (c .len) (now work)) ⌝ }
-    ensures { λ r. ⌜ Tested again (readRest 4 (now (b .entry)) (now (work .entry)) c h) 4 (now (b .entry)) (now (work .entry)) c (now (work .exit)) r ⌝ }
+    requires { ⌜ HeadAt (now b) c h × (8192 ≤ length (now work)) × KnownBegun known (take (c .len) (now work)) ⌝ }
+    ensures { λ r. ⌜ StepTested again (readRest 4 (now (b .entry)) (now (work .entry)) c h) 4 (now (b .entry)) (now (work .entry)) c (now (work .exit)) r ⌝ }
 {
     let m = entries::read_n(b, c.at + h.length, c.len);
     match m {
@@ -197,8 +197,8 @@ fn packed(b: &[u8], work: &mut [u8], c: Cursor, h: Head, again: bool, known: boo
 
 // The rest of an entry of version 2 or 3 after the bytes h.
 fn plain(b: &[u8], c: Cursor, h: Head, known: bool) -> Next
-    requires { ⌜ Headed (now b) c h × Sound known (take (c .len) (drop (c .start) (now b))) ⌝ }
-    ensures { λ r. ⌜ ((v : ℕ) (work : List ℕ) → eqb v 4 ≡ false → Answered (readRest v (now (b .entry)) work c h) v (now (b .entry)) work c work r) ⌝ }
+    requires { ⌜ HeadAt (now b) c h × KnownBegun known (take (c .len) (drop (c .start) (now b))) ⌝ }
+    ensures { λ r. ⌜ ((v : ℕ) (work : List ℕ) → eqb v 4 ≡ false → StepAnswered (readRest v (now (b .entry)) work c h) v (now (b .entry)) work c work r) ⌝ }
 {
     let at = c.at + h.length;
     let field = h.flags % 4096;
@@ -226,8 +226,8 @@ fn plain(b: &[u8], c: Cursor, h: Head, known: bool) -> Next
 
 // The same of an entry that was read before.
 fn pass_plain(b: &[u8], c: Cursor, h: Head) -> Next
-    requires { ⌜ Headed (now b) c h ⌝ }
-    ensures { λ r. ⌜ ((v : ℕ) (work : List ℕ) → eqb v 4 ≡ false → Repeated (readRest v (now (b .entry)) work c h) v (now (b .entry)) work c work r) ⌝ }
+    requires { ⌜ HeadAt (now b) c h ⌝ }
+    ensures { λ r. ⌜ ((v : ℕ) (work : List ℕ) → eqb v 4 ≡ false → StepRepeated (readRest v (now (b .entry)) work c h) v (now (b .entry)) work c work r) ⌝ }
 {
     let at = c.at + h.length;
     let t = entries::pass_plain(b, at, h.length, h.flags % 4096);
@@ -267,8 +267,8 @@ fn entry_at(
     again: bool,
     known: bool,
 ) -> Next
-    requires { ⌜ Inside (now b) (cursorOf at start len stage) × (8192 ≤ length (now work)) × Sound known (nameAt v (now b) (now work) start len) ⌝ }
-    ensures { λ r. ⌜ Tested again (λ p. readEntry 20 v (keyAt v (now (b .entry)) (now (work .entry)) (cursorOf at start len stage)) p (drop at (now (b .entry)))) v (now (b .entry)) (now (work .entry)) (cursorOf at start len stage) (now (work .exit)) r ⌝ }
+    requires { ⌜ Inside (now b) (cursorOf at start len stage) × (8192 ≤ length (now work)) × KnownBegun known (nameAt v (now b) (now work) start len) ⌝ }
+    ensures { λ r. ⌜ StepTested again (λ p. readEntry 20 v (keyAt v (now (b .entry)) (now (work .entry)) (cursorOf at start len stage)) p (drop at (now (b .entry)))) v (now (b .entry)) (now (work .entry)) (cursorOf at start len stage) (now (work .exit)) r ⌝ }
 {
     let f = head_at(b, at, v, again);
     match f {
@@ -294,7 +294,7 @@ fn entry_at(
 // The entry at a cursor.
 pub fn next_entry(b: &[u8], v: u32, work: &mut [u8], c: Cursor) -> Next
     requires { ⌜ Inside (now b) c × (8192 ≤ length (now work)) ⌝ }
-    ensures { λ r. ⌜ Stepped v (now (b .entry)) (now (work .entry)) c (now (work .exit)) r ⌝ }
+    ensures { λ r. ⌜ EntryStepped v (now (b .entry)) (now (work .entry)) c (now (work .exit)) r ⌝ }
 {
     entry_at(b, v, work, c.at, c.start, c.len, c.stage, false, false)
 }
@@ -302,7 +302,7 @@ pub fn next_entry(b: &[u8], v: u32, work: &mut [u8], c: Cursor) -> Next
 // The entry at a cursor, where one was read before.
 pub fn pass_entry(b: &[u8], v: u32, work: &mut [u8], c: Cursor) -> Next
     requires { ⌜ Inside (now b) c × (8192 ≤ length (now work)) ⌝ }
-    ensures { λ r. ⌜ Passed v (now (b .entry)) (now (work .entry)) c (now (work .exit)) r ⌝ }
+    ensures { λ r. ⌜ EntryPassed v (now (b .entry)) (now (work .entry)) c (now (work .exit)) r ⌝ }
 {
     entry_at(b, v, work, c.at, c.start, c.len, c.stage, true, false)
 }
@@ -310,7 +310,7 @@ pub fn pass_entry(b: &[u8], v: u32, work: &mut [u8], c: Cursor) -> Next
 // The run of entries of a body: count of them, from its 12th byte on.
 pub fn run_entries(b: &[u8], v: u32, work: &mut [u8], count: u32) -> Run
     requires { ⌜ Room (now b) (now work) ⌝ }
-    ensures { λ r. ⌜ Ran v (now (b .entry)) (now (work .entry)) count (now (work .exit)) r ⌝ }
+    ensures { λ r. ⌜ RunAnswered v (now (b .entry)) (now (work .entry)) count (now (work .exit)) r ⌝ }
 {
     let mut at: usize = 12;
     let mut start: usize = 0;
@@ -338,7 +338,7 @@ pub fn run_entries(b: &[u8], v: u32, work: &mut [u8], count: u32) -> Run
 // Entry number k of a body. Every entry before it is read: an entry's place and, in version 4, its name depend on them.
 pub fn seek_entry(b: &[u8], v: u32, work: &mut [u8], k: u32) -> Sought
     requires { ⌜ Room (now b) (now work) ⌝ }
-    ensures { λ r. ⌜ Reaches v (now (b .entry)) (now (work .entry)) k (now (work .exit)) r ⌝ }
+    ensures { λ r. ⌜ SeekAnswered v (now (b .entry)) (now (work .entry)) k (now (work .exit)) r ⌝ }
 {
     let mut c = first();
     let mut left = k;

@@ -24,7 +24,7 @@ use Rattle.output.proofs.Laws.{wrote-then}
 use Rattle.entries_run.specs.declared.Step.{Step}
 use Rattle.entries_run.specs.Steps.{nameAt, entryAt}
 use Rattle.entries_run.proofs.Steps.{entryAt-name}
-use Rattle.entries_write.specs.Parts.{Kept, NameWritten, EntryWritten, IsRead}
+use Rattle.entries_write.specs.Parts.{PrefixKept, NameWritten, EntryWritten, StepRead}
 
 -- ---- an entry that is spelled
 
@@ -71,17 +71,17 @@ unfolding fixedLength
 fixed-most true = omega arith
 fixed-most false = omega arith
 
-pub head-most : {v : ℕ} {b work : List ℕ} {from : ℕ} {st : Step} → IsRead v b work from st → st .head ≤ 64
+pub head-most : {v : ℕ} {b work : List ℕ} {from : ℕ} {st : Step} → StepRead v b work from st → st .head ≤ 64
 head-most {st = st} h = rw (h .head) (fixed-most (isSet 16384 (st .flags)))
 
 -- the place after the bytes before its name
-pub head-end : {v : ℕ} {b work : List ℕ} {from : ℕ} {st : Step} {out : List ℕ} {at : ℕ} {out′ : List ℕ} {q : ℕ} → IsRead v b work from st
+pub head-end : {v : ℕ} {b work : List ℕ} {from : ℕ} {st : Step} {out : List ℕ} {at : ℕ} {out′ : List ℕ} {q : ℕ} → StepRead v b work from st
     → Wrote out at (take (from + st .head - from) (drop from b)) out′ q → q ≡ at + st .head
 head-end {b = b} {from = from} {st = st} h x =
     let there : st .head ≤ length (drop from b) = rw (length-drop from b) (omega (arith, h .ahead, h .next .inside)) in
     x .end ∙ rw (add-sub-cancel-left, length-take-le (st .head) (drop from b) there)
 
-module _ {v : ℕ} {b work : List ℕ} {from : ℕ} {st : Step} (bytes : Bytes b) (h : IsRead v b work from st)
+module _ {v : ℕ} {b work : List ℕ} {from : ℕ} {st : Step} (bytes : Bytes b) (h : StepRead v b work from st)
     (same : (not (isSet 16384 (st .flags)) || (isSet 16384 (st .word) || isSet 8192 (st .word))) ≡ true) where
   abbrev s : List ℕ
   s = drop from b
@@ -142,7 +142,7 @@ module _ {v : ℕ} {b work : List ℕ} {from : ℕ} {st : Step} (bytes : Bytes b
       omega (arith, head-most h)
 
   module _ (name : List ℕ) (named : name ≡ nameAt v b work (st .next .start) (st .next .len)) {version previous kept : ℕ} {out : List ℕ} {at : ℕ}
-      (short : Kept name previous kept) where
+      (short : PrefixKept name previous kept) where
     pub plain-copied : {out′ : List ℕ} {r : ℕ} → eqb v 4 ≡ false → eqb version 4 ≡ false → Wrote out at (take m s) out′ r → EntryWritten out at version e previous kept out′ r
     plain-copied old new x =
         record {

@@ -12,7 +12,7 @@ use Rattle.format.specs.Writer.{writePlain, writePacked, writeName}
 use Rattle.spelling.proofs.Bytes.{putN-one, putN-two}
 use Rattle.output.specs.Output.{Wrote}
 use Rattle.output.proofs.Laws.{wrote-then}
-use Rattle.entries_write.specs.Parts.{Kept, NameWritten}
+use Rattle.entries_write.specs.Parts.{PrefixKept, NameWritten}
 
 -- ---- the number N
 
@@ -41,7 +41,7 @@ plain-wrote out name out′ out″ at f all p r is padded short x y =
     (rw (sym is) (wrote-then out name pad out′ out″ at p r x y), omega arith)
 
 pub packed-wrote :
-    (out out′ out″ out‴ name : List ℕ) (at previous kept p q r : ℕ) → Kept name previous kept →
+    (out out′ out″ out‴ name : List ℕ) (at previous kept p q r : ℕ) → PrefixKept name previous kept →
     Wrote out at (putN (previous - kept)) out′ p × (p ≤ at + 2) → Wrote out′ p (take (length name - kept) (drop kept name)) out″ q → Wrote out″ q (0 ∷ []) out‴ r →
     NameWritten out at name previous kept (λ s. writePacked s name) out‴ r
 unfolding writePacked

@@ -7,29 +7,28 @@ use native.Mathlib.Omega.{arith}
 use lib.ListN.{length, take, drop, length-append}
 use lib.Seq.{take-at, drop-at}
 use Rattle.format.specs.Records.{Entry}
-use Rattle.format.specs.Reading.{good}
 use Rattle.format.specs.Reader.{isSet, entryOf}
 use Rattle.format.specs.Writer.{needsWord, writeEntry, writeEntries}
 use Rattle.format.specs.Requests.{anyWord}
-use Rattle.format_laws.proofs.Readings.{bad-good, front-inv}
+use Rattle.format_laws.proofs.Readings.{front-inv}
+use Rattle.fields.specs.Workspace.{Frame}
+use Rattle.fields.proofs.Workspace.{frame-same, frame-then}
 use Rattle.output.specs.Output.{Wrote}
 use Rattle.output.proofs.Laws.{wrote-nothing, wrote-then}
 use Rattle.entries_run.specs.declared.Cursor.{Cursor}
 use Rattle.entries_run.specs.declared.Step.{Step}
-use Rattle.entries_run.specs.declared.Next.{Next}
 use Rattle.entries_run.specs.declared.Next.the-variants as N
-use Rattle.entries_run.specs.Steps as Steps
-use Rattle.entries_run.specs.Steps.{keyAt, entryAt, Inside, Stepped, runFrom}
-use Rattle.entries_run.proofs.Steps.{entries-bad, entries-good}
-use Rattle.entries_write.specs.Parts.{EntryWritten, Readable, lastName, EntriesWritten}
+use Rattle.entries_run.specs.Steps.{keyAt, entryAt, Inside, EntryStepped, RunRead, Readable}
+use Rattle.entries_run.proofs.Steps.{entries-good}
+use Rattle.entries_write.specs.Parts.{EntryWritten, lastName, EntriesWritten}
 use Rattle.entries_write.proofs.Lists.{entries-append, entries-one, anyWord-append, anyWord-one, lastName-append, lastName-one}
-use Rattle.entries_write.proofs.Stepping.{readable-again, step-found, step-name, step-beside}
+use Rattle.entries_write.proofs.Stepping.{step-found, step-name, step-beside}
 
 -- of the entries all, those after es are left at a cursor, k of them
-pub record Left (v : ℕ) (b work : List ℕ) (c : Cursor) (k : ℕ) (es all : List Entry) : Type 0 where
+pub record EntriesLeft (v : ℕ) (b work : List ℕ) (c : Cursor) (k : ℕ) (es all : List Entry) : Type 0 where
   pub after : List Entry
   pub taken : ℕ
-  pub run : runFrom v k b work c ≡ good after taken
+  pub run : RunRead v k b work c after taken
   pub parts : all ≡ es ++ after
 
 -- the entries es of n were written, from the cursor c₀ on, and the others are left
@@ -43,9 +42,8 @@ pub record Writing
   pub last : keyAt v b work c .name ≡ lastName (keyAt v b work₀ c₀ .name) es
   pub inside : Inside b c
   pub near : end ≤ at + length es * 8264
-  pub long : length work ≡ length work₀
-  pub past : drop 8192 work ≡ drop 8192 work₀
-  pub whole : (j : ℕ) (all : List Entry) (m : ℕ) → runFrom v (n + j) b work₀ c₀ ≡ good all m → Left v b work c (left + j) es all
+  pub frame : Frame work₀ work
+  pub whole : (j : ℕ) (all : List Entry) (m : ℕ) → RunRead v (n + j) b work₀ c₀ all m → EntriesLeft v b work c (left + j) es all
 
 pub writing-start : (v : ℕ) (b work : List ℕ) (c : Cursor) (n version : ℕ) (out : List ℕ) (at : ℕ) → Inside b c
     → Writing v b work c n version out at work out c at false n
@@ -59,8 +57,7 @@ writing-start v b work c n version out at h =
       last = refl;
       inside = h;
       near = omega arith;
-      long = refl;
-      past = refl;
+      frame = frame-same work;
       whole = λ j all m e. record { after = all; taken = m; run = e; parts = refl };
     }
 
@@ -82,39 +79,18 @@ module _ {v : ℕ} {b work₀ : List ℕ} {c₀ : Cursor} {n version : ℕ} {out
             (front, back)
             (record { wrote = h .wrote; extended = h .any; last = h .last; taken = l .taken; left = rw here at (l .run) });
         inside = h .inside;
-        near = omega arith;
-        long = h .long;
-        past = h .past;
-        out-long = h .wrote .long;
+        bounds = record { near = omega arith; frame = h .frame; out-long = h .wrote .long };
       }
 
+  -- where all were read, those that are left were
+  pub writing-left : Readable v n b work₀ c₀ → Readable v left b work c
+  writing-left before =
+      let l = h .whole (before .more) (before .entries) (before .taken) (before .run) in
+      record { more = before .more; entries = l .after; taken = l .taken; run = l .run }
+
   module _ (more : 0 < left) {work′ : List ℕ} where
-    -- what was read before is read again
-    pub writing-again : (r : Next) → Readable v n b work₀ c₀ → Steps.Passed v b work c work′ r → Stepped v b work c work′ r
-    writing-again r before t =
-        let l = h .whole (before .more) (before .entries) (before .taken) (before .run) in
-        let here : Readable v left b work c = record { more = before .more; entries = l .after; taken = l .taken; run = l .run } in
-        readable-again here more r t
-
-    -- the next one is refused
-    pub writing-bad : {k : ℕ} → Stepped v b work c work′ (N.Bad k)
-        → EntriesWritten v b work₀ c₀ n version out₀ at work′ out (record { cursor = c; at = end; extended = extended })
-    writing-bad {k} t =
-        let sum = h .count in
-        let near = h .near in
-        record {
-          passed = λ j all m e.
-              let l = h .whole j all m e in
-              bad-good _ _ _ _ (sym (entries-bad v b work c work′ (left + j) (omega arith) k t) ∙ l .run);
-          inside = h .inside;
-          near = omega arith;
-          long = t .long ∙ h .long;
-          past = t .past ∙ h .past;
-          out-long = h .wrote .long;
-        }
-
     -- the next one is read
-    module _ {st : Step} (t : Stepped v b work c work′ (N.Good st)) (room : 8192 ≤ length work) where
+    module _ {st : Step} (t : EntryStepped v b work c work′ (N.Good st)) (room : 8192 ≤ length work) where
       abbrev entry : Entry
       entry = entryAt v b work′ (c .at) st
 
@@ -137,7 +113,7 @@ module _ {v : ℕ} {b work₀ : List ℕ} {c₀ : Cursor} {n version : ℕ} {out
         last-more : keyAt v b work′ (st .next) .name ≡ lastName (keyAt v b work₀ c₀ .name) (h .es ++ (entry ∷ []))
         last-more = rw (lastName-append (keyAt v b work₀ c₀ .name) (h .es) (entry ∷ []), lastName-one) (sym (step-name t))
 
-        whole-more : (j : ℕ) (all : List Entry) (m : ℕ) → runFrom v (n + j) b work₀ c₀ ≡ good all m → Left v b work′ (st .next) (left - 1 + j) (h .es ++ (entry ∷ [])) all
+        whole-more : (j : ℕ) (all : List Entry) (m : ℕ) → RunRead v (n + j) b work₀ c₀ all m → EntriesLeft v b work′ (st .next) (left - 1 + j) (h .es ++ (entry ∷ [])) all
         whole-more j all m e =
             let l = h .whole j all m e in
             let k : left + j - 1 ≡ left - 1 + j = omega arith in
@@ -160,7 +136,6 @@ module _ {v : ℕ} {b work₀ : List ℕ} {c₀ : Cursor} {n version : ℕ} {out
               last = last-more;
               inside = step-found t .next;
               near = omega arith;
-              long = t .long ∙ h .long;
-              past = t .past ∙ h .past;
+              frame = frame-then (h .frame) (t .frame);
               whole = whole-more;
             }

@@ -1,45 +1,27 @@
--- Laws of one step: over an entry that was read before, where its entry stands, its name and the one before.
-use mathlib.Core.Path.{_≡_, refl, sym, _∙_}
+-- Laws of one step: where its entry is, its name and the one before.
+use mathlib.Core.Path.{_≡_, refl, sym}
 use mathlib.Core.List.{List}
-use Prim.Native.Nat.{ℕ, _+_, _-_, _≤_, _<_}
+use Prim.Native.Nat.{ℕ, _-_, _≤_}
 use native.Mathlib.Omega.{arith}
 use lib.ListN.{length}
 use Rattle.format.specs.Records.{Entry}
 use Rattle.format_laws.proofs.Names.{common-le}
-use Rattle.format_laws.proofs.Readings.{front-inv}
 use Rattle.entries_run.specs.declared.Cursor.{Cursor}
 use Rattle.entries_run.specs.declared.Step.{Step}
-use Rattle.entries_run.specs.declared.Next.{Next}
 use Rattle.entries_run.specs.declared.Next.the-variants as N
-use Rattle.entries_run.specs.Steps.{nameAt, keyAt, entryAt, Inside, Found, Stepped, Passed}
+use Rattle.entries_run.specs.Steps.{nameAt, keyAt, entryAt, Inside, StepFound, EntryStepped}
 use Rattle.entries_run.proofs.Names.{nameAt-length}
-use Rattle.entries_run.proofs.Steps.{entries-good, entries-again, entryAt-name}
-use Rattle.entries_write.specs.Parts.{Kept, Beside, IsRead, Readable}
+use Rattle.entries_run.proofs.Steps.{entryAt-name}
+use Rattle.entries_write.specs.Parts.{PrefixKept, Beside, StepRead}
 
--- ---- entries that were read before
-
-module _ {v n : ℕ} {b work : List ℕ} {c : Cursor} {work′ : List ℕ} (h : Readable v n b work c) (more : 0 < n) where
-  -- a step without tests is one with them
-  pub readable-again : (r : Next) → Passed v b work c work′ r → Stepped v b work c work′ r
-  readable-again r t = entries-again v b work c work′ (n + h .more) (omega arith) (h .entries) (h .taken) r (h .run) t (λ u. u)
-
-  -- and the others after it were read too
-  pub readable-next : {st : Step} → Stepped v b work c work′ (N.Good st) → Readable v (n - 1) b work′ (st .next)
-  readable-next {st} t =
-      let less : n + h .more - 1 ≡ n - 1 + h .more = omega arith in
-      front-inv _ _ _ _ _ (sym (entries-good v b work c work′ (n + h .more) (omega arith) st t) ∙ h .run) λ gs k on parts sum.
-      record { more = h .more; entries = gs; taken = k; run = rw less at on }
-
--- ---- one step
-
-module _ {v : ℕ} {b work : List ℕ} {c : Cursor} {work′ : List ℕ} {st : Step} (t : Stepped v b work c work′ (N.Good st)) where
+module _ {v : ℕ} {b work : List ℕ} {c : Cursor} {work′ : List ℕ} {st : Step} (t : EntryStepped v b work c work′ (N.Good st)) where
   abbrev entry : Entry
   entry = entryAt v b work′ (c .at) st
 
-  pub step-found : Found v b work c work′ st
+  pub step-found : StepFound v b work c work′ st
   step-found = t .found st refl
 
-  pub step-read : IsRead v b work′ (c .at) st
+  pub step-read : StepRead v b work′ (c .at) st
   step-read =
       let f = step-found in
       record {
@@ -57,15 +39,15 @@ module _ {v : ℕ} {b work : List ℕ} {c : Cursor} {work′ : List ℕ} {st : S
 
   module _ (room : 8192 ≤ length work) where
     pub step-room : 8192 ≤ length work′
-    step-room = let long = t .long in omega arith
+    step-room = omega (arith, t .frame)
 
-    -- after a name of so many bytes, of which its name keeps the first
+    -- after a name of previous bytes, of which its name keeps the first kept
     pub step-keeps : (previous kept : ℕ) → previous ≤ 8192 → kept ≤ previous → kept ≤ length (entry .name)
-        → Kept (nameAt v b work′ (st .next .start) (st .next .len)) previous kept
+        → PrefixKept (nameAt v b work′ (st .next .start) (st .next .len)) previous kept
     step-keeps previous kept short fits within =
         let size : length (entry .name) ≡ st .next .len = rw step-name (nameAt-length v b work′ (st .next) (step-found .next) step-room) in
         let most = step-found .next .short in
-        let keeps : Kept (entry .name) previous kept = record { short = omega arith; before-short = short; fits = fits; within = within } in
+        let keeps : PrefixKept (entry .name) previous kept = record { short = omega arith; before-short = short; fits = fits; within = within } in
         rw step-name at keeps
 
     -- after the name before the cursor
@@ -80,5 +62,5 @@ module _ {v : ℕ} {b work : List ℕ} {c : Cursor} {work′ : List ℕ} {st : S
           let shared = step-beside .shared in
           (omega arith, omega arith)
 
-      pub step-kept : Kept (nameAt v b work′ (st .next .start) (st .next .len)) (c .len) (st .common)
+      pub step-kept : PrefixKept (nameAt v b work′ (st .next .start) (st .next .len)) (c .len) (st .common)
       step-kept = let (fits, within) = step-common in step-keeps (c .len) (st .common) (inside .short) fits within

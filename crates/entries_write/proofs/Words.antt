@@ -19,7 +19,7 @@ use Rattle.spelling.proofs.Flags.{bit-isSet}
 use Rattle.output.specs.Output.{Wrote}
 use Rattle.output.proofs.Laws.{wrote-then}
 use Rattle.entries_run.specs.Steps.{nameAt}
-use Rattle.entries_write.specs.Parts.{Told, NameWritten, RestWritten, entryBy, EntryWritten}
+use Rattle.entries_write.specs.Parts.{EntryParts, NameWritten, RestWritten, entryBy, EntryWritten}
 
 -- ---- the extended word is there where it is not zero
 
@@ -33,17 +33,17 @@ word-or true t h = refl
 word-or false true h = refl
 word-or false false h = absurd (h refl)
 
-pub needs-none : (e : Entry) → wordOf e ≡ 0 → needsWord e ≡ false
+needs-none : (e : Entry) → wordOf e ≡ 0 → needsWord e ≡ false
 unfolding wordOf needsWord
 needs-none e h = word-by (e .skipWorktree) (e .intentToAdd) h
 
-pub needs-one : (e : Entry) → (wordOf e ≡ 0 → ⊥) → needsWord e ≡ true
+needs-one : (e : Entry) → (wordOf e ≡ 0 → ⊥) → needsWord e ≡ true
 unfolding wordOf needsWord
 needs-one e h = word-or (e .skipWorktree) (e .intentToAdd) h
 
 -- ---- what follows the object name
 
-module _ (e : Entry) (base word : ℕ) (name : List ℕ) (told : Told e base word name) where
+module _ (e : Entry) (base word : ℕ) (name : List ℕ) (told : EntryParts e base word name) where
   flags-without : flagsOf false e ≡ base + lengthField (length name)
   unfolding flagsOf
   flags-without = let is = told .flags in rw (told .name-is) (omega arith)
@@ -93,7 +93,7 @@ fixed-bytes : (s : List ℕ) → Bytes s → 60 ≤ length s → take 60 s ≡ p
 fixed-bytes s bytes long = take-add 40 20 s ∙ rw (put32s-be32s s 0 10 bytes (omega arith)) refl
 
 entry-told : (v : ℕ) (b work : List ℕ) (from flags word start len : ℕ) (name : List ℕ) → name ≡ nameAt v b work start len
-    → Told (entryBy v b work from flags word start len) (flags / 32768 % 2 * 32768 + flags / 4096 % 4 * 4096) (word / 8192 % 4 * 8192) name
+    → EntryParts (entryBy v b work from flags word start len) (flags / 32768 % 2 * 32768 + flags / 4096 % 4 * 4096) (word / 8192 % 4 * 8192) name
 unfolding entryOf wordOf
 entry-told v b work from flags word start len name is =
     record {

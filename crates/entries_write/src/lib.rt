@@ -7,13 +7,13 @@ ghost use Rattle.format.specs.Bytes.{putN};
 ghost use Rattle.format.specs.Reader.{isSet};
 ghost use Rattle.format.specs.Writer.{writePlain, writePacked, writeName};
 ghost use Rattle.output.specs.Output.{Wrote};
-ghost use Rattle.entries_run.specs.Steps.{nameAt, entryAt, Inside};
-ghost use Rattle.entries_write.specs.Parts.{Kept, NameWritten, RestWritten, entryBy, EntryWritten, IsRead, Readable, EntriesWritten};
+ghost use Rattle.entries_run.specs.Steps.{nameAt, entryAt, Inside, Readable};
+ghost use Rattle.entries_write.specs.Parts.{PrefixKept, NameWritten, RestWritten, entryBy, EntryWritten, StepRead, EntriesWritten};
 use entries_run::Cursor;
 use entries_run::Next;
 use entries_run::Step;
 
-// Where writing stands: the cursor in the body, the place in the output, and whether an entry so far needs the extended word.
+// How far writing is: the cursor in the body, the place in the output, and whether an entry so far needs the extended word.
 pub struct Progress {
     pub cursor: Cursor,
     pub at: usize,
@@ -43,13 +43,13 @@ pub fn put_plain(out: &mut [u8], at: usize, f: usize, name: &[u8]) -> usize
     output::put_nuls(out, end, all - (f + n))
 }
 
-// A name of version 4, after one of so many bytes, of which it keeps the first.
+// A name of version 4, after one of previous bytes, of which it keeps the first kept.
 pub fn put_packed(out: &mut [u8], at: usize, previous: usize, kept: usize, name: &[u8]) -> usize
-    requires { ⌜ (at + 8200 ≤ 1125899906842624) × Kept (now name) previous kept ⌝ }
+    requires { ⌜ (at + 8200 ≤ 1125899906842624) × PrefixKept (now name) previous kept ⌝ }
     ensures { λ r. ⌜ NameWritten (now (out .entry)) at (now (name .entry)) previous kept (λ p. writePacked p (now (name .entry))) (now (out .exit)) r ⌝ }
 {
     let middle = put_number(&mut *out, at, previous - kept);
-    let end = output::put_bytes(&mut *out, middle, &name[kept..]);
+    let end = output::put_part(&mut *out, middle, name, kept, name.len());
     output::put_byte(out, end, 0)
 }
 
@@ -63,7 +63,7 @@ fn put_name(
     previous: usize,
     kept: usize,
 ) -> usize
-    requires { ⌜ (at + 8200 ≤ 1125899906842624) × (f ≤ 64) × Kept (now name) previous kept ⌝ }
+    requires { ⌜ (at + 8200 ≤ 1125899906842624) × (f ≤ 64) × PrefixKept (now name) previous kept ⌝ }
     ensures { λ r. ⌜ NameWritten (now (out .entry)) at (now (name .entry)) previous kept (λ p. writeName version f p (now (name .entry))) (now (out .exit)) r ⌝ }
 {
     if version == 4 {
@@ -83,7 +83,7 @@ pub fn put_rest(
     previous: usize,
     kept: usize,
 ) -> usize
-    requires { ⌜ (at + 8204 ≤ 1125899906842624) × (base < 65536) × Kept (now name) previous kept ⌝ }
+    requires { ⌜ (at + 8204 ≤ 1125899906842624) × (base < 65536) × PrefixKept (now name) previous kept ⌝ }
     ensures { λ r. ⌜ RestWritten (now (out .entry)) at version base word (now (name .entry)) previous kept (now (out .exit)) r ⌝ }
 {
     let flags = base + fields::length_field(name.len());
@@ -96,7 +96,7 @@ pub fn put_rest(
     put_name(out, end, version, 64, name, previous, kept)
 }
 
-// The entry at a place of the body with these flags and this extended word, or 0, whose name has len bytes and stands at start. Only its first 60
+// The entry at a place of the body with these flags and this extended word, or 0, whose name has len bytes and is at start. Only its first 60
 // bytes are copied. Numbers are handed on here, and not a Step: a struct by value goes through memory.
 pub fn put_step<'a>(
     b: &'a [u8],
@@ -113,11 +113,10 @@ pub fn put_step<'a>(
     out: &mut [u8],
     at: usize,
 ) -> usize
-    requires { ⌜ (at + 8264 ≤ 1125899906842624) × (from + 62 ≤ length (now b)) × (start + len ≤ length (now b)) × (len ≤ 8192) × (8192 ≤ length (now work)) × Kept (nameAt v (now b) (now work) start len) previous kept ⌝ }
+    requires { ⌜ (at + 8264 ≤ 1125899906842624) × (from + 62 ≤ length (now b)) × (start + len ≤ length (now b)) × (len ≤ 8192) × (8192 ≤ length (now work)) × PrefixKept (nameAt v (now b) (now work) start len) previous kept ⌝ }
     ensures { λ r. ⌜ EntryWritten (now (out .entry)) at version (entryBy v (now (b .entry)) (now (work .entry)) from flags word start len) previous kept (now (out .exit)) r ⌝ }
 {
-    let fixed = from + 60;
-    let middle = output::put_bytes(&mut *out, at, &b[from..fixed]);
+    let middle = output::put_part(&mut *out, at, b, from, from + 60);
     let base = flags / 32768 % 2 * 32768 + flags / 4096 % 4 * 4096;
     let needed = word / 8192 % 4 * 8192;
     let name = entries_run::name_at(b, v, work, start, len);
@@ -160,18 +159,16 @@ fn put_read<'a>(
     out: &mut [u8],
     at: usize,
 ) -> usize
-    requires { ⌜ (at + 8264 ≤ 1125899906842624) × IsRead v (now b) (now work) from st × (8192 ≤ length (now work)) × Kept (nameAt v (now b) (now work) (st .next .start) (st .next .len)) previous kept ⌝ }
+    requires { ⌜ (at + 8264 ≤ 1125899906842624) × StepRead v (now b) (now work) from st × (8192 ≤ length (now work)) × PrefixKept (nameAt v (now b) (now work) (st .next .start) (st .next .len)) previous kept ⌝ }
     ensures { λ r. ⌜ EntryWritten (now (out .entry)) at version (entryAt v (now (b .entry)) (now (work .entry)) from st) previous kept (now (out .exit)) r ⌝ }
 {
     let start = st.next.start;
     let len = st.next.len;
     if stays(st.flags, st.word) {
         if (v != 4) & (version != 4) {
-            let end = st.next.at;
-            return output::put_bytes(out, at, &b[from..end]);
+            return output::put_part(out, at, b, from, st.next.at);
         }
-        let end = from + st.head;
-        let middle = output::put_bytes(&mut *out, at, &b[from..end]);
+        let middle = output::put_part(&mut *out, at, b, from, from + st.head);
         let name = entries_run::name_at(b, v, work, start, len);
         return put_name(out, middle, version, st.head, name, previous, kept);
     }

@@ -19,7 +19,7 @@ use Rattle.extensions.specs.declared.Found.{Found}
 use Rattle.extensions.specs.declared.One.{One}
 use Rattle.extensions.specs.declared.One.the-variants as O
 use Rattle.extensions.specs.Heads.{part, undosIn, known, Inside}
-use Rattle.extensions.specs.Steps.{Answered}
+use Rattle.extensions.specs.Steps.{OneAnswered}
 use Rattle.extensions.proofs.Faults.{Faults, undos-faults}
 
 module _ {A : Type 0} (p : ℕ) (x : Read A) (kind : A → Extension) where
@@ -37,7 +37,7 @@ module _ {A : Type 0} (p : ℕ) (x : Read A) (kind : A → Extension) where
     known-good a m e = rw (new, e) (same-size (omega arith))
 
 -- what is answered of a reading is answered of one that is equal to it
-pub answered-as : (b : List ℕ) (at : ℕ) (found : Found) {x y : Read Extension} (r : One) → x ≡ y → Answered b at found y r → Answered b at found x r
+pub answered-as : (b : List ℕ) (at : ℕ) (found : Found) {x y : Read Extension} (r : One) → x ≡ y → OneAnswered b at found y r → OneAnswered b at found x r
 answered-as b at found r e h = rw e h
 
 -- the data that end by their size
@@ -63,7 +63,7 @@ module _ (b : List ℕ) (at end : ℕ) (inside : Inside b at end) (found : Found
   undo-refused e = known-bad at _ resolveUndo _ new 17 (records-fault at _ (undos-faults 20 at _ [] (part b (at + 8) end)) e)
 
   pub undo-added : (count : ℕ) → S.Good count ≡ recordsRead (undosIn at (part b (at + 8) end))
-      → Answered b at found (known (found .undo .there) at (undosIn at (part b (at + 8) end)) resolveUndo)
+      → OneAnswered b at found (known (found .undo .there) at (undosIn at (part b (at + 8) end)) resolveUndo)
       (O.Good end (record { tree = found .tree; undo = record { there = true; at = at + 8; end = end; records = count } }))
   undo-added count e =
       let d : List ℕ = part b (at + 8) end in

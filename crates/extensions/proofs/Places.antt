@@ -1,4 +1,4 @@
--- Where the data of the first extension with the signature x stand: what a loop over the extensions knows of it.
+-- Where the data of the first extension with the signature x are: what a loop over the extensions knows of it.
 use mathlib.Core.Path.{_≡_, sym, _∙_}
 use mathlib.Core.List.{List}
 use mathlib.Core.Bool.{Bool, true, false, cond}
@@ -11,7 +11,7 @@ use Rattle.format.specs.Places.{dataFrom, dataPlace}
 use Rattle.format_laws.proofs.Numbers.{be32-drop}
 use Rattle.extensions.specs.Heads.{Inside}
 
--- some extensions, from at to place, have been passed; where one with the signature is among them, its data stand at d
+-- some extensions, from at to place, have been passed; where one with the signature is among them, its data are at d
 pub record Seeks (x b : List ℕ) (at place : ℕ) (there : Bool) (d : ℕ) : Type 0 where
   pub passed : ℕ
   pub few : at + passed ≤ place

@@ -1,4 +1,4 @@
--- The extensions one after another: those that have been read stand in front of the rest.
+-- The extensions one after another: those that have been read are in front of the rest.
 use mathlib.Core.Path.{_≡_, refl, sym, ap, _∙_}
 use mathlib.Core.List.{List, [], _∷_, _++_, append-nil}
 use mathlib.Core.Bool.{false}

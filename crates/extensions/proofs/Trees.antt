@@ -19,7 +19,7 @@ use Rattle.cache_tree.proofs.Faults.{shape-placed, tree-fault}
 use Rattle.extensions.specs.declared.Found.{Found}
 use Rattle.extensions.specs.declared.One.the-variants as O
 use Rattle.extensions.specs.Heads.{part, known, Inside}
-use Rattle.extensions.specs.Steps.{Answered}
+use Rattle.extensions.specs.Steps.{OneAnswered}
 use Rattle.extensions.proofs.Known.{known-bad, known-good, data-sized}
 
 -- what the data have been tested for
@@ -68,7 +68,7 @@ module _ (b : List ℕ) (at end : ℕ) (inside : Inside b at end) (found : Found
         known-bad at _ cacheTree _ new 16 (tree-read ns at d t m q ∙ rw miscounts)
 
     pub tree-added : counted ≡ true
-        → Answered b at found (known (found .tree .there) at (readTree 20 ns at (part b (at + 8) end)) cacheTree)
+        → OneAnswered b at found (known (found .tree .there) at (readTree 20 ns at (part b (at + 8) end)) cacheTree)
         (O.Good end (record { tree = record { there = true; at = at + 8; end = end; nodes = n }; undo = found .undo }))
     unfolding shift need
     tree-added right =

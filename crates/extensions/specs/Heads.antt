@@ -31,7 +31,7 @@ told ns k b at (H.Tree e) = known (k .cacheTree) at (readTree 20 ns at (part b (
 told ns k b at (H.Undo e) = known (k .resolveUndo) at (undosIn at (part b (at + 8) e)) resolveUndo
 told ns k b at (H.Other e) = good (other (take 4 (drop at b)) (part b (at + 8) e)) (e - at)
 
--- the data of the extension at a place end at e, by the size that stands before them, and in the body
+-- the data of the extension at a place end at e, by the size before them, and in the body
 abbrev pub Inside : List ℕ → ℕ → ℕ → Type 0
 Inside b at e = (e ≡ at + 8 + be32 b (at + 4)) × (e ≤ length b)
 

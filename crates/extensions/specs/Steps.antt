@@ -4,11 +4,13 @@ use mathlib.Core.List.{List}
 use mathlib.Core.Bool.{true, false}
 use Prim.Native.Nat.{ℕ, _+_, _-_}
 use lib.ListN.{length, drop}
-use Rattle.format.specs.Records.{Entry, start}
+use Rattle.format.specs.Records.{Entry}
 use Rattle.format.specs.Layout.{Extension, cacheTree, resolveUndo, other, TREE, REUC, trees, undos, names}
 use Rattle.format.specs.Reading.{Read, bad, good}
-use Rattle.format.specs.Reader.{noneSeen, readEntries, readExtensions, first}
+use Rattle.format.specs.Reader.{noneSeen, readExtensions, first}
 use Rattle.format.specs.Places.{dataPlace}
+use Rattle.fields.specs.Workspace.{Frame}
+use Rattle.entries_run.specs.Steps.{EntriesRead}
 use Rattle.extensions.specs.declared.Extended.{Extended}
 use Rattle.extensions.specs.declared.Extended.the-variants as E
 use Rattle.extensions.specs.declared.Found.{Found}
@@ -26,9 +28,9 @@ Added b at found f (resolveUndo us) = (found .undo .there ≡ false) × UndoIs b
 Added b at found f (other s d) = f ≡ found
 
 -- the reading x of the extension at a place, answered
-abbrev pub Answered : List ℕ → ℕ → Found → Read Extension → One → Type 0
-Answered b at found x (O.Bad n) = x ≡ bad n at
-Answered b at found x (O.Good next f) = (e : Extension) × (x ≡ good e (next - at)) × Added b at found f e
+abbrev pub OneAnswered : List ℕ → ℕ → Found → Read Extension → One → Type 0
+OneAnswered b at found x (O.Bad n) = x ≡ bad n at
+OneAnswered b at found x (O.Good next f) = (e : Extension) × (x ≡ good e (next - at)) × Added b at found f e
 
 -- the place after it is in the body
 abbrev pub OneInside : List ℕ → ℕ → One → Type 0
@@ -36,15 +38,14 @@ OneInside b at (O.Bad n) = Unit
 OneInside b at (O.Good next f) = Inside b at next
 
 -- what a function leaves behind that reads the extension at a place as read does of the entries' names
-pub record Passed (read : List (List ℕ) → Read Extension) (v count : ℕ) (b work : List ℕ) (at : ℕ) (found : Found) (work′ : List ℕ) (r : One) : Type 0 where
-  pub answered : (es : List Entry) (m : ℕ) → readEntries 20 v count start 12 (drop 12 b) ≡ good es m → Answered b at found (read (names es)) r
+pub record ExtensionPassed (read : List (List ℕ) → Read Extension) (v count : ℕ) (b work : List ℕ) (at : ℕ) (found : Found) (work′ : List ℕ) (r : One) : Type 0 where
+  pub answered : (es : List Entry) (m : ℕ) → EntriesRead v count b es m → OneAnswered b at found (read (names es)) r
   pub inside : OneInside b at r
-  pub long : length work′ ≡ length work
-  pub past : drop 8192 work′ ≡ drop 8192 work
+  pub frame : Frame work work′
 
 -- ---- all extensions
 
--- the list was read from a place to the end of the body; what was found stands in the first extension with its signature
+-- the list was read from a place to the end of the body; what was found is in the first extension with its signature
 pub record Whole (b : List ℕ) (at : ℕ) (x : Read (List Extension)) (f : Found) : Type 0 where
   pub list : List Extension
   pub reads : x ≡ good list (length b - at)
@@ -58,8 +59,7 @@ AllAnswered b at x (E.Bad n p) = x ≡ bad n p
 AllAnswered b at x (E.Good f) = Whole b at x f
 
 -- what the reading of all extensions from a place on leaves behind
-pub record Ran (v count : ℕ) (b work : List ℕ) (at : ℕ) (work′ : List ℕ) (r : Extended) : Type 0 where
-  pub answered : (es : List Entry) (m : ℕ) → readEntries 20 v count start 12 (drop 12 b) ≡ good es m
+pub record ExtensionsPassed (v count : ℕ) (b work : List ℕ) (at : ℕ) (work′ : List ℕ) (r : Extended) : Type 0 where
+  pub answered : (es : List Entry) (m : ℕ) → EntriesRead v count b es m
       → AllAnswered b at (readExtensions 20 (names es) (length (drop at b)) noneSeen at (drop at b)) r
-  pub long : length work′ ≡ length work
-  pub past : drop 8192 work′ ≡ drop 8192 work
+  pub frame : Frame work work′

@@ -1,4 +1,4 @@
-// All extensions of a body: which there are, where the data of the known ones stand, or the first refusal.
+// All extensions of a body: which there are, where the data of the known ones are, or the first refusal.
 ghost use mathlib.Core.Path.{_≡_};
 ghost use Prim.Native.Nat.{_+_, _≤_};
 ghost use lib.ListN.{length, drop};
@@ -7,10 +7,11 @@ ghost use Rattle.format.specs.Reader.{readTree, readExtension};
 ghost use Rattle.entries_run.specs.Steps.{Room};
 ghost use Rattle.extensions.specs.Heads.{part, undosIn, known, Headed, Inside};
 ghost use Rattle.extensions.specs.Found.{nothing, seenOf};
-ghost use Rattle.extensions.specs.Steps.{Answered, OneInside, Passed, Ran};
+ghost use Rattle.extensions.specs.Steps.{OneAnswered, OneInside, ExtensionPassed, ExtensionsPassed};
 use cache_tree::TreeRead;
 use resolve_undo::RecordsRead;
 use tree_check::counts::counts_ok;
+use tree_table::NUMBERS;
 
 // The place after an extension's data, by its kind, or a refusal's number.
 pub enum Head {
@@ -20,7 +21,7 @@ pub enum Head {
     Other(usize),
 }
 
-// Whether there is a cache tree, where its data stand in the body, and how many nodes it has.
+// Whether there is a cache tree, where its data are in the body, and how many nodes it has.
 pub struct TreePlace {
     pub there: bool,
     pub at: usize,
@@ -107,7 +108,7 @@ fn none_found() -> Found
 // The resolve-undo extension at a place, whose data end at end.
 fn add_undo(b: &[u8], at: usize, end: usize, found: Found) -> One
     requires { ⌜ Inside (now b) at end × (length (now b) ≤ 16777216) ⌝ }
-    ensures { λ r. ⌜ Answered (now (b .entry)) at found (known (found .undo .there) at (undosIn at (part (now (b .entry)) (at + 8) end)) resolveUndo) r × OneInside (now (b .entry)) at r ⌝ }
+    ensures { λ r. ⌜ OneAnswered (now (b .entry)) at found (known (found .undo .there) at (undosIn at (part (now (b .entry)) (at + 8) end)) resolveUndo) r × OneInside (now (b .entry)) at r ⌝ }
 {
     if found.undo.there {
         return One::Bad(14);
@@ -141,21 +142,21 @@ fn add_tree(
     v: u32,
     count: u32,
     work: &mut [u8],
-    seed: u64,
 ) -> One
     requires { ⌜ Inside (now b) at end × Room (now b) (now work) ⌝ }
-    ensures { λ r. ⌜ Passed (λ ns. known (found .tree .there) at (readTree 20 ns at (part (now (b .entry)) (at + 8) end)) cacheTree) v count (now (b .entry)) (now (work .entry)) at found (now (work .exit)) r ⌝ }
+    ensures { λ r. ⌜ ExtensionPassed (λ ns. known (found .tree .there) at (readTree 20 ns at (part (now (b .entry)) (at + 8) end)) cacheTree) v count (now (b .entry)) (now (work .entry)) at found (now (work .exit)) r ⌝ }
 {
     if found.tree.there {
         return One::Bad(14);
     }
     let undo = found.undo;
     let from = at + 8;
-    let read = cache_tree::read_tree(&b[from..end], &mut *work, seed);
+    let mut table = [0u32; NUMBERS];
+    let read = cache_tree::read_tree(&b[from..end], &mut table);
     match read {
         TreeRead::Bad => One::Bad(15),
         TreeRead::Good(nodes) => {
-            if counts_ok(&b[from..end], b, v, count, work, seed) {
+            if counts_ok(&b[from..end], b, v, count, work, &mut table) {
                 return One::Good(
                     end,
                     Found {
@@ -175,43 +176,28 @@ fn add_tree(
 }
 
 // The extension at a place.
-fn read_extension(
-    b: &[u8],
-    at: usize,
-    found: Found,
-    v: u32,
-    count: u32,
-    work: &mut [u8],
-    seed: u64,
-) -> One
+fn read_extension(b: &[u8], at: usize, found: Found, v: u32, count: u32, work: &mut [u8]) -> One
     requires { ⌜ (at ≤ length (now b)) × Room (now b) (now work) ⌝ }
-    ensures { λ r. ⌜ Passed (λ ns. readExtension 20 ns (seenOf found) at (drop at (now (b .entry)))) v count (now (b .entry)) (now (work .entry)) at found (now (work .exit)) r ⌝ }
+    ensures { λ r. ⌜ ExtensionPassed (λ ns. readExtension 20 ns (seenOf found) at (drop at (now (b .entry)))) v count (now (b .entry)) (now (work .entry)) at found (now (work .exit)) r ⌝ }
 {
     let head = read_head(b, at);
     match head {
         Head::Bad(n) => One::Bad(n),
-        Head::Tree(end) => add_tree(b, at, end, found, v, count, work, seed),
+        Head::Tree(end) => add_tree(b, at, end, found, v, count, work),
         Head::Undo(end) => add_undo(b, at, end, found),
         Head::Other(end) => One::Good(end, found),
     }
 }
 
-// All extensions of a body, from a place on. v and count are the version and the number of entries, seed is any number.
-pub fn read_extensions(
-    b: &[u8],
-    at: usize,
-    v: u32,
-    count: u32,
-    work: &mut [u8],
-    seed: u64,
-) -> Extended
+// All extensions of a body, from a place on. v and count are the version and the number of entries.
+pub fn read_extensions(b: &[u8], at: usize, v: u32, count: u32, work: &mut [u8]) -> Extended
     requires { ⌜ (at ≤ length (now b)) × Room (now b) (now work) ⌝ }
-    ensures { λ r. ⌜ Ran v count (now (b .entry)) (now (work .entry)) at (now (work .exit)) r ⌝ }
+    ensures { λ r. ⌜ ExtensionsPassed v count (now (b .entry)) (now (work .entry)) at (now (work .exit)) r ⌝ }
 {
     let mut place = at;
     let mut found = none_found();
     while place < b.len() {
-        let one = read_extension(b, place, found, v, count, &mut *work, seed);
+        let one = read_extension(b, place, found, v, count, &mut *work);
         match one {
             One::Bad(n) => {
                 return Extended::Bad(n, place);

@@ -25,7 +25,7 @@ use Rattle.fields.specs.Words.{little}
 longer-differs : (s t : List ℕ) → length t < length s → eqList s t ≡ false
 longer-differs s t h = by-test (eqList s t) (λ e. let q : length s ≡ length t = ap length (eqList-true s t e) in absurd (omega arith)) (λ e. e)
 
--- none of those that may not stand is so long
+-- none of those that may not be is so long
 pub long-component : (c : List ℕ) → 4 < length c → okComponent c ≡ true
 unfolding okComponent
 long-component c h =
@@ -159,7 +159,7 @@ pub little-four : (n : ℕ) (s : List ℕ) (a : ℕ)
 unfolding little
 little-four n s a = simp add-assoc (omega arith)
 
--- a number shows its low byte and what stands above it
+-- a number shows its low byte and what is above it
 low-byte : (a b x y : ℕ) → a < 256 → b < 256 → a + 256 * x ≡ b + 256 * y → (a ≡ b) × (x ≡ y)
 low-byte a b x y h l e = (omega arith, omega arith)
 
@@ -256,12 +256,12 @@ rest-other : (part s : List ℕ) (b : ℕ) → (b ≡ 0 → ⊥) → (b ≡ 47 �
 rest-other part s b z w = okRest-other part (b ∷ s) 0 (omega arith) z w
 
 -- q is sound as far as it goes: what follows decides, after being what was read of its component in hand
-record Passed (part q : List ℕ) : Type 0 where
+record BeginningPassed (part q : List ℕ) : Type 0 where
   after : List ℕ
   same : (s : List ℕ) → okRest part (q ++ s) ≡ okRest after s
 
 -- the beginning of what is sound is so
-passed : (part q rest : List ℕ) → okRest part (q ++ rest) ≡ true → Passed part q
+passed : (part q rest : List ℕ) → okRest part (q ++ rest) ≡ true → BeginningPassed part q
 passed part [] rest e = record { after = part; same = λ s. refl }
 passed part (b ∷ q) rest e =
     by-byte b

@@ -1,3 +1,4 @@
 -- What the crate's contracts cite.
 pub mod Begun
 pub mod Words
+pub mod Workspace

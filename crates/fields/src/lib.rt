@@ -132,7 +132,7 @@ pub fn common(s: &[u8], t: &[u8]) -> usize
     i
 }
 
-// How s stands to t, as unsigned bytes, where they have n in common at their beginning.
+// How s compares to t, as unsigned bytes, where they have n in common at their beginning.
 pub fn order_after(s: &[u8], t: &[u8], n: usize) -> Order
     requires { ⌜ (n ≡ Names.common (now s) (now t)) × (n ≤ length (now s)) ⌝ }
     ensures { λ r. ⌜ r ≡ Names.compare (now (s .entry)) (now (t .entry)) ⌝ }
@@ -152,7 +152,7 @@ pub fn order_after(s: &[u8], t: &[u8], n: usize) -> Order
     Order::Above
 }
 
-// How s stands to t, as unsigned bytes. What they have in common does not count.
+// How s compares to t, as unsigned bytes. What they have in common does not count.
 pub fn compare(s: &[u8], t: &[u8]) -> Order
     ensures { λ r. ⌜ r ≡ Names.compare (now (s .entry)) (now (t .entry)) ⌝ }
 {
@@ -175,7 +175,7 @@ pub fn all_zero(s: &[u8], a: usize, e: usize) -> bool
     true
 }
 
-// Whether c may stand between two slashes.
+// Whether c may be between two slashes.
 fn component_ok(c: &[u8]) -> bool
     ensures { λ r. ⌜ r ≡ Names.okComponent (now (c .entry)) ⌝ }
 {
@@ -291,7 +291,7 @@ pub fn clear(work: &mut [u8])
     clear_from(work, 0);
 }
 
-// The bytes of s stand at a place of the workspace.
+// The bytes of s are at a place of the workspace.
 pub fn copy_to(work: &mut [u8], at: usize, s: &[u8])
     requires { ⌜ at + length (now s) ≤ length (now work) ⌝ }
     ensures { λ _. ⌜ now (work .exit) ≡ take at (now (work .entry)) ++ (now (s .entry) ++ drop (at + length (now (s .entry))) (now (work .entry))) ⌝ }

@@ -1,7 +1,7 @@
 -- Laws of the reading of a body.
 use mathlib.Core.Path.{_≡_, refl, ap, _∙_}
 use mathlib.Core.List.{List}
-use Prim.Native.Nat.{ℕ, zero, suc, _+_, _-_, _≤_}
+use Prim.Native.Nat.{ℕ, _+_, _-_, _≤_}
 use native.Mathlib.Omega.{arith}
 use lib.ListN.{length, drop}
 use lib.Seq.{drop-drop}
@@ -10,24 +10,13 @@ use Rattle.format.specs.Records as F
 use Rattle.format.specs.Layout.{Extension, trees, undos, names}
 use Rattle.format.specs.Reading.{bad, good, shift, bind}
 use Rattle.format.specs.Reader.{Contents, noneSeen, readEntries, readExtensions, readBody, first}
-use Rattle.format_laws.proofs.Readings.{good-inv, bind-inv}
 use Rattle.entries_run.specs.declared.Run.the-variants as R
-use Rattle.entries_run.specs.Steps.{runOf}
-use Rattle.entries_run.proofs.Steps.{runOf-bad, runOf-good}
+use Rattle.entries_run.specs.Steps.{EntriesRead, runOf}
+use Rattle.entries_run.proofs.Steps.{entries-length, runOf-bad, runOf-good}
 use Rattle.extensions.specs.declared.Found.{Found}
 use Rattle.extensions.specs.declared.Extended.the-variants as X
 use Rattle.extensions.specs.Steps as E
 use Rattle.file_read.specs.Contents.{Contains}
-
--- ---- how many entries are read
-
-pub entries-length : (w v n : ℕ) (k : F.Key) (p : ℕ) (s : List ℕ) (es : List F.Entry) (m : ℕ) → readEntries w v n k p s ≡ good es m → length es ≡ n
-unfolding readEntries
-entries-length w v zero k p s es m q = good-inv _ _ _ _ q λ es-is m-is. rw (← es-is) refl
-entries-length w v (suc n) k p s es m q =
-    bind-inv _ _ _ _ q λ e i j q₁ q₂ m-is.
-    bind-inv _ _ _ _ q₂ λ fs c d q₃ q₄ j-is.
-    good-inv _ _ _ _ q₄ λ es-is d-is. rw (← es-is) (ap suc (entries-length w v n (F.keyOf e) (p + i) (drop i s) fs c q₃))
 
 -- ---- the body
 
@@ -39,7 +28,7 @@ module _ (v : ℕ) (b : List ℕ) (count : ℕ) (counted : count ≡ be32 b 8) w
   pub body-no-entries : (n p : ℕ) → R.Bad n p ≡ runOf (readEntries 20 v count F.start 12 (drop 12 b)) → readBody 20 v b ≡ bad n p
   body-no-entries n p e = no-entries n p (runOf-bad _ n p e)
 
-  module _ (es : List F.Entry) (m : ℕ) (entries : readEntries 20 v count F.start 12 (drop 12 b) ≡ good es m) where
+  module _ (es : List F.Entry) (m : ℕ) (entries : EntriesRead v count b es m) where
     module _ (end : ℕ) (last : end ≡ 12 + m) where
       rest : drop m (drop 12 b) ≡ drop (12 + m) b
       rest = drop-drop m 12 b
@@ -80,9 +69,9 @@ module _ (v : ℕ) (b : List ℕ) (count : ℕ) (counted : count ≡ be32 b 8) w
 
   -- after the run of entries, which ends at a place
   module _ (end : ℕ) (run : R.Good end ≡ runOf (readEntries 20 v count F.start 12 (drop 12 b))) (work work′ : List ℕ) where
-    pub body-refused : (n p : ℕ) → E.Ran v count b work end work′ (X.Bad n p) → readBody 20 v b ≡ bad n p
+    pub body-refused : (n p : ℕ) → E.ExtensionsPassed v count b work end work′ (X.Bad n p) → readBody 20 v b ≡ bad n p
     body-refused n p h = runOf-good _ end run λ es m e last. body-no-extensions es m e end last n p (h .answered es m e)
 
-    pub body-accepted : (found : Found) → 12 ≤ length b → length b ≤ 16777216 → E.Ran v count b work end work′ (X.Good found)
+    pub body-accepted : (found : Found) → 12 ≤ length b → length b ≤ 16777216 → E.ExtensionsPassed v count b work end work′ (X.Good found)
         → Contains (readBody 20 v b) b (record { version = v; count = count; end = end; found = found })
     body-accepted found least most h = runOf-good _ end run λ es m e last. body-contains es m e end last least most found (h .answered es m e)

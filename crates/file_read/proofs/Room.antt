@@ -1,19 +1,17 @@
 -- Laws of the body's length, of a workspace that is cleared, and of one that may be too small.
-use mathlib.Core.Path.{_≡_, refl, _∙_}
+use mathlib.Core.Path.{_≡_, _∙_}
 use mathlib.Core.List.{List, _++_}
-use mathlib.Core.Bool.{Bool, true, false, cond}
 use Prim.Native.Nat.{ℕ, _-_, _≤_, _<_}
 use native.Mathlib.Omega.{arith}
 use lib.ListN.{length, drop, replicate, length-take}
-use lib.Dec.{ltb}
 use borrow.Author.Tests.{ltb-false}
 use Rattle.format.specs.Reading.{Read, bad, good}
 use Rattle.format.specs.Reader.{Contents}
-use Rattle.format_laws.proofs.Readings.{bad-good}
+use Rattle.fields.specs.Workspace.{Frame}
 use Rattle.entries_run.specs.Steps.{Room}
-use Rattle.answers.specs.Answers.{tooSmall, cleared}
-use Rattle.answers.proofs.Laws.{small, large, cleared-large}
-use Rattle.file_read.specs.Contents.{bodyOf, inRoom}
+use Rattle.answers.specs.Answers.{tooSmall, inRoom, cleared}
+use Rattle.answers.proofs.Laws.{small, large, room-small, room-large, room-inv, cleared-large}
+use Rattle.file_read.specs.Contents.{bodyOf}
 
 -- the body's length
 pub file-long : (f : List ℕ) → 12 ≤ length (bodyOf f) → 32 ≤ length f
@@ -22,21 +20,15 @@ file-long f h = let l = length-take (length f - 20) f in omega arith
 pub body-room : (f work : List ℕ) → 32 ≤ length f → length f ≤ 16777216 → 8192 ≤ length work → Room (bodyOf f) work
 body-room f work long short room = let l = length-take (length f - 20) f in record { least = omega arith; most = omega arith; room = room }
 
-pub cleared-by : (work after left : List ℕ) → 8192 ≤ length work → after ≡ replicate 8192 0 ++ left → left ≡ drop 8192 work → after ≡ cleared work
-cleared-by work after left room e rest = e ∙ rw (rest, cleared-large work room)
+pub cleared-by : (work written after : List ℕ) → 8192 ≤ length work → Frame work written → after ≡ replicate 8192 0 ++ drop 8192 written → after ≡ cleared work
+cleared-by work written after room frame e = e ∙ rw (frame .past, cleared-large work room)
 
 pub in-room : (work : List ℕ) (x : Read Contents) → 8192 ≤ length work → inRoom work x ≡ x
-unfolding inRoom
-in-room work x h = rw (large work h)
+in-room work x h = room-large work x (large work h)
 
 pub no-room : (work : List ℕ) (x : Read Contents) → length work < 8192 → inRoom work x ≡ bad 19 0
-unfolding inRoom
-no-room work x h = rw (small work h)
+no-room work x h = room-small work x (small work h)
 
 pub room-of : (work : List ℕ) (x : Read Contents) (c : Contents) (m : ℕ) → inRoom work x ≡ good c m → 8192 ≤ length work
-unfolding inRoom tooSmall
-room-of work x c m e = by (ltb (length work) 8192) refl e
-  where
-    by : (t : Bool) → ltb (length work) 8192 ≡ t → cond t (bad 19 0) x ≡ good c m → 8192 ≤ length work
-    by true q e = bad-good _ _ _ _ e
-    by false q e = ltb-false (length work) 8192 q
+unfolding tooSmall
+room-of work x c m e = room-inv work x c m e λ large is. ltb-false (length work) 8192 large

@@ -1,15 +1,14 @@
 -- What the reading of a whole file has, and what the code answers of it.
 use mathlib.Core.Path.{_≡_}
 use mathlib.Core.List.{List}
-use mathlib.Core.Bool.{true, cond}
+use mathlib.Core.Bool.{true}
 use Prim.Native.Nat.{ℕ, _-_, _≤_}
-use lib.ListN.{length, drop}
-use Rattle.format.specs.Records as F
+use lib.ListN.{length}
 use Rattle.format.specs.Layout.{TREE, REUC}
 use Rattle.format.specs.Reading.{Read, bad, good}
-use Rattle.format.specs.Reader.{Contents, readEntries}
+use Rattle.format.specs.Reader.{Contents}
 use Rattle.format.specs.Places.{bodyIn, dataPlace}
-use Rattle.answers.specs.Answers.{tooSmall}
+use Rattle.entries_run.specs.Steps.{EntriesRead}
 use Rattle.extensions.specs.Found.{TreeFound, UndoFound}
 use Rattle.file_read.specs.declared.Parts.{Parts}
 use Rattle.file_read.specs.declared.Whole.{Whole}
@@ -18,10 +17,6 @@ use Rattle.file_read.specs.declared.Whole.the-variants as W
 -- the body: all bytes but the checksum
 abbrev pub bodyOf : List ℕ → List ℕ
 bodyOf f = bodyIn 20 f
-
--- the reading x with a workspace that may be too small
-unfoldable pub inRoom : List ℕ → Read Contents → Read Contents
-inRoom work x = cond (tooSmall work) (bad 19 0) x
 
 -- the reading x has the contents of which the code answers parts; b is the body
 pub record Contains (x : Read Contents) (b : List ℕ) (parts : Parts) : Type 0 where
@@ -33,7 +28,7 @@ pub record Contains (x : Read Contents) (b : List ℕ) (parts : Parts) : Type 0 
   pub version : contents .version ≡ parts .version
   pub end : contents .end ≡ parts .end
   pub counted : length (contents .records .entries) ≡ parts .count
-  pub entries : readEntries 20 (parts .version) (parts .count) F.start 12 (drop 12 b) ≡ good (contents .records .entries) (parts .end - 12)
+  pub entries : EntriesRead (parts .version) (parts .count) b (contents .records .entries) (parts .end - 12)
   pub tree : TreeFound b (contents .records .cacheTree) (parts .found .tree)
   pub undo : UndoFound b (contents .records .resolveUndo) (parts .found .undo)
   pub tree-at : parts .found .tree .there ≡ true → parts .found .tree .at ≡ dataPlace TREE (parts .end) b

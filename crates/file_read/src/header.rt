@@ -7,11 +7,10 @@ ghost use Rattle.file_read.specs.Header.{isVersion, HeaderOf};
 // The most bytes that a file has.
 pub const LARGEST: usize = 16777216;
 
-// The version and the number of entries, and the first eight bytes of the checksum.
+// The version and the number of entries.
 pub struct Opening {
     pub version: u32,
     pub count: u32,
-    pub seed: u64,
 }
 
 // A refusal's number and place, or what an accepted header says.
@@ -28,13 +27,6 @@ fn version_ok(v: u32) -> bool
         return false;
     }
     v <= 4
-}
-
-// The first eight bytes of a digest. Nothing is proved of the number.
-fn seed_of(digest: &[u8]) -> u64
-    requires { ⌜ 8 ≤ length (now digest) ⌝ }
-{
-    fields::read32(digest, 0) as u64 * 4294967296 + fields::read32(digest, 4) as u64
 }
 
 // The refusals 1 to 5 in their order, or the version and the number of entries.
@@ -64,6 +56,5 @@ pub fn read_header(file: &[u8]) -> Header
     Header::Good(Opening {
         version: version,
         count: fields::read32(file, 8),
-        seed: seed_of(&digest),
     })
 }

@@ -3,13 +3,14 @@ pub mod header;
 
 ghost use mathlib.Core.Path.{_≡_};
 ghost use Prim.Native.Nat.{_≤_};
-ghost use lib.ListN.{length, drop};
+ghost use lib.ListN.{length};
 ghost use Rattle.format.specs.Bytes.{be32};
 ghost use Rattle.format.specs.Reader.{readBody, readFile};
 ghost use Rattle.hash.specs.Sha1.{sha1};
+ghost use Rattle.fields.specs.Workspace.{Frame};
 ghost use Rattle.entries_run.specs.Steps.{Room};
-ghost use Rattle.answers.specs.Answers.{cleared};
-ghost use Rattle.file_read.specs.Contents.{bodyOf, inRoom, WholeOf};
+ghost use Rattle.answers.specs.Answers.{inRoom, cleared};
+ghost use Rattle.file_read.specs.Contents.{bodyOf, WholeOf};
 use crate::header::Header;
 use entries_run::Run;
 use extensions::Extended;
@@ -29,16 +30,16 @@ pub enum Whole {
     Good(Parts),
 }
 
-// The body b of version v with so many entries.
-fn read_body(b: &[u8], v: u32, count: u32, work: &mut [u8], seed: u64) -> Whole
+// The body b of version v with count entries.
+fn read_body(b: &[u8], v: u32, count: u32, work: &mut [u8]) -> Whole
     requires { ⌜ Room (now b) (now work) × (count ≡ be32 (now b) 8) ⌝ }
-    ensures { λ r. ⌜ WholeOf (readBody 20 v (now (b .entry))) (now (b .entry)) r × (drop 8192 (now (work .exit)) ≡ drop 8192 (now (work .entry))) ⌝ }
+    ensures { λ r. ⌜ WholeOf (readBody 20 v (now (b .entry))) (now (b .entry)) r × Frame (now (work .entry)) (now (work .exit)) ⌝ }
 {
     let run = entries_run::run_entries(b, v, &mut *work, count);
     match run {
         Run::Bad(n, p) => Whole::Bad(n, p),
         Run::Good(end) => {
-            let read = extensions::read_extensions(b, end, v, count, work, seed);
+            let read = extensions::read_extensions(b, end, v, count, work);
             match read {
                 Extended::Bad(n, p) => Whole::Bad(n, p),
                 Extended::Good(found) => Whole::Good(Parts {
@@ -55,14 +56,14 @@ fn read_body(b: &[u8], v: u32, count: u32, work: &mut [u8], seed: u64) -> Whole
 // The whole file.
 pub fn read_whole(file: &[u8], work: &mut [u8]) -> Whole
     requires { ⌜ 8192 ≤ length (now work) ⌝ }
-    ensures { λ r. ⌜ WholeOf (readFile 20 sha1 (now (file .entry))) (bodyOf (now (file .entry))) r × (drop 8192 (now (work .exit)) ≡ drop 8192 (now (work .entry))) ⌝ }
+    ensures { λ r. ⌜ WholeOf (readFile 20 sha1 (now (file .entry))) (bodyOf (now (file .entry))) r × Frame (now (work .entry)) (now (work .exit)) ⌝ }
 {
     let header = crate::header::read_header(file);
     match header {
         Header::Bad(n, p) => Whole::Bad(n, p),
         Header::Good(h) => {
             let n = file.len() - 20;
-            read_body(&file[..n], h.version, h.count, work, h.seed)
+            read_body(&file[..n], h.version, h.count, work)
         }
     }
 }

@@ -55,15 +55,15 @@ module _ (version : ℕ) (edit : Edit) (e : Entry) (r : Records) (out out₁ out
 
 -- ---- the length of a body: only whether the version is 4 matters
 
-entries-like : (w v u : ℕ) (previous : List ℕ) (es : List Entry) → eqb v 4 ≡ eqb u 4 → writeEntries w v previous es ≡ writeEntries w u previous es
+entries-same-length : (w v u : ℕ) (previous : List ℕ) (es : List Entry) → eqb v 4 ≡ eqb u 4 → writeEntries w v previous es ≡ writeEntries w u previous es
 unfolding writeEntries writeEntry writeRest writeName
-entries-like w v u previous [] h = refl
-entries-like w v u previous (e ∷ es) h = rw (h, entries-like w v u (e .name) es h)
+entries-same-length w v u previous [] h = refl
+entries-same-length w v u previous (e ∷ es) h = rw (h, entries-same-length w v u (e .name) es h)
 
-pub body-like : (w v u : ℕ) (r : Records) → eqb v 4 ≡ eqb u 4 → length (writeBody w v r) ≡ length (writeBody w u r)
+pub body-same-length : (w v u : ℕ) (r : Records) → eqb v 4 ≡ eqb u 4 → length (writeBody w v r) ≡ length (writeBody w u r)
 unfolding writeBody
-body-like w v u r h =
+body-same-length w v u r h =
     let n : ℕ = length (r .entries) in
     let rest : List ℕ = writeEntries w u [] (r .entries) ++ writeExtensions r in
-    rw (entries-like w v u [] (r .entries) h)
+    rw (entries-same-length w v u [] (r .entries) h)
     (omega (arith, header-length v n, header-length u n, length-append (writeHeader v n) rest, length-append (writeHeader u n) rest))

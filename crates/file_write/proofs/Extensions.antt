@@ -23,7 +23,7 @@ use Rattle.extensions.specs.Heads.{part}
 use Rattle.extensions.specs.Found.{TreeFound, UndoFound}
 use Rattle.output.specs.Output.{Wrote}
 use Rattle.output.proofs.Laws.{wrote-nothing, wrote-then, wrote-before}
-use Rattle.file_write.specs.Bodies.{treeAfter, Differ}
+use Rattle.file_write.specs.Bodies.{treeAfter, SiblingsDiffer}
 
 -- ---- the header
 
@@ -69,35 +69,35 @@ module _ (b name : List ℕ) (tree : TreePlace) where
 
   -- what put_tree ensures of the data
   abbrev pub TreeWrote : Bool → List ℕ → ℕ → List ℕ → ℕ → Type 0
-  TreeWrote way out at out′ r =
+  TreeWrote touched out at out′ r =
       (t : Tree) (m : ℕ) → readNodes 20 0 (part b (tree .at) (tree .end)) ≡ good t m → distinct (t .subtrees) ≡ true
-      → Wrote out at (writeTree (cond way (invalidTree 20 name t) t)) out′ r
+      → Wrote out at (writeTree (cond touched (invalidTree 20 name t) t)) out′ r
 
-  tree-text : (way : Bool) (t : Tree) → writeCacheTree (treeAfter way name (some t)) ≡ writeExtension TREE (writeTree (cond way (invalidTree 20 name t) t))
+  tree-text : (touched : Bool) (t : Tree) → writeCacheTree (treeAfter touched name (some t)) ≡ writeExtension TREE (writeTree (cond touched (invalidTree 20 name t) t))
   unfolding writeCacheTree treeAfter invalidCacheTree
   tree-text true t = refl
   tree-text false t = refl
 
-  no-tree-text : (way : Bool) → writeCacheTree (treeAfter way name none) ≡ []
+  no-tree-text : (touched : Bool) → writeCacheTree (treeAfter touched name none) ≡ []
   unfolding writeCacheTree treeAfter invalidCacheTree
   no-tree-text true = refl
   no-tree-text false = refl
 
-  pub tree-grown : (way : Bool) (out out₁ : List ℕ) (at after : ℕ) (o : Option Tree) → TreeFound b o tree → Differ o → tree .there ≡ true
-      → TreeWrote way out at out₁ after → (at ≤ after) × (length out₁ ≡ length out)
-  tree-grown way out out₁ at after none h d t w = clash t (ap (λ (x : TreePlace). x .there) h)
-  tree-grown way out out₁ at after (some s) h d t w = let x = w s _ (h .reads) (d s refl) in (omega (arith, x .end), x .long)
+  pub tree-grown : (touched : Bool) (out out₁ : List ℕ) (at after : ℕ) (o : Option Tree) → TreeFound b o tree → SiblingsDiffer o → tree .there ≡ true
+      → TreeWrote touched out at out₁ after → (at ≤ after) × (length out₁ ≡ length out)
+  tree-grown touched out out₁ at after none h d t w = clash t (ap (λ (x : TreePlace). x .there) h)
+  tree-grown touched out out₁ at after (some s) h d t w = let x = w s _ (h .reads) (d s refl) in (omega (arith, x .end), x .long)
 
-  pub tree-wrote : (way : Bool) (out out₁ out′ : List ℕ) (at after r : ℕ) (o : Option Tree) → TreeFound b o tree → Differ o → tree .there ≡ true
-      → TreeWrote way out (at + 8) out₁ after → Wrote out₁ at (TREE ++ put32 (after - (at + 8))) out′ r
-      → Wrote out at (writeCacheTree (treeAfter way name o)) out′ after
-  tree-wrote way out out₁ out′ at after r none h d t w y = clash t (ap (λ (x : TreePlace). x .there) h)
-  tree-wrote way out out₁ out′ at after r (some s) h d t w y = rw (tree-text way s) (extension-after TREE _ out out₁ out′ at after r refl (w s _ (h .reads) (d s refl)) y)
+  pub tree-wrote : (touched : Bool) (out out₁ out′ : List ℕ) (at after r : ℕ) (o : Option Tree) → TreeFound b o tree → SiblingsDiffer o → tree .there ≡ true
+      → TreeWrote touched out (at + 8) out₁ after → Wrote out₁ at (TREE ++ put32 (after - (at + 8))) out′ r
+      → Wrote out at (writeCacheTree (treeAfter touched name o)) out′ after
+  tree-wrote touched out out₁ out′ at after r none h d t w y = clash t (ap (λ (x : TreePlace). x .there) h)
+  tree-wrote touched out out₁ out′ at after r (some s) h d t w y = rw (tree-text touched s) (extension-after TREE _ out out₁ out′ at after r refl (w s _ (h .reads) (d s refl)) y)
 
-  pub no-tree-wrote : (way : Bool) (out : List ℕ) (at : ℕ) (o : Option Tree) → TreeFound b o tree → tree .there ≡ false
-      → Wrote out at (writeCacheTree (treeAfter way name o)) out at
-  no-tree-wrote way out at none h t = rw (no-tree-text way) (wrote-nothing out at)
-  no-tree-wrote way out at (some s) h t = clash (h .there) t
+  pub no-tree-wrote : (touched : Bool) (out : List ℕ) (at : ℕ) (o : Option Tree) → TreeFound b o tree → tree .there ≡ false
+      → Wrote out at (writeCacheTree (treeAfter touched name o)) out at
+  no-tree-wrote touched out at none h t = rw (no-tree-text touched) (wrote-nothing out at)
+  no-tree-wrote touched out at (some s) h t = clash (h .there) t
 
 -- ---- resolve undo
 

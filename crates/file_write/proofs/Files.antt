@@ -15,16 +15,17 @@ use Rattle.format.specs.Requests.{anyWord, versionFor, fitting, writing}
 use Rattle.format_laws.proofs.Tests.{by-test}
 use Rattle.hash.specs.Sha1.{sha1}
 use Rattle.hash.proofs.Bytes.{length-sha1}
+use Rattle.fields.proofs.Workspace.{frame-then}
 use Rattle.output.specs.Output.{withAt, Wrote}
 use Rattle.output.proofs.Laws.{wrote-then}
 use Rattle.answers.specs.declared.Written.the-variants as W
 use Rattle.file_read.specs.declared.Parts.{Parts}
 use Rattle.entries_edit.specs.declared.Edit.{Edit}
-use Rattle.entries_edit.specs.declared.rest.Laid.{Laid}
+use Rattle.entries_edit.specs.declared.rest.WriteEnd.{WriteEnd}
 use Rattle.entries_edit.specs.Edits.{Replaces}
-use Rattle.file_write.specs.Bodies.{changed, Has, BodyWritten}
-use Rattle.file_write.proofs.Bodies.{body-like}
-use Rattle.file_write.specs.Results.{Measured, versionOf, likeOf, Answers, FileWritten}
+use Rattle.file_write.specs.Bodies.{changed, BodyHas, BodyWritten}
+use Rattle.file_write.proofs.Bodies.{body-same-length}
+use Rattle.file_write.specs.Results.{Measured, versionOf, measuredVersion, Answers, FileWritten}
 
 -- ---- the version
 
@@ -32,8 +33,8 @@ pub version-is : (asked : ℕ) (es : List Entry) → versionOf asked (anyWord es
 unfolding versionFor
 version-is asked es = refl
 
-like-four : (asked : ℕ) (t : Bool) → eqb (versionOf asked t) 4 ≡ eqb (likeOf asked) 4
-like-four asked t =
+measured-version-four : (asked : ℕ) (t : Bool) → eqb (versionOf asked t) 4 ≡ eqb (measuredVersion asked) 4
+measured-version-four asked t =
     by-test (eqb asked 4)
     (λ four. let is : asked ≡ 4 = eqb-true asked 4 four in rw is)
     (λ other. by-test (eqb asked 0) (λ free. rw (other, free) (plain t)) (λ fixed. rw (other, fixed) other))
@@ -49,14 +50,14 @@ module _ (asked room : ℕ) (r : Records) where
   unfolding writing need
   answer-worded h = rw h
 
-  module _ (free : (eqb asked 2 && anyWord (r .entries)) ≡ false) (n : ℕ) (size : n ≡ length (writeBody 20 (likeOf asked) r)) where
+  module _ (free : (eqb asked 2 && anyWord (r .entries)) ≡ false) (n : ℕ) (size : n ≡ length (writeBody 20 (measuredVersion asked) r)) where
     abbrev file : List ℕ
     file = writeFile 20 sha1 (versionFor asked (r .entries)) r
 
     body-long : length (writeBody 20 (versionFor asked (r .entries)) r) ≡ n
     body-long =
         rw (← version-is asked (r .entries))
-        (body-like 20 (versionOf asked (anyWord (r .entries))) (likeOf asked) r (like-four asked (anyWord (r .entries))) ∙ sym size)
+        (body-same-length 20 (versionOf asked (anyWord (r .entries))) (measuredVersion asked) r (measured-version-four asked (anyWord (r .entries))) ∙ sym size)
 
     file-long : length file ≡ n + 20
     unfolding writeFile
@@ -88,10 +89,10 @@ with-start : (out s : List ℕ) → withAt out 0 s ≡ s ++ drop (length s) out
 unfolding withAt
 with-start out s = let z : 0 + length s ≡ length s = omega arith in rw z
 
-pub sealed : (v : ℕ) (r : Records) (out out₁ out₂ : List ℕ) (n m : ℕ) → Wrote out 0 (writeBody 20 v r) out₁ n → Wrote out₁ n (sha1 (take n out₁)) out₂ m
+pub appended : (v : ℕ) (r : Records) (out out₁ out₂ : List ℕ) (n m : ℕ) → Wrote out 0 (writeBody 20 v r) out₁ n → Wrote out₁ n (sha1 (take n out₁)) out₂ m
     → n ≤ length out → Wrote out 0 (writeFile 20 sha1 v r) out₂ m
 unfolding writeFile
-sealed v r out out₁ out₂ n m x y fits =
+appended v r out out₁ out₂ n m x y fits =
     let b : List ℕ = writeBody 20 v r in
     let size : n ≡ length b = omega (arith, x .end) in
     let held : out₁ ≡ b ++ drop (length b) out = x .held (omega arith) ∙ with-start out b in
@@ -112,58 +113,54 @@ answers-good x s out out′ m e w fits =
 
 -- ---- the whole: after it was measured
 
-module _ (b work work₁ : List ℕ) (parts : Parts) (asked : ℕ) (edit : Edit) (e : Entry) (sized : Laid) (m : Measured b parts work edit e (likeOf asked) work₁ sized)
+module _ (b work work₁ : List ℕ) (parts : Parts) (asked : ℕ) (edit : Edit) (e : Entry) (sized : WriteEnd) (m : Measured b parts work edit e (measuredVersion asked) work₁ sized)
     (out : List ℕ) where
   pub file-worded : (eqb asked 2 && sized .extended) ≡ true → FileWritten b parts work asked edit e out work₁ out (W.Refused 21 0)
   file-worded h = record {
     answers = λ x has there. answers-bad _ 21 0 out (answer-worded asked (length out) _ (rw (m .extended x has there) at h));
-    long = m .long;
-    past = m .past;
+    frame = m .frame;
   }
 
   module _ (free : (eqb asked 2 && sized .extended) ≡ false) where
-    free-of : (x : Records) → Has b parts x → Replaces edit (e .name) (x .entries) → (eqb asked 2 && anyWord (changed edit e x .entries)) ≡ false
+    free-of : (x : Records) → BodyHas b parts x → Replaces edit (e .name) (x .entries) → (eqb asked 2 && anyWord (changed edit e x .entries)) ≡ false
     free-of x has there = rw (m .extended x has there) at free
 
     pub file-long-refused : 16777196 < sized .at → FileWritten b parts work asked edit e out work₁ out (W.Refused 2 0)
     file-long-refused h = record {
       answers = λ x has there. answers-bad _ 2 0 out (answer-long asked (length out) _ (free-of x has there) (sized .at) (m .size x has there) h);
-      long = m .long;
-      past = m .past;
+      frame = m .frame;
     }
 
     module _ (short : sized .at ≤ 16777196) where
       pub file-small-refused : length out < sized .at + 20 → FileWritten b parts work asked edit e out work₁ out (W.Refused 20 0)
       file-small-refused h = record {
         answers = λ x has there. answers-bad _ 20 0 out (answer-small asked (length out) _ (free-of x has there) (sized .at) (m .size x has there) short h);
-        long = m .long;
-        past = m .past;
+        frame = m .frame;
       }
 
-      module _ (fits : sized .at + 20 ≤ length out) (version : ℕ) (is : version ≡ versionOf asked (sized .extended)) (work₂ out₁ : List ℕ) (laid : Laid)
-          (body : BodyWritten b parts work₁ edit e version out work₂ out₁ laid) where
-        version-of : (x : Records) → Has b parts x → Replaces edit (e .name) (x .entries) → version ≡ versionFor asked (changed edit e x .entries)
+      module _ (fits : sized .at + 20 ≤ length out) (version : ℕ) (is : version ≡ versionOf asked (sized .extended)) (work₂ out₁ : List ℕ) (written : WriteEnd)
+          (body : BodyWritten b parts work₁ edit e version out work₂ out₁ written) where
+        version-of : (x : Records) → BodyHas b parts x → Replaces edit (e .name) (x .entries) → version ≡ versionFor asked (changed edit e x .entries)
         version-of x has there = is ∙ ap (versionOf asked) (m .extended x has there) ∙ version-is asked (changed edit e x .entries)
 
-        pub same-size : (x : Records) → Has b parts x → Replaces edit (e .name) (x .entries) → laid .at ≡ sized .at
+        pub same-size : (x : Records) → BodyHas b parts x → Replaces edit (e .name) (x .entries) → written .at ≡ sized .at
         same-size x has there =
             let w = body .wrote x has there in
             let long : length (writeBody 20 version (changed edit e x)) ≡ sized .at =
             rw (version-of x has there) (body-long asked (length out) (changed edit e x) (free-of x has there) (sized .at) (m .size x has there)) in
             omega (arith, w .end)
 
-        pub file-done : (out₂ : List ℕ) (r : ℕ) → Wrote out₁ (laid .at) (sha1 (take (laid .at) out₁)) out₂ r
+        pub file-done : (out₂ : List ℕ) (r : ℕ) → Wrote out₁ (written .at) (sha1 (take (written .at) out₁)) out₂ r
             → FileWritten b parts work asked edit e out work₂ out₂ (W.Done r)
-        file-done out₂ r seal = record {
+        file-done out₂ r checksum = record {
           answers = λ x has there.
               let y : Records = changed edit e x in
               let free₁ = free-of x has there in
               let size = m .size x has there in
-              let wrote : Wrote out 0 (writeBody 20 (versionFor asked (y .entries)) y) out₁ (laid .at) = rw (version-of x has there) at (body .wrote x has there) in
+              let wrote : Wrote out 0 (writeBody 20 (versionFor asked (y .entries)) y) out₁ (written .at) = rw (version-of x has there) at (body .wrote x has there) in
               let same = same-size x has there in
-              let whole = sealed (versionFor asked (y .entries)) y out out₁ out₂ (laid .at) r wrote seal (omega arith) in
+              let whole = appended (versionFor asked (y .entries)) y out out₁ out₂ (written .at) r wrote checksum (omega arith) in
               answers-good _ _ out out₂ r (answer-good asked (length out) y free₁ (sized .at) size short fits) whole
               (omega (arith, file-long asked (length out) y free₁ (sized .at) size));
-          long = body .long ∙ m .long;
-          past = body .past ∙ m .past;
+          frame = frame-then (m .frame) (body .frame);
         }

@@ -4,21 +4,20 @@ use mathlib.Core.List.{List}
 use mathlib.Core.Bool.{Bool, true, false, cond}
 use mathlib.Core.Option.{Option, some}
 use Prim.Native.Nat.{ℕ, _+_, _-_, _≤_, _<_}
-use lib.ListN.{length, drop}
-use Rattle.format.specs.Records.{Entry, start, Tree, Records}
+use lib.ListN.{length}
+use Rattle.format.specs.Records.{Entry, Tree, Records}
 use Rattle.format.specs.Layout.{distinct}
-use Rattle.format.specs.Reading.{good}
-use Rattle.format.specs.Reader.{readEntries}
 use Rattle.format.specs.Writer.{writeBody}
 use Rattle.format.specs.Requests.{invalidCacheTree, anyWord}
-use Rattle.entries_run.specs.Steps.{Room}
+use Rattle.fields.specs.Workspace.{Frame}
+use Rattle.entries_run.specs.Steps.{EntriesRead, Room}
 use Rattle.output.specs.Output.{Wrote}
 use Rattle.extensions.specs.Found.{TreeFound, UndoFound}
 use Rattle.entries.specs.declared.record.Fields.{Fields}
 use Rattle.file_read.specs.declared.Parts.{Parts}
 use Rattle.entries_edit.specs.declared.Edit.{Edit}
 use Rattle.entries_edit.specs.declared.Edit.the-variants as E
-use Rattle.entries_edit.specs.declared.rest.Laid.{Laid}
+use Rattle.entries_edit.specs.declared.rest.WriteEnd.{WriteEnd}
 use Rattle.entries_edit.specs.Edits.{edited, passes, Replaces}
 
 -- ---- the records afterwards
@@ -29,9 +28,9 @@ changes E.Keep = false
 changes (E.Put k there) = true
 changes (E.Remove k) = true
 
--- the cache tree, made invalid on the way to a name where entries are changed
+-- the cache tree, made invalid on the path to a name where entries are changed
 unfoldable pub treeAfter : Bool → List ℕ → Option Tree → Option Tree
-treeAfter way name o = cond way (invalidCacheTree 20 name o) o
+treeAfter touched name o = cond touched (invalidCacheTree 20 name o) o
 
 -- the records with an edit; e is what is put, or has the name of what is removed
 unfoldable pub changed : Edit → Entry → Records → Records
@@ -51,35 +50,34 @@ countAfter (E.Remove k) count = count - 1
 -- ---- the body that was read
 
 -- siblings of the tree differ in their names
-abbrev pub Differ : Option Tree → Type 0
-Differ o = (t : Tree) → o ≡ some t → distinct (t .subtrees) ≡ true
+abbrev pub SiblingsDiffer : Option Tree → Type 0
+SiblingsDiffer o = (t : Tree) → o ≡ some t → distinct (t .subtrees) ≡ true
 
--- it has the records r, of which parts tell where they stand
-pub record Has (b : List ℕ) (parts : Parts) (r : Records) : Type 0 where
-  pub entries : readEntries 20 (parts .version) (parts .count) start 12 (drop 12 b) ≡ good (r .entries) (parts .end - 12)
+-- it has the records r, of which parts tell where they are
+pub record BodyHas (b : List ℕ) (parts : Parts) (r : Records) : Type 0 where
+  pub entries : EntriesRead (parts .version) (parts .count) b (r .entries) (parts .end - 12)
   pub counted : length (r .entries) ≡ parts .count
   pub tree : TreeFound b (r .cacheTree) (parts .found .tree)
   pub undo : UndoFound b (r .resolveUndo) (parts .found .undo)
-  pub differ : Differ (r .cacheTree)
+  pub differ : SiblingsDiffer (r .cacheTree)
 
 -- it can be written with an edit; fields and name are those of the entry that is put
-pub record Ready (b work : List ℕ) (parts : Parts) (edit : Edit) (fields : Fields) (name : List ℕ) : Type 0 where
+pub record WriteReady (b work : List ℕ) (parts : Parts) (edit : Edit) (fields : Fields) (name : List ℕ) : Type 0 where
   pub room : Room b work
   pub few : parts .count < 4294967295
   pub reach : passes edit ≤ parts .count
   pub stage : fields .stage ≤ 3
   pub short : length name ≤ 8192
   pub records : Records
-  pub has : Has b parts records
+  pub has : BodyHas b parts records
   pub there : Replaces edit name (records .entries)
 
 -- ---- what is written
 
 -- the body of a version, with an edit; e is what is put
-pub record BodyWritten (b : List ℕ) (parts : Parts) (work : List ℕ) (edit : Edit) (e : Entry) (version : ℕ) (out work′ out′ : List ℕ) (r : Laid) : Type 0 where
-  pub wrote : (x : Records) → Has b parts x → Replaces edit (e .name) (x .entries) → Wrote out 0 (writeBody 20 version (changed edit e x)) out′ (r .at)
-  pub extended : (x : Records) → Has b parts x → Replaces edit (e .name) (x .entries) → r .extended ≡ anyWord (changed edit e x .entries)
+pub record BodyWritten (b : List ℕ) (parts : Parts) (work : List ℕ) (edit : Edit) (e : Entry) (version : ℕ) (out work′ out′ : List ℕ) (r : WriteEnd) : Type 0 where
+  pub wrote : (x : Records) → BodyHas b parts x → Replaces edit (e .name) (x .entries) → Wrote out 0 (writeBody 20 version (changed edit e x)) out′ (r .at)
+  pub extended : (x : Records) → BodyHas b parts x → Replaces edit (e .name) (x .entries) → r .extended ≡ anyWord (changed edit e x .entries)
   pub near : r .at ≤ 1125899906842624
-  pub long : length work′ ≡ length work
-  pub past : drop 8192 work′ ≡ drop 8192 work
+  pub frame : Frame work work′
   pub out-long : length out′ ≡ length out

@@ -3,36 +3,36 @@ use mathlib.Core.Path.{_≡_}
 use mathlib.Core.List.{List}
 use mathlib.Core.Bool.{Bool, cond}
 use Prim.Native.Nat.{ℕ, _≤_}
-use lib.ListN.{length, drop}
+use lib.ListN.{length}
 use lib.Dec.{eqb}
 use Rattle.format.specs.Records.{Entry, Records}
 use Rattle.format.specs.Reading.{Read}
 use Rattle.format.specs.Writer.{writeBody}
 use Rattle.format.specs.Requests.{anyWord, writing}
 use Rattle.hash.specs.Sha1.{sha1}
+use Rattle.fields.specs.Workspace.{Frame}
 use Rattle.answers.specs.declared.Written.{Written}
 use Rattle.answers.specs.Writing.{writtenOf, outputAfter}
 use Rattle.file_read.specs.declared.Parts.{Parts}
 use Rattle.entries_edit.specs.declared.Edit.{Edit}
-use Rattle.entries_edit.specs.declared.rest.Laid.{Laid}
+use Rattle.entries_edit.specs.declared.rest.WriteEnd.{WriteEnd}
 use Rattle.entries_edit.specs.Edits.{Replaces}
-use Rattle.file_write.specs.Bodies.{changed, Has}
+use Rattle.file_write.specs.Bodies.{changed, BodyHas}
 
 -- how long the body of a version is with an edit, and whether an entry needs the extended word; e is what is put
-pub record Measured (b : List ℕ) (parts : Parts) (work : List ℕ) (edit : Edit) (e : Entry) (version : ℕ) (work′ : List ℕ) (r : Laid) : Type 0 where
-  pub size : (x : Records) → Has b parts x → Replaces edit (e .name) (x .entries) → r .at ≡ length (writeBody 20 version (changed edit e x))
-  pub extended : (x : Records) → Has b parts x → Replaces edit (e .name) (x .entries) → r .extended ≡ anyWord (changed edit e x .entries)
+pub record Measured (b : List ℕ) (parts : Parts) (work : List ℕ) (edit : Edit) (e : Entry) (version : ℕ) (work′ : List ℕ) (r : WriteEnd) : Type 0 where
+  pub size : (x : Records) → BodyHas b parts x → Replaces edit (e .name) (x .entries) → r .at ≡ length (writeBody 20 version (changed edit e x))
+  pub extended : (x : Records) → BodyHas b parts x → Replaces edit (e .name) (x .entries) → r .extended ≡ anyWord (changed edit e x .entries)
   pub near : r .at ≤ 1125899906842624
-  pub long : length work′ ≡ length work
-  pub past : drop 8192 work′ ≡ drop 8192 work
+  pub frame : Frame work work′
 
 -- the version for a request, where an entry needs the extended word or none does
 abbrev pub versionOf : ℕ → Bool → ℕ
 versionOf asked extended = cond (eqb asked 0) (cond extended 3 2) asked
 
 -- a version in which the body is as long as in the version for a request
-abbrev pub likeOf : ℕ → ℕ
-likeOf asked = cond (eqb asked 4) 4 3
+abbrev pub measuredVersion : ℕ → ℕ
+measuredVersion asked = cond (eqb asked 4) 4 3
 
 -- a request's answer x as the code gives it, and the output after it
 pub record Answers (x : Read (List ℕ)) (out out′ : List ℕ) (r : Written) : Type 0 where
@@ -41,7 +41,6 @@ pub record Answers (x : Read (List ℕ)) (out out′ : List ℕ) (r : Written) :
 
 -- the file for a request, with an edit; e is what is put
 pub record FileWritten (b : List ℕ) (parts : Parts) (work : List ℕ) (asked : ℕ) (edit : Edit) (e : Entry) (out work′ out′ : List ℕ) (r : Written) : Type 0 where
-  pub answers : (x : Records) → Has b parts x → Replaces edit (e .name) (x .entries)
+  pub answers : (x : Records) → BodyHas b parts x → Replaces edit (e .name) (x .entries)
       → Answers (writing 20 sha1 asked (length out) (changed edit e x)) out out′ r
-  pub long : length work′ ≡ length work
-  pub past : drop 8192 work′ ≡ drop 8192 work
+  pub frame : Frame work work′

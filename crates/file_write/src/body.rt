@@ -12,15 +12,16 @@ ghost use Rattle.extensions.specs.Found.{TreeFound, UndoFound};
 ghost use Rattle.entries.specs.Record.{entryWith};
 ghost use Rattle.output.specs.Output.{Wrote};
 ghost use Rattle.entries_edit.specs.Edits.{passes};
-ghost use Rattle.file_write.specs.Bodies.{changes, treeAfter, countAfter, Differ, Ready, BodyWritten};
+ghost use Rattle.file_write.specs.Bodies.{changes, treeAfter, countAfter, SiblingsDiffer, WriteReady, BodyWritten};
 use entries::record::Fields;
 use entries_edit::Edit;
-use entries_edit::rest::Laid;
+use entries_edit::rest::WriteEnd;
 use extensions::TreePlace;
 use extensions::UndoPlace;
 use file_read::Parts;
 use output::put_32;
 use output::put_bytes;
+use output::put_part;
 
 // Whether an edit changes entries.
 fn is_change(edit: Edit) -> bool
@@ -59,7 +60,7 @@ fn put_header(out: &mut [u8], version: u32, count: u32) -> usize
     put_32(out, middle, count)
 }
 
-// What stands before an extension's data: its signature and their size.
+// What is before an extension's data: its signature and their size.
 fn put_head(out: &mut [u8], at: usize, signature: &[u8], size: u32) -> usize
     requires { ⌜ (at ≤ 562949970198528) × (length (now signature) ≡ 4) ⌝ }
     ensures { λ r. ⌜ Wrote (now (out .entry)) at (now (signature .entry) ++ put32 size) (now (out .exit)) r ⌝ }
@@ -68,23 +69,23 @@ fn put_head(out: &mut [u8], at: usize, signature: &[u8], size: u32) -> usize
     put_32(out, middle, size)
 }
 
-// The cache tree, made invalid on the way to a name or not. Its size is known once its data are written.
+// The cache tree, made invalid on the path to a name or not. Its size is known once its data are written.
 fn put_cache_tree(
     b: &[u8],
     tree: TreePlace,
-    way: bool,
+    touched: bool,
     name: &[u8],
     out: &mut [u8],
     at: usize,
 ) -> usize
-    requires { ⌜ (length (now b) ≤ 16777216) × (at < 562949953421304) × ((o : Option Tree) × TreeFound (now b) o tree × Differ o) ⌝ }
-    ensures { λ r. ⌜ ((o : Option Tree) → TreeFound (now (b .entry)) o tree → Differ o → Wrote (now (out .entry)) at (writeCacheTree (treeAfter way (now (name .entry)) o)) (now (out .exit)) r) × (r ≤ at + 16777224) × (length (now (out .exit)) ≡ length (now (out .entry))) ⌝ }
+    requires { ⌜ (length (now b) ≤ 16777216) × (at < 562949953421304) × ((o : Option Tree) × TreeFound (now b) o tree × SiblingsDiffer o) ⌝ }
+    ensures { λ r. ⌜ ((o : Option Tree) → TreeFound (now (b .entry)) o tree → SiblingsDiffer o → Wrote (now (out .entry)) at (writeCacheTree (treeAfter touched (now (name .entry)) o)) (now (out .exit)) r) × (r ≤ at + 16777224) × (length (now (out .exit)) ≡ length (now (out .entry))) ⌝ }
 {
     if tree.there {
         let from = tree.at;
         let end = tree.end;
         let content = at + 8;
-        let after = tree_write::put_tree(&b[from..end], way, name, &mut *out, content);
+        let after = tree_write::put_tree(&b[from..end], touched, name, &mut *out, content);
         put_head(out, at, b"TREE", (after - content) as u32);
         return after;
     }
@@ -100,7 +101,7 @@ fn put_resolve_undo(b: &[u8], undo: UndoPlace, out: &mut [u8], at: usize) -> usi
         let from = undo.at;
         let end = undo.end;
         let content = put_head(&mut *out, at, b"REUC", (end - from) as u32);
-        return put_bytes(out, content, &b[from..end]);
+        return put_part(out, content, b, from, end);
     }
     at
 }
@@ -115,12 +116,12 @@ pub fn put_body(
     name: &[u8],
     version: u32,
     out: &mut [u8],
-) -> Laid
-    requires { ⌜ Ready (now b) (now work) parts edit fields (now name) ⌝ }
+) -> WriteEnd
+    requires { ⌜ WriteReady (now b) (now work) parts edit fields (now name) ⌝ }
     ensures { λ r. ⌜ BodyWritten (now (b .entry)) parts (now (work .entry)) edit (entryWith fields (now (name .entry))) version (now (out .entry)) (now (work .exit)) (now (out .exit)) r ⌝ }
 {
     let start = put_header(&mut *out, version, count_after(edit, parts.count));
-    let laid = entries_edit::put_edited(
+    let written = entries_edit::put_edited(
         b,
         parts.version,
         work,
@@ -138,11 +139,11 @@ pub fn put_body(
         is_change(edit),
         name,
         &mut *out,
-        laid.at,
+        written.at,
     );
     let end = put_resolve_undo(b, parts.found.undo, out, middle);
-    Laid {
+    WriteEnd {
         at: end,
-        extended: laid.extended,
+        extended: written.extended,
     }
 }

@@ -1,4 +1,4 @@
-// The file that is written: its body is measured, then written and sealed with its checksum.
+// The file that is written: its body is measured, then written and appended with its checksum.
 pub mod body;
 
 ghost use mathlib.Core.Path.{_≡_};
@@ -9,13 +9,13 @@ ghost use lib.Dec.{eqb};
 ghost use Rattle.entries.specs.Record.{entryWith};
 ghost use Rattle.output.specs.Output.{Wrote};
 ghost use Rattle.hash.specs.Sha1.{sha1};
-ghost use Rattle.file_write.specs.Bodies.{Ready};
-ghost use Rattle.file_write.specs.Results.{versionOf, likeOf, Measured, FileWritten};
+ghost use Rattle.file_write.specs.Bodies.{WriteReady};
+ghost use Rattle.file_write.specs.Results.{versionOf, measuredVersion, Measured, FileWritten};
 use crate::body::put_body;
 use answers::Written;
 use entries::record::Fields;
 use entries_edit::Edit;
-use entries_edit::rest::Laid;
+use entries_edit::rest::WriteEnd;
 use file_read::Parts;
 use output::put_bytes;
 
@@ -28,8 +28,8 @@ fn measure(
     fields: Fields,
     name: &[u8],
     version: u32,
-) -> Laid
-    requires { ⌜ Ready (now b) (now work) parts edit fields (now name) ⌝ }
+) -> WriteEnd
+    requires { ⌜ WriteReady (now b) (now work) parts edit fields (now name) ⌝ }
     ensures { λ r. ⌜ Measured (now (b .entry)) parts (now (work .entry)) edit (entryWith fields (now (name .entry))) version (now (work .exit)) r ⌝ }
 {
     let mut none = [0u8; 1];
@@ -37,7 +37,7 @@ fn measure(
 }
 
 // The checksum of the first n bytes, after them.
-fn seal(out: &mut [u8], n: usize) -> usize
+fn append_checksum(out: &mut [u8], n: usize) -> usize
     requires { ⌜ (n ≤ length (now out)) × (n ≤ 16777216) ⌝ }
     ensures { λ r. ⌜ Wrote (now (out .entry)) n (sha1 (take n (now (out .entry)))) (now (out .exit)) r ⌝ }
 {
@@ -59,8 +59,8 @@ fn version_for(asked: u32, extended: bool) -> u32
 }
 
 // A version in which the body is as long as in the one that is asked for.
-fn like(asked: u32) -> u32
-    ensures { λ r. ⌜ r ≡ likeOf asked ⌝ }
+fn measured_version(asked: u32) -> u32
+    ensures { λ r. ⌜ r ≡ measuredVersion asked ⌝ }
 {
     if asked == 4 {
         return 4;
@@ -89,10 +89,18 @@ pub fn write(
     name: &[u8],
     out: &mut [u8],
 ) -> Written
-    requires { ⌜ Ready (now b) (now work) parts edit fields (now name) ⌝ }
+    requires { ⌜ WriteReady (now b) (now work) parts edit fields (now name) ⌝ }
     ensures { λ r. ⌜ FileWritten (now (b .entry)) parts (now (work .entry)) asked edit (entryWith fields (now (name .entry))) (now (out .entry)) (now (work .exit)) (now (out .exit)) r ⌝ }
 {
-    let sized = measure(b, parts, &mut *work, edit, fields, name, like(asked));
+    let sized = measure(
+        b,
+        parts,
+        &mut *work,
+        edit,
+        fields,
+        name,
+        measured_version(asked),
+    );
     if is_barred(asked, sized.extended) {
         return Written::Refused(21, 0);
     }
@@ -103,7 +111,7 @@ pub fn write(
         return Written::Refused(20, 0);
     }
     let version = version_for(asked, sized.extended);
-    let laid = put_body(b, parts, work, edit, fields, name, version, &mut *out);
-    let n = seal(out, laid.at);
+    let written = put_body(b, parts, work, edit, fields, name, version, &mut *out);
+    let n = append_checksum(out, written.at);
     Written::Done(n)
 }

@@ -12,7 +12,7 @@ use Rattle.format.specs.Layout.{okMode, fixedLength, entryLength, flagsO
 use Rattle.format.specs.Reading.{good, need, shift, bind}
 use Rattle.format.specs.Reader.{isSet, okWord, plainLength, readPlain, readN, joined, readName, entryOf, readTail, readFixed, readEntry, readEntries, readText, countIn, needSome, readCount, readSubtrees, readObject, readNode, readSiblings, readForest, readNodes, readTree, readData, readExtension, readExtensions, readBody, readFile}
 use Rattle.format.specs.Writer.{needsWord, writePlain, writePacked, writeName, writeRest, writeEntry, writeEntries, digitsOf, decimalOf, writeCount, writeObject, writeNode, writeForest, writeTree, writeExtension, writeCacheTree, writeResolveUndo, writeExtensions, writeHeader, writeBody, writeFile}
-use Rattle.format.specs.Requests.{goesBefore, sameKey, putEntry, invalidNode, invalidWay, invalidTree, invalidCacheTree, putRecord, anyWord, okAsked, versionFor, fitting, writing, putRequest}
+use Rattle.format.specs.Requests.{goesBefore, sameKey, putEntry, invalidNode, invalidPath, invalidTree, invalidCacheTree, putRecord, anyWord, okAsked, versionFor, fitting, writing, putRequest}
 use Rattle.format.proofs.Examples.{hash, fileEntry}
 
 -- the names of the entries
@@ -102,5 +102,5 @@ Table =
     × (readFile 20 hash (indexBytes 6 clearedBytes) ≡ good (record { version = 2; end = 228; records = index 6 cleared }) 249)
 
 table : Table
-unfolding whole wholeBytes cleared clearedBytes cut cutter rest hash put16 put32 put32s putN be16 be32 be32s two eqList before lacks zeros digits decimal valueFrom value componentsFrom components okComponent okComponents okName lengthField compare common modeOf width okMode fixedLength entryLength flagsOf wordOf okNodeName has distinct under inside files allValid sum okCount okCounts okTreeCounts optional trees undos names need shift bind isSet okWord plainLength readPlain readN joined readName entryOf readTail readFixed readEntry readEntries readText countIn needSome readCount readSubtrees readObject readNode readSiblings readForest readNodes readTree readData readExtension readExtensions readBody readFile needsWord writePlain writePacked writeName writeRest writeEntry writeEntries digitsOf decimalOf writeCount writeObject writeNode writeForest writeTree writeExtension writeCacheTree writeResolveUndo writeExtensions writeHeader writeBody writeFile goesBefore sameKey putEntry invalidNode invalidWay invalidTree invalidCacheTree putRecord anyWord okAsked versionFor fitting writing putRequest
+unfolding whole wholeBytes cleared clearedBytes cut cutter rest hash put16 put32 put32s putN be16 be32 be32s two eqList before lacks zeros digits decimal valueFrom value componentsFrom components okComponent okComponents okName lengthField compare common modeOf width okMode fixedLength entryLength flagsOf wordOf okNodeName has distinct under inside files allValid sum okCount okCounts okTreeCounts optional trees undos names need shift bind isSet okWord plainLength readPlain readN joined readName entryOf readTail readFixed readEntry readEntries readText countIn needSome readCount readSubtrees readObject readNode readSiblings readForest readNodes readTree readData readExtension readExtensions readBody readFile needsWord writePlain writePacked writeName writeRest writeEntry writeEntries digitsOf decimalOf writeCount writeObject writeNode writeForest writeTree writeExtension writeCacheTree writeResolveUndo writeExtensions writeHeader writeBody writeFile goesBefore sameKey putEntry invalidNode invalidPath invalidTree invalidCacheTree putRecord anyWord okAsked versionFor fitting writing putRequest
 table = (refl, refl, refl, refl, refl, refl, refl, refl, refl, refl, refl, refl, refl, refl, refl, refl, refl, refl, refl, refl, refl, refl, refl, refl, refl, refl, refl, refl)

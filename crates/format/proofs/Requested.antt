@@ -11,7 +11,7 @@ use Rattle.format.specs.Records.{Entry, modeOf, Count, valid, invalid, N
 use Rattle.format.specs.Layout.{okMode, fixedLength, entryLength, flagsOf, wordOf, under}
 use Rattle.format.specs.Reading.{bad, good, need}
 use Rattle.format.specs.Writer.{needsWord, writePlain, writePacked, writeName, writeRest, writeEntry, writeEntries, writeCacheTree, writeResolveUndo, writeExtensions, writeHeader, writeBody, writeFile}
-use Rattle.format.specs.Requests.{goesBefore, sameKey, putEntry, removeEntry, holds, invalidNode, invalidWay, invalidCacheTree, putRecord, removeRecord, anyWord, okAsked, versionFor, fitting, writing, rewriteRequest, putRequest, removeRequest}
+use Rattle.format.specs.Requests.{goesBefore, sameKey, putEntry, removeEntry, holds, invalidNode, invalidPath, invalidCacheTree, putRecord, removeRecord, anyWord, okAsked, versionFor, fitting, writing, rewriteRequest, putRequest, removeRequest}
 use Rattle.format.proofs.Examples.{hash, object, fileEntry, listing}
 
 abbrev a : List ℕ
@@ -78,13 +78,13 @@ versions :
 unfolding records compare eqList needsWord goesBefore sameKey putEntry anyWord versionFor
 versions = (refl, refl, refl)
 
--- the way to "a/b/c" in a tree of a (with b and x) and c: the root, a and b; "a" itself has the root alone on its way
+-- the path to "a/b/c" in a tree of a (with b and x) and c: the root, a and b; "a" itself has the root alone on its path
 abbrev nodeOf : List ℕ → Count → Node
 nodeOf name count = record { name = name; count = count; object = object 0 }
 
-way :
-    (invalidWay 20 (97 ∷ 47 ∷ 98 ∷ 47 ∷ 99 ∷ []) (tree (nodeOf a (valid 2)) (tree (nodeOf (98 ∷ []) (valid 1)) nil (tree (nodeOf (120 ∷ []) (valid 1)) nil nil)) (tree (nodeOf (99 ∷ []) (valid 1)) nil nil))
+path-to :
+    (invalidPath 20 (97 ∷ 47 ∷ 98 ∷ 47 ∷ 99 ∷ []) (tree (nodeOf a (valid 2)) (tree (nodeOf (98 ∷ []) (valid 1)) nil (tree (nodeOf (120 ∷ []) (valid 1)) nil nil)) (tree (nodeOf (99 ∷ []) (valid 1)) nil nil))
     ≡ tree (nodeOf a invalid) (tree (nodeOf (98 ∷ []) invalid) nil (tree (nodeOf (120 ∷ []) (valid 1)) nil nil)) (tree (nodeOf (99 ∷ []) (valid 1)) nil nil))
-    × (invalidWay 20 a (tree (nodeOf a (valid 2)) nil nil) ≡ tree (nodeOf a (valid 2)) nil nil)
-unfolding invalidNode invalidWay under
-way = (refl, refl)
+    × (invalidPath 20 a (tree (nodeOf a (valid 2)) nil nil) ≡ tree (nodeOf a (valid 2)) nil nil)
+unfolding invalidNode invalidPath under
+path-to = (refl, refl)

@@ -55,7 +55,7 @@ eqList [] (y ∷ t) = false
 eqList (x ∷ s) [] = false
 eqList (x ∷ s) (y ∷ t) = cond (eqb x y) (eqList s t) false
 
--- how many bytes stand before the first b; all of them where there is none
+-- how many bytes are before the first b; all of them where there is none
 unfoldable pub before : ℕ → List ℕ → ℕ
 before b [] = 0
 before b (x ∷ s) = cond (eqb x b) 0 (suc (before b s))
@@ -70,7 +70,7 @@ unfoldable pub zeros : List ℕ → Bool
 zeros [] = true
 zeros (x ∷ s) = eqb x 0 && zeros s
 
--- ---- decimals: digits, at least one, and a zero first only where it stands alone
+-- ---- decimals: digits, at least one, and a zero first only where it is alone
 
 unfoldable pub digits : List ℕ → Bool
 digits [] = true

@@ -92,7 +92,7 @@ abbrev pub ObjectBytes : ℕ → Count → List ℕ → List ℕ → Type 0
 ObjectBytes w (valid n) object a = (length object ≡ w) × (a ≡ object)
 ObjectBytes w invalid object a = (object ≡ replicate w 0) × (a ≡ [])
 
--- the bytes of one node with so many subtrees: name, NUL, entry count, space, number of subtrees, LF, object name
+-- the bytes of one node and its number of subtrees: name, NUL, entry count, space, number of subtrees, LF, object name
 pub record IsNode (w : ℕ) (n : Node) (subtrees : ℕ) (a : List ℕ) : Type 0 where
   pub named : lacks 0 (n .name) ≡ true
   pub countText : List ℕ
@@ -109,7 +109,7 @@ pub record IsNode (w : ℕ) (n : Node) (subtrees : ℕ) (a : List ℕ) : Type 0 
 unfoldable pub okNodeName : List ℕ → Bool
 okNodeName s = leb 1 (length s) && lacks 47 s
 
--- siblings with at most so many levels, top-down and depth first
+-- siblings with at most the given number of levels, top-down and depth first
 pub data Siblings (w : ℕ) : ℕ → Forest → List ℕ → Type 0 where
   siblings-end : {levels : ℕ} → Siblings w levels nil []
   siblings-more :

@@ -50,7 +50,7 @@ isBelow Below = true
 isBelow Same = false
 isBelow Above = false
 
--- by name, then by stage: whether an entry of stage t, whose name stands so to the one before, may follow stage s
+-- by name, then by stage: whether an entry of stage t, whose name compares so to the one before, may follow stage s
 abbrev pub rises : Order → ℕ → ℕ → Bool
 rises Below s t = true
 rises Same s t = ltb s t

@@ -1,4 +1,4 @@
--- Where entries, tree nodes and resolve-undo records begin in a file, and so where the names stand that are shown. Of a file that is not
+-- Where entries, tree nodes and resolve-undo records begin in a file, and so where the names are that are shown. Of a file that is not
 -- accepted these places say nothing. w is the width of an object name and of the checksum, b the body.
 use mathlib.Core.List.{List, []}
 use mathlib.Core.Bool.{cond}
@@ -35,7 +35,7 @@ entryNamePlace w k f = namePlace w (entryPlace w (be32 f 4) k (bodyIn w f)) (bod
 
 -- ---- extensions
 
--- the data of the first extension with the signature x, of those from the place p on, whose bytes are s: they stand after signature and size.
+-- the data of the first extension with the signature x, of those from the place p on, whose bytes are s: they are after signature and size.
 -- fuel is at least the number of bytes
 unfoldable pub dataFrom : List ℕ → ℕ → ℕ → List ℕ → ℕ
 dataFrom x zero p s = p
@@ -45,7 +45,7 @@ dataFrom x (suc fuel) p s = cond (eqList (take 4 s) x) (p + 8) (dataFrom x fuel 
 unfoldable pub dataPlace : List ℕ → ℕ → List ℕ → ℕ
 dataPlace x end b = dataFrom x (length (drop end b)) end (drop end b)
 
--- the data at a place; their size stands before them
+-- the data at a place; their size is before them
 unfoldable pub dataIn : ℕ → List ℕ → List ℕ
 dataIn at b = take (be32 b (at - 4)) (drop at b)
 
@@ -53,7 +53,7 @@ dataIn at b = take (be32 b (at - 4)) (drop at b)
 unfoldable pub dataOf : ℕ → List ℕ → List ℕ → ℕ
 dataOf w x f = dataPlace x (entryPlace w (be32 f 4) (be32 f 8) (bodyIn w f)) (bodyIn w f)
 
--- ---- nodes of the cache tree, as they stand in its data
+-- ---- nodes of the cache tree, as they are in its data
 
 -- by the node that begins the list: its number of subtrees and its bytes
 abbrev pub onNode : {A : Type 0} → Read Head → A → (ℕ → ℕ → A) → A
@@ -69,14 +69,14 @@ nodeStart w (suc k) s = onNode (readNode w 0 s) (length s) (λ subtrees m. m + n
 unfoldable pub nodePlace : ℕ → ℕ → List ℕ → ℕ
 nodePlace w k f = dataOf w TREE f + nodeStart w k (dataIn (dataOf w TREE f) (bodyIn w f))
 
--- ---- resolve-undo records, as they stand in their data
+-- ---- resolve-undo records, as they are in their data
 
 -- a place after one record more
 unfoldable pub afterUndo : Read Undo → (Undo → ℕ → ℕ) → ℕ
 afterUndo (bad n p) k = 0
 afterUndo (good u m) k = m + k u m
 
--- the place in s of record number k, counted from 0, where one of the path previous stands before s; 0 where a record on the way is refused
+-- the place in s of record number k, counted from 0, where one of the path previous is before s; 0 where a record before it is refused
 unfoldable pub undoStart : ℕ → ℕ → ℕ → List ℕ → List ℕ → ℕ
 undoStart w p zero previous s = 0
 undoStart w p (suc k) previous s = afterUndo (readUndo w p previous s) (λ u m. undoStart w p k (u .path) (drop m s))

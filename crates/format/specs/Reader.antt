@@ -43,7 +43,7 @@ readN p most s =
     (need (leb 2 (length s)) 6 p
     (need (ltb (getD s 1 0) 128 && leb (two (getD s 0 0) (getD s 1 0)) most) 10 p (good (two (getD s 0 0) (getD s 1 0)) 2))))
 
--- the name in version 4: the previous name less its last n bytes, then what stands before the first NUL
+-- the name in version 4: the previous name less its last n bytes, then what is before the first NUL
 unfoldable pub joined : List ℕ → ℕ → List ℕ → List ℕ
 joined previous n s = take (length previous - n) previous ++ take (before 0 s) s
 
@@ -149,7 +149,7 @@ readSiblings w p go (suc k) s =
     (bind (go (h .subtrees) (drop m s)) λ kids n.
     bind (readSiblings w p go k (drop n (drop m s))) λ after o. good (tree (h .node) kids after) 0)
 
--- k siblings with at most so many levels
+-- k siblings with at most the given number of levels
 unfoldable pub readForest : ℕ → ℕ → ℕ → ℕ → List ℕ → Read Forest
 readForest w p zero zero s = good nil 0
 readForest w p zero (suc k) s = bad 15 p

@@ -1,4 +1,4 @@
--- The records of an index. w, where it stands, is the width of an object name: 20 bytes for SHA-1.
+-- The records of an index. w, where it is, is the width of an object name: 20 bytes for SHA-1.
 use mathlib.Core.List.{List, [], _∷_, _++_}
 use mathlib.Core.Bool.{Bool}
 use mathlib.Core.Option.{Option}
@@ -26,7 +26,7 @@ pub record Key : Type 0 where
 abbrev pub keyOf : Entry → Key
 keyOf e = record { name = e .name; stage = e .stage }
 
--- before the first entry stands the empty name
+-- before the first entry is the empty name
 abbrev pub start : Key
 start = record { name = []; stage = 0 }
 

@@ -14,7 +14,7 @@ use Rattle.format.specs.Writer.{needsWord, writeFile}
 
 -- ---- entries
 
--- by name, then by stage: whether an entry of the key a stands before one of the key b
+-- by name, then by stage: whether an entry of the key a is before one of the key b
 unfoldable pub goesBefore : Key → Key → Bool
 goesBefore a b = rises (compare (a .name) (b .name)) (a .stage) (b .stage)
 
@@ -34,21 +34,21 @@ unfoldable pub holds : Key → List Entry → Bool
 holds k [] = false
 holds k (x ∷ xs) = cond (sameKey (keyOf x) k) true (holds k xs)
 
--- ---- the cache tree: the root and each node on the way to the name's directory are made invalid
+-- ---- the cache tree: the root and each node on the path to the name's directory are made invalid
 
 unfoldable pub invalidNode : ℕ → Node → Node
 invalidNode w n = record { name = n .name; count = invalid; object = replicate w 0 }
 
 -- siblings; the name is what is left of it in their directory
-unfoldable pub invalidWay : ℕ → List ℕ → Forest → Forest
-invalidWay w name nil = nil
-invalidWay w name (tree n kids after) =
+unfoldable pub invalidPath : ℕ → List ℕ → Forest → Forest
+invalidPath w name nil = nil
+invalidPath w name (tree n kids after) =
     cond (under (n .name) name)
-    (tree (invalidNode w n) (invalidWay w (drop (length (n .name) + 1) name) kids) (invalidWay w name after))
-    (tree n kids (invalidWay w name after))
+    (tree (invalidNode w n) (invalidPath w (drop (length (n .name) + 1) name) kids) (invalidPath w name after))
+    (tree n kids (invalidPath w name after))
 
 unfoldable pub invalidTree : ℕ → List ℕ → Tree → Tree
-invalidTree w name t = record { root = invalidNode w (t .root); subtrees = invalidWay w name (t .subtrees) }
+invalidTree w name t = record { root = invalidNode w (t .root); subtrees = invalidPath w name (t .subtrees) }
 
 unfoldable pub invalidCacheTree : ℕ → List ℕ → Option Tree → Option Tree
 invalidCacheTree w name none = none

@@ -1,6 +1,6 @@
 // The format of Git's index file, defined: the definitions are in specs/, and the types that code shares with them are here.
 
-// How one name stands to another.
+// How one name compares to another.
 pub enum Order {
     Below,
     Same,

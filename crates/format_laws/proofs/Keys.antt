@@ -77,7 +77,7 @@ before-total a b h l =
     both : a .name ≡ b .name → a .stage ≡ b .stage → (eqList (a .name) (b .name) && eqb (a .stage) (b .stage)) ≡ true
     both e f = rw (eq-eqList (a .name) (b .name) e, eq-eqb (a .stage) (b .stage) f) refl
 
--- every entry stands after the empty name
+-- every entry is after the empty name
 start-by : (s : List ℕ) (stage : ℕ) → 1 ≤ length s → rises (compare [] s) 0 stage ≡ true
 unfolding compare
 start-by [] stage h = absurd (omega arith)

@@ -62,7 +62,7 @@ unfolding be32 be16
 be32-take s n a h =
     rw (getD-take n s a 0 (omega arith), getD-take n s (a + 1) 0 (omega arith), getD-take n s (a + 2) 0 (omega arith), getD-take n s (a + 2 + 1) 0 (omega arith)) refl
 
--- what is put is read back, whatever stands before and after
+-- what is put is read back, whatever is before and after
 be16-put16 : (n : ℕ) (r : List ℕ) → n < 65536 → be16 (put16 n ++ r) 0 ≡ n
 unfolding be16 put16
 be16-put16 n r h = omega arith

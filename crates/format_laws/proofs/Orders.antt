@@ -64,7 +64,7 @@ compare-same (x ∷ s) (y ∷ t) e =
 
 -- ---- three names
 
--- how the first stands to the third, from how it stands to the second and the second to the third, neither being above
+-- how the first compares to the third, from how it compares to the second and the second to the third, neither being above
 unfoldable pub through : Order → Order → Order
 through Below o = Below
 through Same o = o
@@ -128,7 +128,7 @@ common-through a b c h k = names-through a b c h k .shared
 
 -- ---- two names, the other way round
 
--- how t stands to s, where s stands so to t
+-- how t compares to s, where s compares so to t
 abbrev pub opposite : Order → Order
 opposite Below = Above
 opposite Same = Same

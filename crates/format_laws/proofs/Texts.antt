@@ -35,7 +35,7 @@ unfolding before
 before-le b [] = omega arith
 before-le b (x ∷ s) = by-cond (λ n. n ≤ suc (length s)) (eqb x b) 0 (suc (before b s)) (λ p. omega arith) (λ p. omega (arith, before-le b s))
 
--- the first b and what stands on either side of it
+-- the first b and what is on either side of it
 pub split-before : (b : ℕ) (s : List ℕ) → before b s < length s → s ≡ take (before b s) s ++ b ∷ drop (suc (before b s)) s
 unfolding before
 split-before b [] h = absurd (omega arith)
@@ -61,7 +61,7 @@ unfolding lacks
 lacks-right b [] t h = h
 lacks-right b (x ∷ s) t h = cond-inv (eqb x b) false (lacks b (s ++ t)) true h (λ p q. false-true q) (λ p q. lacks-right b s t q)
 
--- ---- whether a byte is lacking shows in how many bytes stand before it
+-- ---- whether a byte is lacking shows in how many bytes are before it
 
 module _ (b : ℕ) where
   pub lacks-all : (s : List ℕ) → lacks b s ≡ true → before b s ≡ length s

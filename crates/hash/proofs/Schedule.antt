@@ -72,7 +72,7 @@ module _ (m : List ℕ) (t : ℕ) (w : List ℕ) (hi : t < 80) (h : Holds m t w)
   from : (k j : ℕ) → k < max t 16 → t ≤ k + 16 → j ≡ k % 16 → getD w j 0 ≡ getD (schedule m) k 0
   from k j a b e = rw e (h .window k a b)
 
-  -- before round 16 the word stands in the window
+  -- before round 16 the word is in the window
   pub word-held : t < 16 → (getD w t 0 ≡ getD (schedule m) t 0) × Holds m (t + 1) w
   word-held lo = (
     from t t (omega arith) (omega arith) (omega arith),

@@ -80,7 +80,7 @@ absorb h p (suc n) = block (absorb h p n) (words p (n * 64) 16)
 unfoldable pub digest : State → List ℕ
 digest h = bytes4 (h .a) ++ (bytes4 (h .b) ++ (bytes4 (h .c) ++ (bytes4 (h .d) ++ bytes4 (h .e))))
 
--- the digest of a message of n bytes whose last piece is m, from the state h after what stands before m
+-- the digest of a message of n bytes whose last piece is m, from the state h after what is before m
 unfoldable pub finish : State → List ℕ → ℕ → List ℕ
 finish h m n = digest (absorb h (padded n m) (length (padded n m) / 64))
 

@@ -20,7 +20,7 @@ getD-words p i (suc n) (suc k) h =
     let e : i + suc k * 4 ≡ i + 4 + k * 4 = omega arith in
     rw e (getD-words p (i + 4) n k (omega arith))
 
--- words that stand on equal bytes are equal
+-- words of equal bytes are equal
 pub words-same : (p q : List ℕ) (i j n : ℕ) → ((k : ℕ) → k < n * 4 → getD p (i + k) 0 ≡ getD q (j + k) 0) → words p i n ≡ words q j n
 unfolding words be32
 words-same p q i j zero h = refl

@@ -10,6 +10,7 @@ use lib.Seq.{length-take-le}
 use lib.Dec.{eqb}
 use Rattle.format.specs.Records as F
 use Rattle.format.specs.Reader as R
+use Rattle.fields.specs.Workspace.{Frame}
 use Rattle.entries_run.specs.declared.Step.{Step}
 use Rattle.entries_run.specs.Steps.{nameAt, entryAt}
 use Rattle.answers.specs.declared.EntryAnswer.{EntryAnswer}
@@ -17,7 +18,7 @@ use Rattle.entries.specs.declared.record.Fields.{Fields}
 use Rattle.answers.specs.declared.Shown.the-variants as S
 use Rattle.answers.specs.Answers.{View, refused, inFile, inWorkspace, pick, cleared, holding, workAfter, nameIn, entrySaid}
 use Rattle.entries.specs.Record.{entryWith, fieldsOf}
-use Rattle.answers.proofs.Laws.{cleared-large, cleared-past, holding-after, holding-name, part-in, part-within}
+use Rattle.answers.proofs.Laws.{cleared-frame, cleared-same, holding-after, holding-name, part-in, part-within}
 use Rattle.entries.proofs.Fields.{fields-are}
 use Rattle.file_read.specs.Contents.{bodyOf}
 use Rattle.index.specs.Calls.{EntryShows}
@@ -58,45 +59,43 @@ module _ (v : ℕ) (f written : List ℕ) (at : ℕ) (st : Step) (o : Option F.E
       let size : st .next .len ≡ length (entry .name) = sym (ap length (entry-name ∙ there) ∙ long) in
       let own : x ≡ fieldsOf entry = fields-are x _ entry (entry-with _ name) in
       record {
-        whole = rw (is, ← placed, ← size, ← own) refl;
-        said = ap inFile (entry-with _ name) ∙ sym is;
-        inside = fits;
+        shows = record { whole = rw (is, ← placed, ← size, ← own) refl; said = ap inFile (entry-with _ name) ∙ sym is; inside = fits };
         after = rw is after;
       }
 
-  -- version 4: the name stands first in the workspace
-  pub shown-work : eqb v 4 ≡ true → st .next .len ≤ 8192 → length written ≡ length work → 8192 ≤ length work → drop 8192 written ≡ drop 8192 work
+  -- version 4: the name is first in the workspace
+  pub shown-work : eqb v 4 ≡ true → st .next .len ≤ 8192 → 8192 ≤ length work → Frame work written
       → work′ ≡ take (st .next .len) written ++ (replicate (8192 - st .next .len) 0 ++ drop 8192 written)
       → EntryShows place (pick (eqb v 4) o) f work work′ (record { shown = S.InWorkspace (st .next .len); fields = x })
   unfolding entrySaid nameAt entry
-  shown-work new short same room rest held =
-      let fits : st .next .len ≤ length written = omega arith in
+  shown-work new short room frame held =
+      let fits : st .next .len ≤ length written = omega (arith, frame) in
       let name : List ℕ = take (st .next .len) written in
       let long : length name ≡ st .next .len = length-take-le (st .next .len) written fits in
       let is : pick (eqb v 4) o ≡ inWorkspace entry = pick-work (eqb v 4) o entry new found in
-      let holds : work′ ≡ holding name work = held ∙ holding-after work written rest (st .next .len) fits in
+      let holds : work′ ≡ holding name work = held ∙ holding-after work written (frame .past) (st .next .len) fits in
       let own : nameAt v (bodyOf f) written (st .next .start) (st .next .len) ≡ name = rw new in
       let named : nameIn (S.InWorkspace (st .next .len)) f work′ ≡ name = rw holds (rw long at (holding-name name f work)) in
       let size : st .next .len ≡ length (entry .name) = sym (ap length (entry-name ∙ own) ∙ long) in
       let fields-own : x ≡ fieldsOf entry = fields-are x _ entry (entry-with _ (named ∙ sym own)) in
       record {
-        whole = rw (is, ← size, ← fields-own) refl;
-        said = ap inWorkspace (entry-with _ (named ∙ sym own)) ∙ sym is;
-        inside = rw holds (rw long at (held-inside name work));
+        shows = record {
+          whole = rw (is, ← size, ← fields-own) refl;
+          said = ap inWorkspace (entry-with _ (named ∙ sym own)) ∙ sym is;
+          inside = rw holds (rw long at (held-inside name work));
+        };
         after = rw is (holds ∙ ap (λ (s : List ℕ). holding s work) (sym (entry-name ∙ own)));
       }
 
 -- ---- where the workspace was cleared before
 
-after-same : (v : View F.Entry) (work written : List ℕ) → drop 8192 written ≡ drop 8192 work → 8192 ≤ length work → 8192 ≤ length written
-    → workAfter v written ≡ workAfter v work
+after-same : (v : View F.Entry) (work written : List ℕ) → 8192 ≤ length work → Frame work written → workAfter v written ≡ workAfter v work
 unfolding holding
-after-same (refused n p) work written rest room same = rw (cleared-large written same, cleared-large work room, rest)
-after-same (inFile e) work written rest room same = rw (cleared-large written same, cleared-large work room, rest)
-after-same (inWorkspace e) work written rest room same = rw rest
+after-same (refused n p) work written room frame = cleared-same work written room frame
+after-same (inFile e) work written room frame = cleared-same work written room frame
+after-same (inWorkspace e) work written room frame = rw (frame .past)
 
 pub shown-again : (v u : View F.Entry) (f work written work′ : List ℕ) (at : ℕ) (r : EntryAnswer) → v ≡ u → EntryShows at u f written work′ r
-    → written ≡ cleared work → 8192 ≤ length work → 8192 ≤ length written → EntryShows at v f work work′ r
-shown-again v u f work written work′ at r e h clean room same =
-    let rest : drop 8192 written ≡ drop 8192 work = ap (drop 8192) clean ∙ cleared-past work room in
-    rw e (record { whole = h .whole; said = h .said; inside = h .inside; after = h .after ∙ after-same u work written rest room same })
+    → written ≡ cleared work → 8192 ≤ length work → EntryShows at v f work work′ r
+shown-again v u f work written work′ at r e h clean room =
+    rw e (record { shows = h .shows; after = h .after ∙ after-same u work written room (rw clean (cleared-frame work room)) })

@@ -39,14 +39,14 @@ use Rattle.index.proofs.Views.{part-of-body, item-some, pick-none, pick
 root : F.Tree → F.Item
 root t = record { node = t .root; level = 1; subtrees = 0 }
 
--- where the data stand
+-- where the data are
 pub record Within (f : List ℕ) (tree : TreePlace) : Type 0 where
   pub order : tree .at ≤ tree .end
   pub inside : tree .end ≤ length f
   pub long : length (part f (tree .at) (tree .end)) ≡ tree .end - tree .at
 
 -- the node that was found in them, and the item that it is
-pub record Stands (k : ℕ) (f : List ℕ) (tree : TreePlace) (node : NodePlace) (i : F.Item) : Type 0 where
+pub record ItemHere (k : ℕ) (f : List ℕ) (tree : TreePlace) (node : NodePlace) (i : F.Item) : Type 0 where
   pub within : Within f tree
   pub place : tree .at + nodeStart 20 k (dataIn (tree .at) (bodyOf f)) ≡ tree .at + node .place
   pub level : i .level ≡ node .level
@@ -70,8 +70,8 @@ module _ (k : ℕ) (f : List ℕ) (tree : TreePlace) where
   no-node-there (some t) is few = pick-none false _ (item-none (F.treeItems t) k (omega (arith, is .nodes)))
 
   module _ (node : NodePlace) (found : NodeFound (part f (tree .at) (tree .end)) k node) where
-    stands-is : (t : F.Tree) → TreeIs (bodyOf f) t tree → k < length (F.treeItems t) → Stands k f tree node (getD (F.treeItems t) k (root t))
-    stands-is t is few =
+    item-here-is : (t : F.Tree) → TreeIs (bodyOf f) t tree → k < length (F.treeItems t) → ItemHere k f tree node (getD (F.treeItems t) k (root t))
+    item-here-is t is few =
         let d : List ℕ = part f (tree .at) (tree .end) in
         let same : part (bodyOf f) (tree .at) (tree .end) ≡ d = part-of-body f (tree .at) (tree .end) (is .order) (is .inside) in
         let reads : readNodes 20 0 d ≡ good t (length d) = rw same at (is .reads) in
@@ -85,12 +85,12 @@ module _ (k : ℕ) (f : List ℕ) (tree : TreePlace) where
         }
 
     -- by what was read of the file
-    pub stands {ℓ} : {X : Type ℓ} (o : Option F.Tree) → TreeFound (bodyOf f) o tree → k < tree .nodes
-        → ((i : F.Item) → listed (itemsOf o) k ≡ inFile i → tree .there ≡ true → Stands k f tree node i → X) → X
-    stands none is more g = let z : tree .nodes ≡ 0 = ap (λ (x : TreePlace). x .nodes) is in absurd (omega arith)
-    stands (some t) is more g =
+    pub item-here {ℓ} : {X : Type ℓ} (o : Option F.Tree) → TreeFound (bodyOf f) o tree → k < tree .nodes
+        → ((i : F.Item) → listed (itemsOf o) k ≡ inFile i → tree .there ≡ true → ItemHere k f tree node i → X) → X
+    item-here none is more g = let z : tree .nodes ≡ 0 = ap (λ (x : TreePlace). x .nodes) is in absurd (omega arith)
+    item-here (some t) is more g =
         let few : k < length (F.treeItems t) = omega (arith, is .nodes) in
-        g (getD (F.treeItems t) k (root t)) (pick-file false _ _ refl (item-some (F.treeItems t) k (root t) few)) (is .there) (stands-is t is few)
+        g (getD (F.treeItems t) k (root t)) (pick-file false _ _ refl (item-some (F.treeItems t) k (root t) few)) (is .there) (item-here-is t is few)
 
 -- ---- what is read there
 
@@ -178,12 +178,12 @@ pub places : (k : ℕ) (f : List ℕ) (tree : TreePlace) (node : NodePlace) → 
     → (n : Code.Node) → N.Good n ≡ nodeAt (node .place) (readNode 20 0 (drop (node .place) (part f (tree .at) (tree .end))))
     → (node .place ≤ n .nul) × (n .valid ≡ true → n .object + 20 ≤ length (part f (tree .at) (tree .end)))
 places k f tree node found o is more n e =
-    stands k f tree node found o is more λ i v there h.
+    item-here k f tree node found o is more λ i v there h.
     let p = node-parts (part f (tree .at) (tree .end)) (node .place) i (h .taken) (h .reads) n e in (p .named, p .there)
 
 -- ---- the answer
 
-pub node-shows : (k : ℕ) (f : List ℕ) (tree : TreePlace) (node : NodePlace) (at : ℕ) (v : View F.Item) (i : F.Item) → v ≡ inFile i → Stands k f tree node i
+pub node-shows : (k : ℕ) (f : List ℕ) (tree : TreePlace) (node : NodePlace) (at : ℕ) (v : View F.Item) (i : F.Item) → v ≡ inFile i → ItemHere k f tree node i
     → tree .at + nodeStart 20 k (dataIn (tree .at) (bodyOf f)) ≡ at
     → (n : Code.Node) → NodeParts (part f (tree .at) (tree .end)) (node .place) i n
     → (object : List ℕ) → object ≡ cond (n .valid) (take 20 (drop (n .object) (part f (tree .at) (tree .end)))) (replicate 20 0)
@@ -212,8 +212,10 @@ node-shows k f tree node at v i is h placed n p object o =
     let own : tree .at + node .place ≡ at = sym (h .place) ∙ placed in
     let same : object ≡ i .node .object = o ∙ sym (p .object) in
     record {
-      whole = rw (is, own, p .size, same, p .valid, p .count, p .subtrees, ← (h .level)) refl;
-      said = λ work. rw (name, same, p .valid, p .count, with-count (i .node .count), p .subtrees, ← (h .level), is) refl;
-      inside = λ work. fits;
+      shows = λ work. record {
+        whole = rw (is, own, p .size, same, p .valid, p .count, p .subtrees, ← (h .level)) refl;
+        said = rw (name, same, p .valid, p .count, with-count (i .node .count), p .subtrees, ← (h .level), is) refl;
+        inside = fits;
+      };
       zeros = λ e. o ∙ rw e;
     }

@@ -1,4 +1,4 @@
--- Where the parts of an accepted file stand, as the code finds them.
+-- Where the parts of an accepted file are, as the code finds them.
 use mathlib.Core.Path.{_≡_, sym, ap, _∙_}
 use mathlib.Core.List.{List, []}
 use mathlib.Core.Bool.{true}
@@ -15,7 +15,8 @@ use Rattle.format.specs.Places.{bodyIn, taken, entryPlace, namePlace, entryName
 use Rattle.format_laws.proofs.Numbers.{be32-take}
 use Rattle.hash.specs.Sha1.{sha1}
 use Rattle.file_read.specs.declared.Parts.{Parts}
-use Rattle.file_read.specs.Contents.{bodyOf, inRoom, Contains}
+use Rattle.answers.specs.Answers.{inRoom}
+use Rattle.file_read.specs.Contents.{bodyOf, Contains}
 use Rattle.file_read.proofs.Room.{in-room, room-of}
 use Rattle.file_read.proofs.Files.{file-says}
 

@@ -30,13 +30,13 @@ item-is (suc n) [] = refl
 item-is zero (u ∷ us) = refl
 item-is (suc n) (u ∷ us) = item-is n us
 
--- where the data stand
+-- where the data are
 pub record Within (f : List ℕ) (undo : UndoPlace) : Type 0 where
   pub order : undo .at ≤ undo .end
   pub inside : undo .end ≤ length f
 
 -- and in them a record that is found at a place
-pub record Stands (k : ℕ) (f : List ℕ) (undo : UndoPlace) (place : ℕ) (u : F.Undo) : Type 0 where
+pub record RecordHere (k : ℕ) (f : List ℕ) (undo : UndoPlace) (place : ℕ) (u : F.Undo) : Type 0 where
   pub within : Within f undo
   pub found : undo .at + undoStart 20 0 k [] (dataIn (undo .at) (bodyOf f)) ≡ undo .at + place
   pub reads : undoAt 20 0 (drop place (part f (undo .at) (undo .end))) ≡ some u
@@ -53,10 +53,10 @@ module _ (k : ℕ) (f : List ℕ) (undo : UndoPlace) where
   within (some us) is more = within-is us is
 
   -- by what was read of the file
-  pub stands {ℓ} : {X : Type ℓ} (place : ℕ) → place ≡ undoStart 20 0 k [] (part f (undo .at) (undo .end)) → (o : Option (List F.Undo)) → UndoFound (bodyOf f) o undo → k < undo .records
-      → ((u : F.Undo) → listed o k ≡ inFile u → undo .there ≡ true → Stands k f undo place u → X) → X
-  stands place e none is more g = let z : undo .records ≡ 0 = ap (λ (x : UndoPlace). x .records) is in absurd (omega arith)
-  stands place e (some us) is more g =
+  pub record-here {ℓ} : {X : Type ℓ} (place : ℕ) → place ≡ undoStart 20 0 k [] (part f (undo .at) (undo .end)) → (o : Option (List F.Undo)) → UndoFound (bodyOf f) o undo → k < undo .records
+      → ((u : F.Undo) → listed o k ≡ inFile u → undo .there ≡ true → RecordHere k f undo place u → X) → X
+  record-here place e none is more g = let z : undo .records ≡ 0 = ap (λ (x : UndoPlace). x .records) is in absurd (omega arith)
+  record-here place e (some us) is more g =
       let d : List ℕ = part f (undo .at) (undo .end) in
       let few : k < length us = omega (arith, is .records) in
       let there : getElem? us k ≡ some (getD us k no-record) = item-some us k no-record few in
@@ -74,7 +74,7 @@ module _ (k : ℕ) (f : List ℕ) (undo : UndoPlace) where
 
 -- ---- the answer
 
-module _ (k : ℕ) (f : List ℕ) (undo : UndoPlace) (found place : ℕ) (v : View F.Undo) (u : F.Undo) (is : v ≡ inFile u) (h : Stands k f undo found u)
+module _ (k : ℕ) (f : List ℕ) (undo : UndoPlace) (found place : ℕ) (v : View F.Undo) (u : F.Undo) (is : v ≡ inFile u) (h : RecordHere k f undo found u)
     (placed : undo .at + undoStart 20 0 k [] (dataIn (undo .at) (bodyOf f)) ≡ place) (s : Code.Shown)
     (shows : s ≡ shown found (undoAt 20 0 (drop found (part f (undo .at) (undo .end)))))
     (inside : s .path + s .«path_length» ≤ length (part f (undo .at) (undo .end))) where
@@ -104,8 +104,6 @@ module _ (k : ℕ) (f : List ℕ) (undo : UndoPlace) (found place : ℕ) (v : Vi
       ∙ rw (at, size) (shown-path 20 0 (drop found d) u (lit≤ tt) (h .reads)) in
       let own : undo .at + s .path ≡ place = ap (λ n. undo .at + n) at ∙ sym (h .found) ∙ placed in
       record {
-        whole = rw (is, own, q) refl;
-        said = λ work. rw (name, q, is) refl;
-        inside = λ work. fits;
+        shows = λ work. record { whole = rw (is, own, q) refl; said = rw (name, q, is) refl; inside = fits };
         zeros = rw q (missing-zeros 20 0 (drop found d) u (lit≤ tt) (h .reads));
       }

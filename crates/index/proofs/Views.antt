@@ -13,10 +13,10 @@ use Rattle.answers.specs.declared.Checked.the-variants as K
 use Rattle.answers.specs.declared.EntryAnswer.{EntryAnswer}
 use Rattle.answers.specs.declared.NodeAnswer.{NodeAnswer}
 use Rattle.answers.specs.declared.UndoAnswer.{UndoAnswer}
-use Rattle.answers.specs.Answers.{tooSmall, View, refused, inFile, inWorkspace, pick, given, cleared, checkedOf, checkAnswer, entryOf, entryAnswer, nodeOf, nodeAnswer, undoOf, undoAnswer, entrySaid, nodeSaid, undoSaid, refusedEntry, refusedNode, refusedUndo}
+use Rattle.answers.specs.Answers.{inRoom, View, refused, inFile, inWorkspace, pick, cleared, checkedOf, checkAnswer, entryOf, entryAnswer, nodeOf, nodeAnswer, undoOf, undoAnswer, entrySaid, nodeSaid, undoSaid, refusedEntry, refusedNode, refusedUndo}
 use Rattle.answers.proofs.Laws.{part-within}
 use Rattle.extensions.specs.Heads.{part}
-use Rattle.file_read.specs.Contents.{bodyOf, inRoom}
+use Rattle.file_read.specs.Contents.{bodyOf}
 use Rattle.index.specs.Calls.{EntryShows, NodeShows, UndoShows}
 
 -- ---- lists
@@ -48,29 +48,21 @@ module _ {A : Type 0} where
 
 -- the answers, from the reading with a workspace that may be too small
 module _ (work : List ℕ) (k : ℕ) (x y : Read Contents) (e : inRoom work x ≡ y) where
-  check-by : (t : Bool) → cond t (K.Refused 19 0) (checkedOf x) ≡ checkedOf (cond t (bad 19 0) x)
-  check-by true = refl
-  check-by false = refl
-
-  given-by : {A : Type 0} (view : Read Contents → View A) (t : Bool) → view (bad 19 0) ≡ refused 19 0 → cond t (refused 19 0) (view x) ≡ view (cond t (bad 19 0) x)
-  given-by view true q = sym q
-  given-by view false q = refl
-
   pub check-is : checkAnswer work x ≡ checkedOf y
-  unfolding checkAnswer inRoom
-  check-is = check-by (tooSmall work) ∙ ap checkedOf e
+  unfolding checkAnswer
+  check-is = ap checkedOf e
 
   pub entry-is : entryAnswer work k x ≡ entryOf k y
-  unfolding entryAnswer given inRoom
-  entry-is = given-by (entryOf k) (tooSmall work) refl ∙ ap (entryOf k) e
+  unfolding entryAnswer
+  entry-is = ap (entryOf k) e
 
   pub node-is : nodeAnswer work k x ≡ nodeOf k y
-  unfolding nodeAnswer given inRoom
-  node-is = given-by (nodeOf k) (tooSmall work) refl ∙ ap (nodeOf k) e
+  unfolding nodeAnswer
+  node-is = ap (nodeOf k) e
 
   pub undo-is : undoAnswer work k x ≡ undoOf k y
-  unfolding undoAnswer given inRoom
-  undo-is = given-by (undoOf k) (tooSmall work) refl ∙ ap (undoOf k) e
+  unfolding undoAnswer
+  undo-is = ap (undoOf k) e
 
 -- ---- refusals
 
@@ -80,14 +72,14 @@ module _ (n p : ℕ) (f : List ℕ) (at : ℕ) where
       ((file work : List ℕ) → entrySaid r file work ≡ refused n p) × (r ≡ refusedEntry n p) → work′ ≡ cleared work →
       EntryShows at v f work work′ r
   entry-refused v work work′ r e (said, is) after =
-      record { whole = rw e is; said = said f work′ ∙ sym e; inside = rw is tt; after = rw e after }
+      record { shows = record { whole = rw e is; said = said f work′ ∙ sym e; inside = rw is tt }; after = rw e after }
 
   pub node-refused :
       (v : View F.Item) (r : NodeAnswer) → v ≡ refused n p → ((file work : List ℕ) → nodeSaid r file work ≡ refused n p) × (r ≡ refusedNode n p) →
       NodeShows at v f r
-  node-refused v r e (said, is) = record { whole = rw e is; said = λ work. said f work ∙ sym e; inside = λ work. rw is tt; zeros = λ _. rw is refl }
+  node-refused v r e (said, is) = record { shows = λ work. record { whole = rw e is; said = said f work ∙ sym e; inside = rw is tt }; zeros = λ _. rw is refl }
 
   pub undo-refused :
       (v : View F.Undo) (r : UndoAnswer) → v ≡ refused n p → ((file work : List ℕ) → undoSaid r file work ≡ refused n p) × (r ≡ refusedUndo n p) →
       UndoShows at v f r
-  undo-refused v r e (said, is) = record { whole = rw e is; said = λ work. said f work ∙ sym e; inside = λ work. rw is tt; zeros = (λ _. rw is refl, λ _. rw is refl, λ _. rw is refl) }
+  undo-refused v r e (said, is) = record { shows = λ work. record { whole = rw e is; said = said f work ∙ sym e; inside = rw is tt }; zeros = (λ _. rw is refl, λ _. rw is refl, λ _. rw is refl) }

@@ -1,4 +1,4 @@
--- What the calls leave behind: what is shown, the answer whole. A name that is shown from the file stands at the place at.
+-- What the calls leave behind: what is shown, the answer whole. A name that is shown from the file is at the place at.
 use mathlib.Core.Path.{_≡_}
 use mathlib.Core.List.{List}
 use mathlib.Core.Bool.{false}
@@ -8,28 +8,21 @@ use Rattle.format.specs.Records as F
 use Rattle.answers.specs.declared.EntryAnswer.{EntryAnswer}
 use Rattle.answers.specs.declared.NodeAnswer.{NodeAnswer}
 use Rattle.answers.specs.declared.UndoAnswer.{UndoAnswer}
-use Rattle.answers.specs.Answers.{View, workAfter, entrySaid, nodeSaid, undoSaid, entryShown, nodeShown, undoShown, Inside}
+use Rattle.answers.specs.Answers.{View, workAfter, EntryShown, NodeShown, UndoShown}
 
--- the answer r shows v: it is the one that does, the bytes that it points at are the name, and they lie in their buffer. work′ is the workspace
--- after it, work the one before
+-- the answer r shows v. work′ is the workspace after it, work the one before
 pub record EntryShows (at : ℕ) (v : View F.Entry) (f work work′ : List ℕ) (r : EntryAnswer) : Type 0 where
-  pub whole : r ≡ entryShown at v
-  pub said : entrySaid r f work′ ≡ v
-  pub inside : Inside (r .shown) f work′
+  pub shows : EntryShown at v f work′ r
   pub after : work′ ≡ workAfter v work
 
 -- the names of nodes and records are parts of the file: the workspace does not matter
 pub record NodeShows (at : ℕ) (v : View F.Item) (f : List ℕ) (r : NodeAnswer) : Type 0 where
-  pub whole : r ≡ nodeShown at v
-  pub said : (work : List ℕ) → nodeSaid r f work ≡ v
-  pub inside : (work : List ℕ) → Inside (r .shown) f work
+  pub shows : (work : List ℕ) → NodeShown at v f work r
   -- an invalid node has zeros for its object name
   pub zeros : r .valid ≡ false → r .object ≡ replicate 20 0
 
 pub record UndoShows (at : ℕ) (v : View F.Undo) (f : List ℕ) (r : UndoAnswer) : Type 0 where
-  pub whole : r ≡ undoShown at v
-  pub said : (work : List ℕ) → undoSaid r f work ≡ v
-  pub inside : (work : List ℕ) → Inside (r .shown) f work
+  pub shows : (work : List ℕ) → UndoShown at v f work r
   -- a missing stage has zeros for its object name
   pub zeros :
       (r .«first_mode» ≡ 0 → r .first ≡ replicate 20 0)

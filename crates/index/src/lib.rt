@@ -7,11 +7,10 @@ ghost use Prim.Native.Nat.{ℕ, _+_, _≤_, _<_};
 ghost use lib.ListN.{length, take, drop, replicate, getElem?};
 ghost use lib.Dec.{eqb};
 ghost use Rattle.format.specs.Records as F;
-ghost use Rattle.format.specs.Reading.{good};
-ghost use Rattle.format.specs.Reader.{readEntries, readFile};
+ghost use Rattle.format.specs.Reader.{readFile};
 ghost use Rattle.format.specs.Places.{entryPlace, namePlace, entryNamePlace, dataIn, nodeStart, nodePlace, undoStart, undoPlace};
 ghost use Rattle.hash.specs.Sha1.{sha1};
-ghost use Rattle.entries_run.specs.Steps.{Room};
+ghost use Rattle.entries_run.specs.Steps.{EntriesRead, Room};
 ghost use Rattle.extensions.specs.Found.{TreeFound, UndoFound};
 ghost use Rattle.answers.specs.declared.Count.the-variants.{Absent, Present};
 ghost use Rattle.answers.specs.Answers.{cleared, pick, listed, itemsOf, checkAnswer, entryAnswer, nodeAnswer, undoAnswer};
@@ -42,7 +41,7 @@ use tree_nodes::passes::find_node;
 // Entry number k of a file of version v. Where all entries were read and k is below their number, it is found.
 fn show_entry(file: &[u8], v: u32, work: &mut [u8], k: u32) -> EntryAnswer
     requires { ⌜ Room (bodyOf (now file)) (now work) ⌝ }
-    ensures { λ r. ⌜ ((count : ℕ) (es : List F.Entry) (m : ℕ) → readEntries 20 v count F.start 12 (drop 12 (bodyOf (now (file .entry)))) ≡ good es m → k < count → EntryShows (namePlace 20 (entryPlace 20 v k (bodyOf (now (file .entry)))) (bodyOf (now (file .entry)))) (pick (eqb v 4) (getElem? es k)) (now (file .entry)) (now (work .entry)) (now (work .exit)) r) ⌝ }
+    ensures { λ r. ⌜ ((count : ℕ) (es : List F.Entry) (m : ℕ) → EntriesRead v count (bodyOf (now (file .entry))) es m → k < count → EntryShows (namePlace 20 (entryPlace 20 v k (bodyOf (now (file .entry)))) (bodyOf (now (file .entry)))) (pick (eqb v 4) (getElem? es k)) (now (file .entry)) (now (work .entry)) (now (work .exit)) r) ⌝ }
 {
     let n = file.len() - 20;
     let sought = entries_run::seek_entry(&file[..n], v, &mut *work, k);

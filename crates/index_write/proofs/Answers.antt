@@ -1,5 +1,5 @@
 -- What the requests answer: by their tests, and by the reading of the file.
-use mathlib.Core.Path.{_≡_, refl, sym, _∙_}
+use mathlib.Core.Path.{_≡_, refl, sym, ap, _∙_}
 use mathlib.Core.List.{List, [], _∷_, _++_}
 use mathlib.Core.Bool.{Bool, true, false, cond}
 use Prim.Native.Nat.{ℕ, _≤_, _<_}
@@ -17,18 +17,19 @@ use Rattle.format.specs.Requests.{okAsked, putRecord, removeRecord, holds, writ
 use Rattle.format_laws.proofs.Tests.{and-inv, by-test}
 use Rattle.format_laws.proofs.Readings.{bad-good, good-inv}
 use Rattle.hash.specs.Sha1.{sha1}
+use Rattle.fields.specs.Workspace.{Frame}
 use Rattle.entries.specs.declared.record.Fields.{Fields}
 use Rattle.answers.specs.declared.Written.{Written}
 use Rattle.answers.specs.declared.Written.the-variants as W
-use Rattle.answers.specs.Answers.{tooSmall, cleared}
+use Rattle.answers.specs.Answers.{inRoom, cleared}
 use Rattle.entries.specs.Record.{entryWith}
-use Rattle.answers.specs.Writing.{requested, answered}
-use Rattle.answers.proofs.Laws.{cleared-past, cleared-long, cleared-same}
+use Rattle.answers.specs.Writing.{requested}
+use Rattle.answers.proofs.Laws.{cleared-frame, cleared-same}
 use Rattle.file_read.specs.declared.Parts.{Parts}
-use Rattle.file_read.specs.Contents.{bodyOf, inRoom, Contains}
+use Rattle.file_read.specs.Contents.{bodyOf, Contains}
 use Rattle.file_read.proofs.Room.{room-of, in-room, cleared-by}
 use Rattle.entries_edit.specs.declared.Edit.{Edit}
-use Rattle.file_write.specs.Bodies.{changed, Ready}
+use Rattle.file_write.specs.Bodies.{changed, WriteReady}
 use Rattle.file_write.specs.Results.{FileWritten}
 use Rattle.index_write.specs.Calls.{Writes, Opened, Planned, recordNumber}
 use Rattle.index_write.proofs.Files.{has-of, count-few}
@@ -117,32 +118,13 @@ sound-record fields name h =
     (λ stage. absurd (let z : _≡_ {A = ℕ} 8 0 = rw (mode, stage) at h in omega arith)))
     (λ mode. absurd (let z : _≡_ {A = ℕ} 7 0 = rw mode at h in omega arith))
 
--- ---- the calls, with a workspace that may be too small
-
-module _ (work : List ℕ) (x : Read Contents) (ask : Records → Read (List ℕ)) where
-  pub answered-bad : (n p : ℕ) → inRoom work x ≡ bad n p → answered work x ask ≡ bad n p
-  unfolding answered inRoom
-  answered-bad n p e = by (tooSmall work) e
-    where
-      by : (t : Bool) → cond t (bad 19 0) x ≡ bad n p → cond t (bad 19 0) (requested x ask) ≡ bad n p
-      by true q = let a : 19 ≡ n = cc in let b : 0 ≡ p = cc in rw (a, b)
-      by false q = rw q
-
-  pub answered-good : (c : Contents) (m : ℕ) → inRoom work x ≡ good c m → answered work x ask ≡ requested x ask
-  unfolding answered inRoom
-  answered-good c m e = by (tooSmall work) e
-    where
-      by : (t : Bool) → cond t (bad 19 0) x ≡ good c m → cond t (bad 19 0) (requested x ask) ≡ requested x ask
-      by true q = bad-good _ _ _ _ q
-      by false q = refl
-
 -- ---- what the calls leave behind, from what their second part does
 
 module _ (f work work₁ : List ℕ) (clear : work₁ ≡ cleared work) where
   -- the file is refused
   pub call-refused : (ask : Records → Read (List ℕ)) (n p : ℕ) (out : List ℕ) → inRoom work (readFile 20 sha1 f) ≡ bad n p
-      → Writes (answered work (readFile 20 sha1 f) ask) out work out work₁ (W.Refused n p)
-  call-refused ask n p out e = writes-bad _ n p out work work₁ (answered-bad work (readFile 20 sha1 f) ask n p e) clear
+      → Writes (requested (inRoom work (readFile 20 sha1 f)) ask) out work out work₁ (W.Refused n p)
+  call-refused ask n p out e = writes-bad _ n p out work work₁ (rw e) clear
 
   -- it is accepted
   module _ (parts : Parts) (h : Contains (inRoom work (readFile 20 sha1 f)) (bodyOf f) parts) where
@@ -150,23 +132,22 @@ module _ (f work work₁ : List ℕ) (clear : work₁ ≡ cleared work) where
     room = room-of work (readFile 20 sha1 f) (h .contents) (h .taken) (h .read)
 
     same : cleared work₁ ≡ cleared work
-    same = rw clear (cleared-same work (cleared work) room (cleared-long work room) (cleared-past work room))
+    same = rw clear (cleared-same work (cleared work) room (cleared-frame work room))
 
     pub call-opened : Opened f work₁ parts × (work₁ ≡ cleared work₁)
     call-opened =
-        let long : length work₁ ≡ length work = rw clear (cleared-long work room) in
-        let r = room in
-        (record { room = omega arith; contains = rw (in-room work (readFile 20 sha1 f) r) at h }, clear ∙ sym same)
+        let frame : Frame work work₁ = rw clear (cleared-frame work room) in
+        (record { room = omega (arith, frame, room); contains = rw (in-room work (readFile 20 sha1 f) room) at h }, clear ∙ sym same)
 
     pub call-answered : (ask : Records → Read (List ℕ)) (out out′ work′ : List ℕ) (r : Written)
-        → Writes (requested (readFile 20 sha1 f) ask) out work₁ out′ work′ r → Writes (answered work (readFile 20 sha1 f) ask) out work out′ work′ r
+        → Writes (requested (readFile 20 sha1 f) ask) out work₁ out′ work′ r → Writes (requested (inRoom work (readFile 20 sha1 f)) ask) out work out′ work′ r
     call-answered ask out out′ work′ r w =
-        writes-as _ _ out work work₁ out′ work′ r (answered-good work (readFile 20 sha1 f) ask (h .contents) (h .taken) (h .read)) same w
+        writes-as _ _ out work work₁ out′ work′ r (ap (λ (x : Read Contents). requested x ask) (in-room work (readFile 20 sha1 f) room)) same w
 
 -- ---- an edit, written
 
 module _ (f work : List ℕ) (bytes : Bytes f) (parts : Parts) (edit : Edit) (fields : Fields) (name : List ℕ) (p : Planned f work parts edit fields name) where
-  pub edit-ready : Ready (bodyOf f) work parts edit fields name
+  pub edit-ready : WriteReady (bodyOf f) work parts edit fields name
   edit-ready =
       let h = p .opened .contains in
       record {
@@ -187,4 +168,4 @@ module _ (f work : List ℕ) (bytes : Bytes f) (parts : Parts) (edit : Edit) (fi
       let h = p .opened .contains in
       good-inv _ _ _ _ (sym (h .read) ∙ read) λ is taken.
       let a = w .answers (h .contents .records) (has-of f bytes parts h) (p .there) in
-      rw (← is) (record { said = a .said; filled = a .filled; after = cleared-by work work₂ (drop 8192 work₁) (p .opened .room) clear (w .past) })
+      rw (← is) (record { said = a .said; filled = a .filled; after = cleared-by work work₁ work₂ (p .opened .room) (w .frame) clear })

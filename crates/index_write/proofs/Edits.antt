@@ -4,13 +4,12 @@ use mathlib.Core.List.{List}
 use mathlib.Core.Bool.{Bool, true, false}
 use mathlib.Core.Option.{some}
 use Prim.Native.Nat.{ℕ}
-use lib.ListN.{drop, getElem?}
-use Rattle.format.specs.Records.{Entry, Key, keyOf, start, Records}
-use Rattle.format.specs.Reading.{good}
-use Rattle.format.specs.Reader.{readEntries}
+use lib.ListN.{getElem?}
+use Rattle.format.specs.Records.{Entry, Key, keyOf, Records}
 use Rattle.format.specs.Requests.{putRecord, removeRecord, holds}
+use Rattle.entries_run.specs.Steps.{EntriesRead}
 use Rattle.entries_place.specs.declared.Place.{Place}
-use Rattle.entries_place.specs.Places.{Ranked}
+use Rattle.entries_place.specs.Places.{PlaceFound}
 use Rattle.entries_place.proofs.Places.{there-inv, there-name, put-at, remove-at, holds-at}
 use Rattle.entries_edit.specs.declared.Edit.the-variants as E
 use Rattle.entries_edit.specs.Edits.{Replaces}
@@ -21,8 +20,8 @@ pub keep-changed : (e : Entry) (r : Records) → changed E.Keep e r ≡ r
 unfolding changed treeAfter
 keep-changed e r = refl
 
-module _ (v : ℕ) (b work : List ℕ) (count : ℕ) (k : Key) (work′ : List ℕ) (p : Place) (h : Ranked v b work count k work′ p) (r : Records) (m : ℕ)
-    (q : readEntries 20 v count start 12 (drop 12 b) ≡ good (r .entries) m) where
+module _ (v : ℕ) (b work : List ℕ) (count : ℕ) (k : Key) (work′ : List ℕ) (p : Place) (h : PlaceFound v b work count k work′ p) (r : Records) (m : ℕ)
+    (q : EntriesRead v count b (r .entries) m) where
   pub put-changed : (e : Entry) → keyOf e ≡ k → putRecord 20 e r ≡ changed (E.Put (p .before) (p .there)) e r
   unfolding putRecord changed treeAfter
   put-changed e is = rw (put-at v b work count k work′ p h (r .entries) m q e is)

@@ -23,7 +23,7 @@ use Rattle.writing.proofs.Entries.{entries-long}
 use Rattle.writing.proofs.File.{spelled-sound}
 use Rattle.file_read.specs.declared.Parts.{Parts}
 use Rattle.file_read.specs.Contents.{bodyOf, Contains}
-use Rattle.file_write.specs.Bodies.{Has}
+use Rattle.file_write.specs.Bodies.{BodyHas}
 
 -- ---- records that spell a file
 
@@ -51,7 +51,7 @@ module _ (f : List ℕ) (bytes : Bytes f) (parts : Parts) (h : Contains (readFil
   spelled : Spells 20 sha1 (h .contents .records) f
   spelled = read-spelled 20 sha1 length-sha1 f (h .contents) (h .taken) bytes (h .read)
 
-  pub has-of : Has (bodyOf f) parts (h .contents .records)
+  pub has-of : BodyHas (bodyOf f) parts (h .contents .records)
   has-of = record {
     entries = h .entries;
     counted = h .counted;

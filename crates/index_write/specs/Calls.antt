@@ -9,19 +9,26 @@ use Rattle.format.specs.Bytes.{fit32}
 use Rattle.format.specs.Names.{okName}
 use Rattle.format.specs.Records.{Records}
 use Rattle.format.specs.Layout.{okMode}
-use Rattle.format.specs.Reading.{Read}
+use Rattle.format.specs.Reading.{Read, bad}
+use Rattle.format.specs.Requests.{okAsked, writing, rewriteRequest, putRequest, removeRequest}
 use Rattle.format.specs.Reader.{readFile}
 use Rattle.hash.specs.Sha1.{sha1}
+use Rattle.fields.specs.Workspace.{Frame}
 use Rattle.writing.specs.OneFile.{WritesBack}
 use Rattle.entries.specs.declared.record.Fields.{Fields}
 use Rattle.answers.specs.declared.Written.{Written}
 use Rattle.answers.specs.Answers.{cleared}
 use Rattle.entries.specs.Record.{entryWith}
-use Rattle.answers.specs.Writing.{writtenOf, outputAfter}
+use Rattle.answers.specs.Writing.{requested, writtenOf, outputAfter}
 use Rattle.file_read.specs.declared.Parts.{Parts}
 use Rattle.file_read.specs.Contents.{bodyOf, Contains}
 use Rattle.entries_edit.specs.declared.Edit.{Edit}
 use Rattle.entries_edit.specs.Edits.{passes, Replaces}
+use Rattle.file_write.specs.Bodies.{changed}
+use Rattle.index_write.specs.declared.Request.{Request}
+use Rattle.index_write.specs.declared.Request.the-variants as Q
+use Rattle.index_write.specs.declared.Plan.{Plan}
+use Rattle.index_write.specs.declared.Plan.the-variants as P
 
 -- the answer x as the code gives it; the output and the workspace after it
 pub record Writes (x : Read (List ℕ)) (out work out′ work′ : List ℕ) (r : Written) : Type 0 where
@@ -41,7 +48,7 @@ pub record Typed (fields : Fields) : Type 0 where
 
 -- ---- between the reading of a file and the writing
 
--- the file f was read, and parts tell where its records stand; the workspace is long enough
+-- the file f was read, and parts tell where its records are; the workspace is long enough
 pub record Opened (f work : List ℕ) (parts : Parts) : Type 0 where
   pub room : 8192 ≤ length work
   pub contains : Contains (readFile 20 sha1 f) (bodyOf f) parts
@@ -53,6 +60,37 @@ pub record Planned (f work : List ℕ) (parts : Parts) (edit : Edit) (fields : F
   pub stage : fields .stage ≤ 3
   pub short : length name ≤ 8192
   pub there : Replaces edit name (opened .contains .contents .records .entries)
+
+-- what is asked of the records that were read, with a name and the fields of the entry that is put
+abbrev pub requestOf : Request → List ℕ → Fields → ℕ → ℕ → Records → Read (List ℕ)
+requestOf Q.Rewrite name fields asked room = rewriteRequest 20 sha1 asked room
+requestOf Q.Put name fields asked room = putRequest 20 sha1 asked (entryWith fields name) room
+requestOf (Q.Remove stage) name fields asked room = removeRequest 20 sha1 asked (record { name = name; stage = stage }) room
+
+-- the fields and the name of a request that puts nothing
+abbrev pub RequestFits : Request → List ℕ → Fields → Type 0
+RequestFits Q.Rewrite name fields = (length name ≤ 8192) × (fields .stage ≤ 3)
+RequestFits Q.Put name fields = Unit {0}
+RequestFits (Q.Remove stage) name fields = fields .stage ≤ 3
+
+-- where the version may be asked for, the request is refused
+pub record Refuses (f : List ℕ) (request : Request) (name : List ℕ) (fields : Fields) (n : ℕ) : Type 0 where
+  pub is : (asked room : ℕ) → okAsked asked ≡ true → requested (readFile 20 sha1 f) (requestOf request name fields asked room) ≡ bad n 0
+
+-- or it is an edit, written
+pub record Changes (f work : List ℕ) (parts : Parts) (request : Request) (name : List ℕ) (fields : Fields) (edit : Edit) : Type 0 where
+  pub planned : Planned f work parts edit fields name
+  pub is : (asked room : ℕ) → okAsked asked ≡ true
+      → requested (readFile 20 sha1 f) (requestOf request name fields asked room)
+      ≡ writing 20 sha1 asked room (changed edit (entryWith fields name) (planned .opened .contains .contents .records))
+
+abbrev pub planBy : List ℕ → List ℕ → Parts → Request → List ℕ → Fields → Plan → Type 0
+planBy f work parts request name fields (P.Refused n) = Refuses f request name fields n
+planBy f work parts request name fields (P.Change edit) = Changes f work parts request name fields edit
+
+pub record PlanFor (f work : List ℕ) (parts : Parts) (request : Request) (name : List ℕ) (fields : Fields) (work′ : List ℕ) (r : Plan) : Type 0 where
+  pub frame : Frame work work′
+  pub is : planBy f work′ parts request name fields r
 
 -- the refusal of a record that is to be put, 0 where it is sound
 unfoldable pub recordNumber : Fields → List ℕ → ℕ

@@ -2,25 +2,41 @@
 ghost use mathlib.Core.Path.{_≡_};
 ghost use mathlib.Core.List.{[], _∷_};
 ghost use mathlib.Core.Bool.{true};
-ghost use Prim.Native.Nat.{ℕ};
+ghost use Prim.Native.Nat.{ℕ, _≤_};
 ghost use lib.ListN.{length};
 ghost use Rattle.format.specs.Bytes.{fit32};
 ghost use Rattle.format.specs.Reading.{good};
 ghost use Rattle.format.specs.Reader.{Contents, readFile};
 ghost use Rattle.format.specs.Requests.{putRecord, removeRecord, okAsked, writing, rewriteRequest, putRequest, removeRequest};
 ghost use Rattle.hash.specs.Sha1.{sha1};
-ghost use Rattle.answers.specs.Answers.{cleared};
+ghost use Rattle.answers.specs.Answers.{inRoom, cleared};
 ghost use Rattle.entries.specs.Record.{entryWith};
 ghost use Rattle.answers.specs.Writing.{requested, rewriteAnswer, putAnswer, removeAnswer};
 ghost use Rattle.file_write.specs.Bodies.{changed};
-ghost use Rattle.index_write.specs.Calls.{Writes, Saves, Typed, Opened, Planned, recordNumber};
+ghost use Rattle.index_write.specs.Calls.{Writes, Saves, Typed, Opened, Planned, requestOf, RequestFits, PlanFor, recordNumber};
+ghost use Rattle.entries.specs.declared.record.Fields.{Fields};
+ghost use Rattle.index_write.specs.declared.Request.the-variants as Q;
 use answers::Written;
 use entries::record::Fields;
+use entries::record::no_fields;
 use entries_edit::Edit;
 use entries_place::find_place;
 use file_read::Parts;
 use file_read::Whole;
 use file_read::read_cleared;
+
+// What is asked for: the records as they are, with one put, or without the entry of a name and this stage.
+pub enum Request {
+    Rewrite,
+    Put,
+    Remove(u32),
+}
+
+// A refusal's number, or an edit.
+pub enum Plan {
+    Refused(u32),
+    Change(Edit),
+}
 
 // ---- the tests of a request
 
@@ -111,96 +127,106 @@ fn write_edited(
     written
 }
 
-fn rewrite_read(file: &[u8], parts: Parts, work: &mut [u8], out: &mut [u8], asked: u32) -> Written
-    requires { ⌜ Opened (now file) (now work) parts × (now work ≡ cleared (now work)) ⌝ }
-    ensures { λ r. ⌜ Writes (requested (readFile 20 sha1 (now (file .entry))) (rewriteRequest 20 sha1 asked (length (now (out .entry))))) (now (out .entry)) (now (work .entry)) (now (out .exit)) (now (work .exit)) r ⌝ }
+// What a sound record needs to be put: the place of its name and stage.
+fn plan_put(file: &[u8], parts: Parts, work: &mut [u8], name: &[u8], fields: Fields) -> Plan
+    requires { ⌜ Opened (now file) (now work) parts ⌝ }
+    ensures { λ r. ⌜ PlanFor (now (file .entry)) (now (work .entry)) parts Q.Put (now (name .entry)) fields (now (work .exit)) r ⌝ }
 {
-    if asked_ok(asked) {
-        return write_edited(
-            file,
-            parts,
-            work,
-            out,
-            asked,
-            Edit::Keep,
-            entries::record::no_fields(),
-            b"",
-        );
+    let refusal = record_number(fields, name);
+    if 0 < refusal {
+        return Plan::Refused(refusal);
     }
-    Written::Refused(4, 0)
+    let n = file.len() - 20;
+    let place = find_place(
+        &file[..n],
+        parts.version,
+        work,
+        parts.count,
+        name,
+        fields.stage,
+    );
+    Plan::Change(Edit::Put(place.before, place.there))
 }
 
-fn put_read(
+// The place of the entry that is to be removed; 18 where there is none.
+fn plan_remove(file: &[u8], parts: Parts, work: &mut [u8], name: &[u8], stage: u32) -> Plan
+    requires { ⌜ Opened (now file) (now work) parts ⌝ }
+    ensures { λ r. ⌜ ((fields : Fields) → fields .stage ≤ 3 → PlanFor (now (file .entry)) (now (work .entry)) parts (Q.Remove stage) (now (name .entry)) fields (now (work .exit)) r) ⌝ }
+{
+    let n = file.len() - 20;
+    let place = find_place(&file[..n], parts.version, work, parts.count, name, stage);
+    if place.there {
+        return Plan::Change(Edit::Remove(place.before));
+    }
+    Plan::Refused(18)
+}
+
+// What a request changes in a file that was read, or why not.
+fn plan_for(
+    file: &[u8],
+    parts: Parts,
+    work: &mut [u8],
+    request: Request,
+    name: &[u8],
+    fields: Fields,
+) -> Plan
+    requires { ⌜ Opened (now file) (now work) parts × RequestFits request (now name) fields ⌝ }
+    ensures { λ r. ⌜ PlanFor (now (file .entry)) (now (work .entry)) parts request (now (name .entry)) fields (now (work .exit)) r ⌝ }
+{
+    match request {
+        Request::Rewrite => Plan::Change(Edit::Keep),
+        Request::Put => plan_put(file, parts, work, name, fields),
+        Request::Remove(stage) => plan_remove(file, parts, work, name, stage),
+    }
+}
+
+// A request on a file that was read. The workspace is cleared.
+fn save_read(
     file: &[u8],
     parts: Parts,
     work: &mut [u8],
     out: &mut [u8],
     asked: u32,
+    request: Request,
     name: &[u8],
     fields: Fields,
 ) -> Written
-    requires { ⌜ Opened (now file) (now work) parts × (now work ≡ cleared (now work)) ⌝ }
-    ensures { λ r. ⌜ Writes (requested (readFile 20 sha1 (now (file .entry))) (putRequest 20 sha1 asked (entryWith fields (now (name .entry))) (length (now (out .entry))))) (now (out .entry)) (now (work .entry)) (now (out .exit)) (now (work .exit)) r ⌝ }
+    requires { ⌜ Opened (now file) (now work) parts × (now work ≡ cleared (now work)) × RequestFits request (now name) fields ⌝ }
+    ensures { λ r. ⌜ Writes (requested (readFile 20 sha1 (now (file .entry))) (requestOf request (now (name .entry)) fields asked (length (now (out .entry))))) (now (out .entry)) (now (work .entry)) (now (out .exit)) (now (work .exit)) r ⌝ }
 {
     if asked_ok(asked) {
-        let refusal = record_number(fields, name);
-        if 0 < refusal {
-            return Written::Refused(refusal, 0);
+        let plan = plan_for(file, parts, &mut *work, request, name, fields);
+        match plan {
+            Plan::Refused(n) => {
+                fields::clear(work);
+                return Written::Refused(n, 0);
+            }
+            Plan::Change(edit) => {
+                return write_edited(file, parts, work, out, asked, edit, fields, name);
+            }
         }
-        let n = file.len() - 20;
-        let place = find_place(
-            &file[..n],
-            parts.version,
-            &mut *work,
-            parts.count,
-            name,
-            fields.stage,
-        );
-        let edit = Edit::Put(place.before, place.there);
-        return write_edited(file, parts, work, out, asked, edit, fields, name);
     }
     Written::Refused(4, 0)
 }
 
-fn remove_read(
+// A request on a file: what rewrite, put and remove have in common.
+fn save(
     file: &[u8],
-    parts: Parts,
     work: &mut [u8],
     out: &mut [u8],
     asked: u32,
+    request: Request,
     name: &[u8],
-    stage: u32,
+    fields: Fields,
 ) -> Written
-    requires { ⌜ Opened (now file) (now work) parts × (now work ≡ cleared (now work)) ⌝ }
-    ensures { λ r. ⌜ Writes (requested (readFile 20 sha1 (now (file .entry))) (removeRequest 20 sha1 asked (record { name = now (name .entry); stage = stage }) (length (now (out .entry))))) (now (out .entry)) (now (work .entry)) (now (out .exit)) (now (work .exit)) r ⌝ }
+    requires { ⌜ RequestFits request (now name) fields ⌝ }
+    ensures { λ r. ⌜ Writes (requested (inRoom (now (work .entry)) (readFile 20 sha1 (now (file .entry)))) (requestOf request (now (name .entry)) fields asked (length (now (out .entry))))) (now (out .entry)) (now (work .entry)) (now (out .exit)) (now (work .exit)) r ⌝ }
 {
-    if asked_ok(asked) {
-        let n = file.len() - 20;
-        let place = find_place(
-            &file[..n],
-            parts.version,
-            &mut *work,
-            parts.count,
-            name,
-            stage,
-        );
-        if place.there {
-            let edit = Edit::Remove(place.before);
-            return write_edited(
-                file,
-                parts,
-                work,
-                out,
-                asked,
-                edit,
-                entries::record::no_fields(),
-                name,
-            );
-        }
-        fields::clear(work);
-        return Written::Refused(18, 0);
+    let whole = read_cleared(file, &mut *work);
+    match whole {
+        Whole::Bad(n, p) => Written::Refused(n, p),
+        Whole::Good(parts) => save_read(file, parts, work, out, asked, request, name, fields),
     }
-    Written::Refused(4, 0)
 }
 
 // ---- the calls
@@ -209,11 +235,7 @@ fn remove_read(
 pub fn rewrite(file: &[u8], work: &mut [u8], out: &mut [u8], asked: u32) -> Written
     ensures { λ r. ⌜ Saves (now (file .entry)) asked (λ q. q) (rewriteAnswer 20 sha1 (now (work .entry)) asked (length (now (out .entry))) (readFile 20 sha1 (now (file .entry)))) (now (out .entry)) (now (work .entry)) (now (out .exit)) (now (work .exit)) r ⌝ }
 {
-    let whole = read_cleared(file, &mut *work);
-    match whole {
-        Whole::Bad(n, p) => Written::Refused(n, p),
-        Whole::Good(parts) => rewrite_read(file, parts, work, out, asked),
-    }
+    save(file, work, out, asked, Request::Rewrite, b"", no_fields())
 }
 
 // The records with this one in place of the entry of its name and stage, or inserted.
@@ -228,11 +250,7 @@ pub fn put(
     ensures { λ r. ⌜ Saves (now (file .entry)) asked (putRecord 20 (entryWith fields (now (name .entry)))) (putAnswer 20 sha1 (now (work .entry)) asked (entryWith fields (now (name .entry))) (length (now (out .entry))) (readFile 20 sha1 (now (file .entry)))) (now (out .entry)) (now (work .entry)) (now (out .exit)) (now (work .exit)) r ⌝ }
 {
     typed(fields);
-    let whole = read_cleared(file, &mut *work);
-    match whole {
-        Whole::Bad(n, p) => Written::Refused(n, p),
-        Whole::Good(parts) => put_read(file, parts, work, out, asked, name, fields),
-    }
+    save(file, work, out, asked, Request::Put, name, fields)
 }
 
 // The records without the entry of this name and stage.
@@ -246,9 +264,13 @@ pub fn remove(
 ) -> Written
     ensures { λ r. ⌜ Saves (now (file .entry)) asked (removeRecord 20 (record { name = now (name .entry); stage = stage })) (removeAnswer 20 sha1 (now (work .entry)) asked (record { name = now (name .entry); stage = stage }) (length (now (out .entry))) (readFile 20 sha1 (now (file .entry)))) (now (out .entry)) (now (work .entry)) (now (out .exit)) (now (work .exit)) r ⌝ }
 {
-    let whole = read_cleared(file, &mut *work);
-    match whole {
-        Whole::Bad(n, p) => Written::Refused(n, p),
-        Whole::Good(parts) => remove_read(file, parts, work, out, asked, name, stage),
-    }
+    save(
+        file,
+        work,
+        out,
+        asked,
+        Request::Remove(stage),
+        name,
+        no_fields(),
+    )
 }

@@ -1,4 +1,4 @@
-// Lists the index that stands on standard input: a line with its version and its number of entries, a line for each entry, then what it has
+// Lists the index that is on standard input: a line with its version and its number of entries, a line for each entry, then what it has
 // of a cache tree and of resolve-undo records. A refusal prints only its number and its place.
 use answers::Checked;
 use answers::Count;

@@ -1,6 +1,6 @@
 -- Laws of replies.
 use mathlib.Core.Path.{_≡_, ap, _∙_}
-use mathlib.Core.List.{List}
+use mathlib.Core.List.{List, []}
 use Prim.Native.Nat.{ℕ}
 use native.Mathlib.Omega.{arith}
 use Rattle.format.specs.Records as F
@@ -35,34 +35,34 @@ module _ (at : ℕ) (f : List ℕ) where
   pub entry-replies : (v : View F.Entry) (work work′ : List ℕ) (a : EntryAnswer) (r : EntryReply) → EntryShows at v f work work′ a → r ≡ entryReply a
       → EntryReplies at v f work work′ r
   entry-replies v work work′ a r h e = record {
-    whole = e ∙ ap entryReply (h .whole);
-    said = rw (h .whole) at (h .said);
-    inside = rw e (name-inside (a .shown) f work′ (h .inside));
+    whole = e ∙ ap entryReply (h .shows .whole);
+    said = rw (h .shows .whole) at (h .shows .said);
+    inside = rw e (name-inside (a .shown) f work′ (h .shows .inside));
     after = h .after;
   }
 
   pub node-replies : (v : View F.Item) (a : NodeAnswer) (r : NodeReply) → NodeShows at v f a → r ≡ nodeReply a → NodeReplies at v f r
   node-replies v a r h e = record {
-    whole = e ∙ ap nodeReply (h .whole);
-    said = rw (h .whole) at (h .said);
-    inside = λ work. rw e (name-inside (a .shown) f work (h .inside work));
+    whole = e ∙ ap nodeReply (h .shows [] .whole);
+    said = λ work. rw (h .shows [] .whole) at (h .shows work .said);
+    inside = λ work. rw e (name-inside (a .shown) f work (h .shows work .inside));
     zeros = rw e (h .zeros);
   }
 
   pub undo-replies : (v : View F.Undo) (a : UndoAnswer) (r : UndoReply) → UndoShows at v f a → r ≡ undoReply a → UndoReplies at v f r
   undo-replies v a r h e = record {
-    whole = e ∙ ap undoReply (h .whole);
-    said = rw (h .whole) at (h .said);
-    inside = λ work. rw e (name-inside (a .shown) f work (h .inside work));
+    whole = e ∙ ap undoReply (h .shows [] .whole);
+    said = λ work. rw (h .shows [] .whole) at (h .shows work .said);
+    inside = λ work. rw e (name-inside (a .shown) f work (h .shows work .inside));
     zeros = rw e (h .zeros);
   }
 
   pub step-replies : (v : View F.Entry) (next : Place) (a : EntryAnswer) (r : StepReply) → StepShows at v f a → r ≡ stepReply a next
       → StepReplies at v next f r
   step-replies v next a r h e = record {
-    whole = e ∙ ap (λ x. stepReply x next) (h .whole);
-    said = rw (h .whole) at (h .said);
-    inside = λ work. rw e (name-inside (a .shown) f work (h .inside work));
+    whole = e ∙ ap (λ x. stepReply x next) (h .shows [] .whole);
+    said = λ work. rw (h .shows [] .whole) at (h .shows work .said);
+    inside = λ work. rw e (name-inside (a .shown) f work (h .shows work .inside));
   }
 
 -- what a call that writes leaves behind, with its answer in plain fields

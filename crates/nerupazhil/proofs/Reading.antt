@@ -16,7 +16,7 @@ use Rattle.nerupazhil.specs.declared.UndoReply.{UndoReply}
 use Rattle.nerupazhil.specs.declared.StepReply.{StepReply}
 use Rattle.nerupazhil.specs.Replies.{refusalOf, placeOf, nameOf, bytesOf, nodeReply, undoReply, EntryReplies, NodeReplies, UndoReplies, StepReplies}
 
--- the bytes that a reply's name stands for are the name that is shown
+-- the bytes that a reply's name points at are the name that is shown
 pub name-bytes : (s : Shown) (file work : List ℕ) → bytesOf (nameOf s) file work ≡ nameIn s file work
 unfolding bytesOf nameIn
 name-bytes (S.Refused n p) file work = refl

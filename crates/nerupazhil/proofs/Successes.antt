@@ -16,8 +16,8 @@ use Rattle.hash.specs.Sha1.{sha1}
 use Rattle.answers.specs.declared.Summary.{Summary}
 use Rattle.answers.specs.declared.Checked.{Checked}
 use Rattle.answers.specs.declared.Checked.the-variants as K
-use Rattle.answers.specs.Answers.{View, refused, inFile, inWorkspace, tooSmall, given, pick, listed, itemsOf, entryOf, nodeOf, undoOf, checkedOf, checkAnswer, entryAnswer, nodeAnswer, undoAnswer}
-use Rattle.answers.specs.Writing.{requested, answered, rewriteAnswer, putAnswer, removeAnswer}
+use Rattle.answers.specs.Answers.{View, refused, inFile, inWorkspace, tooSmall, inRoom, pick, listed, itemsOf, entryOf, nodeOf, undoOf, checkedOf, checkAnswer, entryAnswer, nodeAnswer, undoAnswer}
+use Rattle.answers.specs.Writing.{requested, rewriteAnswer, putAnswer, removeAnswer}
 use Rattle.walk.specs.declared.Started.{Started}
 use Rattle.walk.specs.declared.Started.the-variants as T
 use Rattle.format.specs.Places.{bodyIn}
@@ -26,6 +26,15 @@ use Rattle.nerupazhil.specs.declared.WriteReply.{WriteReply}
 use Rattle.nerupazhil.specs.Replies.{checkReply, startReply, WriteReplies}
 use Rattle.nerupazhil.proofs.Numbers.{Numbered, numbered-bad, numbered-good, numbered-need, file-numbered, rewrite-numbered, put-numbered, remove-numbered}
 use Rattle.nerupazhil.proofs.Reading.{Tells}
+
+-- the reading of a file with a workspace has a number from 1 on where it refuses
+room-numbered : (work f : List ℕ) → Numbered (inRoom work (readFile 20 sha1 f))
+unfolding inRoom
+room-numbered work f = by (tooSmall work)
+  where
+    by : (t : Bool) → Numbered (cond t (bad 19 0) (readFile 20 sha1 f))
+    by true = numbered-bad 19 0 (omega arith)
+    by false = file-numbered 20 sha1 f
 
 -- ---- what is shown
 
@@ -45,19 +54,10 @@ module _ {A : Type 0} where
   positive-listed none k = positive-refused 18 0 (omega arith)
   positive-listed (some xs) k = positive-pick false (getElem? xs k)
 
-  -- with a workspace that may be too small
-  positive-given : (work : List ℕ) (v : View A) → Positive v → Positive (given work v)
-  unfolding given
-  positive-given work v h = by (tooSmall work)
-    where
-      by : (t : Bool) → Positive (cond t (refused 19 0) v)
-      by true = positive-refused 19 0 (omega arith)
-      by false = h
-
-  positive-answer : (work : List ℕ) (x : Read Contents) (view : Read Contents → View A) → Numbered x → ((n p : ℕ) → view (bad n p) ≡ refused n p)
-      → ((c : Contents) (m : ℕ) → Positive (view (good c m))) → Positive (given work (view x))
-  positive-answer work (bad n p) view h e q = positive-given work _ (rw (e n p) (positive-refused n p (h .positive n p refl)))
-  positive-answer work (good c m) view h e q = positive-given work _ (q c m)
+  positive-answer : (x : Read Contents) (view : Read Contents → View A) → Numbered x → ((n p : ℕ) → view (bad n p) ≡ refused n p)
+      → ((c : Contents) (m : ℕ) → Positive (view (good c m))) → Positive (view x)
+  positive-answer (bad n p) view h e q = rw (e n p) (positive-refused n p (h .positive n p refl))
+  positive-answer (good c m) view h e q = q c m
 
   -- a reply that tells such a view, with the refusal 0, tells an item
   pub shown-success : (v : View A) (refusal place : ℕ) (x : A) → Positive v → Tells v refusal place x → refusal ≡ 0 → (v ≡ inFile x) ⊎ (v ≡ inWorkspace x)
@@ -70,15 +70,15 @@ module _ {A : Type 0} where
 module _ (work f : List ℕ) (k : ℕ) where
   pub positive-entry : Positive (entryAnswer work k (readFile 20 sha1 f))
   unfolding entryAnswer
-  positive-entry = positive-answer work _ (entryOf k) (file-numbered 20 sha1 f) (λ n p. refl) (λ c m. positive-pick (eqb (c .version) 4) (getElem? (c .records .entries) k))
+  positive-entry = positive-answer _ (entryOf k) (room-numbered work f) (λ n p. refl) (λ c m. positive-pick (eqb (c .version) 4) (getElem? (c .records .entries) k))
 
   pub positive-node : Positive (nodeAnswer work k (readFile 20 sha1 f))
   unfolding nodeAnswer
-  positive-node = positive-answer work _ (nodeOf k) (file-numbered 20 sha1 f) (λ n p. refl) (λ c m. positive-listed (itemsOf (c .records .cacheTree)) k)
+  positive-node = positive-answer _ (nodeOf k) (room-numbered work f) (λ n p. refl) (λ c m. positive-listed (itemsOf (c .records .cacheTree)) k)
 
   pub positive-undo : Positive (undoAnswer work k (readFile 20 sha1 f))
   unfolding undoAnswer
-  positive-undo = positive-answer work _ (undoOf k) (file-numbered 20 sha1 f) (λ n p. refl) (λ c m. positive-listed (c .records .resolveUndo) k)
+  positive-undo = positive-answer _ (undoOf k) (room-numbered work f) (λ n p. refl) (λ c m. positive-listed (c .records .resolveUndo) k)
 
 pub positive-step : (f : List ℕ) (at left : ℕ) → Positive (walkAnswer 20 f at left)
 unfolding walkAnswer walkRead
@@ -97,19 +97,18 @@ positive-step f at left = view _ (numbered-need _ _ _ _ (omega arith) (eighteen 
 module _ (work f : List ℕ) where
   pub check-positive : (n p : ℕ) → checkAnswer work (readFile 20 sha1 f) ≡ K.Refused n p → 0 < n
   unfolding checkAnswer
-  check-positive = by (tooSmall work) (readFile 20 sha1 f) (file-numbered 20 sha1 f)
+  check-positive = by (inRoom work (readFile 20 sha1 f)) (room-numbered work f)
     where
       number : (i q n p : ℕ) → 0 < i → K.Refused i q ≡ K.Refused n p → 0 < n
       number i q n p h e = let same : i ≡ n = cc in omega arith
 
-      by : (t : Bool) (x : Read Contents) → Numbered x → (n p : ℕ) → cond t (K.Refused 19 0) (checkedOf x) ≡ K.Refused n p → 0 < n
-      by true x h n p e = number 19 0 n p (omega arith) e
-      by false (bad i q) h n p e = number i q n p (h .positive i q refl) e
-      by false (good c m) h n p e = let z : _≡_ {A = ℕ} 0 1 = cc in absurd (omega arith)
+      by : (x : Read Contents) → Numbered x → (n p : ℕ) → checkedOf x ≡ K.Refused n p → 0 < n
+      by (bad i q) h n p e = number i q n p (h .positive i q refl) e
+      by (good c m) h n p e = let z : _≡_ {A = ℕ} 0 1 = cc in absurd (omega arith)
 
   pub start-positive : (n p : ℕ) → startAnswer work (readFile 20 sha1 f) ≡ T.Refused n p → 0 < n
   unfolding startAnswer
-  start-positive = by (tooSmall work) (readFile 20 sha1 f) (file-numbered 20 sha1 f)
+  start-positive = by (inRoom work (readFile 20 sha1 f)) (room-numbered work f)
     where
       number : (i q n p : ℕ) → 0 < i → T.Refused i q ≡ T.Refused n p → 0 < n
       number i q n p h e = let same : i ≡ n = cc in omega arith
@@ -118,10 +117,9 @@ module _ (work f : List ℕ) where
       ready true k n p e = number 4 0 n p (omega arith) e
       ready false k n p e = let z : _≡_ {A = ℕ} 0 1 = cc in absurd (omega arith)
 
-      by : (t : Bool) (x : Read Contents) → Numbered x → (n p : ℕ) → cond t (T.Refused 19 0) (startedOf x) ≡ T.Refused n p → 0 < n
-      by true x h n p e = number 19 0 n p (omega arith) e
-      by false (bad i q) h n p e = number i q n p (h .positive i q refl) e
-      by false (good c m) h n p e = ready (eqb (c .version) 4) (length (c .records .entries)) n p e
+      by : (x : Read Contents) → Numbered x → (n p : ℕ) → startedOf x ≡ T.Refused n p → 0 < n
+      by (bad i q) h n p e = number i q n p (h .positive i q refl) e
+      by (good c m) h n p e = ready (eqb (c .version) 4) (length (c .records .entries)) n p e
 
   pub check-success : checkReply (checkAnswer work (readFile 20 sha1 f)) .refusal ≡ 0 → (s : Summary) × (checkAnswer work (readFile 20 sha1 f) ≡ K.Accepted s)
   check-success = by (checkAnswer work (readFile 20 sha1 f)) check-positive
@@ -140,14 +138,12 @@ module _ (work f : List ℕ) where
 -- ---- the calls that write
 
 module _ (work f : List ℕ) (asked room : ℕ) where
-  numbered-answer : (ask : Records → Read (List ℕ)) → ((r : Records) → Numbered (ask r)) → Numbered (answered work (readFile 20 sha1 f) ask)
-  unfolding answered
-  numbered-answer ask h = by (tooSmall work) (readFile 20 sha1 f) (file-numbered 20 sha1 f)
+  numbered-answer : (ask : Records → Read (List ℕ)) → ((r : Records) → Numbered (ask r)) → Numbered (requested (inRoom work (readFile 20 sha1 f)) ask)
+  numbered-answer ask h = by (inRoom work (readFile 20 sha1 f)) (room-numbered work f)
     where
-      by : (t : Bool) (x : Read Contents) → Numbered x → Numbered (cond t (bad 19 0) (requested x ask))
-      by true x q = numbered-bad 19 0 (omega arith)
-      by false (bad n p) q = numbered-bad n p (q .positive n p refl)
-      by false (good c m) q = h (c .records)
+      by : (x : Read Contents) → Numbered x → Numbered (requested x ask)
+      by (bad n p) q = numbered-bad n p (q .positive n p refl)
+      by (good c m) q = h (c .records)
 
   pub numbered-rewrite : Numbered (rewriteAnswer 20 sha1 work asked room (readFile 20 sha1 f))
   unfolding rewriteAnswer

@@ -42,7 +42,7 @@ pub record Zeros {R : Type 0} (refusal place : R → ℕ) (deny : ℕ → ℕ �
   pub success : refusal r ≡ 0 → place r ≡ 0
   pub refused : 0 < refusal r → r ≡ deny (refusal r) (place r)
 
--- no name has no place and no length; one in the workspace stands at its start
+-- no name has no place and no length; one in the workspace is at its start
 pub record NameZeros (x : Name) : Type 0 where
   pub none : x .buffer ≡ 0 → (x .offset ≡ 0) × (x .length ≡ 0)
   pub workspace : x .buffer ≡ 2 → x .offset ≡ 0

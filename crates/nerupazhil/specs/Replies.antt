@@ -79,7 +79,7 @@ nameOf (S.Refused n p) = record { buffer = 0; offset = 0; length = 0 }
 nameOf (S.InFile at n) = record { buffer = 1; offset = at; length = n }
 nameOf (S.InWorkspace n) = record { buffer = 2; offset = 0; length = n }
 
--- the bytes that a name stands for
+-- the bytes that a name points at
 unfoldable pub bytesOf : Name → (file work : List ℕ) → List ℕ
 bytesOf x file work =
     cond (eqb (x .buffer) 1) (partIn (x .offset) (x .length) file) (cond (eqb (x .buffer) 2) (partIn (x .offset) (x .length) work) [])
@@ -127,7 +127,7 @@ stepReply a next = record {
 }
 
 -- ---- what the calls that show leave behind: the reply, whole, for the view v; the name that it points at, where it has one, is that of the
--- item, and it lies in its buffer. A name in the file stands at the place at
+-- item, and it lies in its buffer. A name in the file is at the place at
 
 -- the buffer that a name is a part of
 unfoldable pub bufferOf : Name → (file work : List ℕ) → List ℕ

@@ -31,7 +31,7 @@ pub struct CheckReply {
     pub has_undo: bool,
 }
 
-// Where a name stands: buffer is 1 for the file, 2 for the workspace, 0 for none.
+// Where a name is: buffer is 1 for the file, 2 for the workspace, 0 for none.
 #[repr(C)]
 pub struct Name {
     pub buffer: u32,

@@ -1,8 +1,8 @@
 // Bytes into an output, one part after another. Each function answers the place after its part. A part that does not fit is not written, so
 // an empty output measures. A part begins at most 2 ^ 50 bytes from the start, far above any file.
 ghost use mathlib.Core.List.{[], _∷_};
-ghost use Prim.Native.Nat.{_+_, _≤_, _<_};
-ghost use lib.ListN.{replicate};
+ghost use Prim.Native.Nat.{_+_, _-_, _≤_, _<_};
+ghost use lib.ListN.{length, take, drop, replicate};
 ghost use Rattle.format.specs.Bytes.{put16, put32};
 ghost use Rattle.output.specs.Output.{Wrote};
 
@@ -17,6 +17,14 @@ pub fn put_bytes(out: &mut [u8], at: usize, s: &[u8]) -> usize
     }
     fields::copy_to(out, at, s);
     end
+}
+
+// The bytes of a slice from a to e.
+pub fn put_part(out: &mut [u8], at: usize, s: &[u8], a: usize, e: usize) -> usize
+    requires { ⌜ (at ≤ 1125899906842624) × (a ≤ e) × (e ≤ length (now s)) ⌝ }
+    ensures { λ r. ⌜ Wrote (now (out .entry)) at (take (e - a) (drop a (now (s .entry)))) (now (out .exit)) r ⌝ }
+{
+    put_bytes(out, at, &s[a..e])
 }
 
 // One byte.
@@ -49,7 +57,7 @@ pub fn put_32(out: &mut [u8], at: usize, x: u32) -> usize
     put_16(out, middle, x)
 }
 
-// So many NULs.
+// n NULs.
 pub fn put_nuls(out: &mut [u8], at: usize, n: usize) -> usize
     requires { ⌜ at + n ≤ 1125899906842624 ⌝ }
     ensures { λ r. ⌜ Wrote (now (out .entry)) at (replicate n 0) (now (out .exit)) r ⌝ }

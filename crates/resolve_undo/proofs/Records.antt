@@ -34,7 +34,7 @@ undo-inv w p previous s u k q f =
     bind-inv _ _ _ _ (sym (undo-is w p previous s) ∙ q) λ path i j pathq q₁ size.
     need-inv _ _ _ _ _ _ q₁ λ test q₂. f path i j pathq (and-inv (okName path) _ test .0) q₂ size
 
--- the same as far as the object names, which stand after n bytes
+-- the same as far as the object names, which are after n bytes
 pub stages-inv {ℓ} : {X : Type ℓ} (w p : ℕ) (previous s : List ℕ) (u : Undo) (k : ℕ) → readUndo w p previous s ≡ good u k
     → ((path : List ℕ) (i a b c n j : ℕ) → readText 0 17 p s ≡ good path i → readStages w p path a b c (drop n s) ≡ good u j → n + j ≡ k → X) → X
 unfolding readModes withMode
@@ -104,10 +104,10 @@ place-end p at left previous d h = let none : left ≡ 0 = omega arith in rw non
 -- ---- the record at a place
 
 -- r is the record at the place at, after one of the path previous
-abbrev pub Told : ℕ → List ℕ → List ℕ → RecordRead → Type 0
-Told at previous d r = ((p : ℕ) → r ≡ recordRead at (readUndo 20 p previous (drop at d))) × RecordWithin at (length d) r
+abbrev pub IsRecordAt : ℕ → List ℕ → List ℕ → RecordRead → Type 0
+IsRecordAt at previous d r = ((p : ℕ) → r ≡ recordRead at (readUndo 20 p previous (drop at d))) × RecordWithin at (length d) r
 
-module _ (at : ℕ) (previous d : List ℕ) (r : RecordRead) (told : Told at previous d r) where
+module _ (at : ℕ) (previous d : List ℕ) (r : RecordRead) (told : IsRecordAt at previous d r) where
   -- it is refused
   module _ (e : r ≡ R.Bad) (p : ℕ) where
     pub refusal {ℓ} : {X : Type ℓ} → ((n m : ℕ) → readUndo 20 p previous (drop at d) ≡ bad n m → X) → X

@@ -22,7 +22,7 @@ use Rattle.resolve_undo.specs.declared.RecordRead.the-variants as R
 use Rattle.format.specs.Places.{undoStart}
 use Rattle.resolve_undo.specs.Answers.{objectLength, objectsLength, objectIn, item, valueOf, undoAt, nothing, shown}
 use Rattle.resolve_undo.proofs.Laws.{stages-read, undo-is}
-use Rattle.resolve_undo.proofs.Records.{undo-inv, stages-inv, undo-begins, place-after, Told, refusal, reading}
+use Rattle.resolve_undo.proofs.Records.{undo-inv, stages-inv, undo-begins, place-after, IsRecordAt, refusal, reading}
 
 -- ---- the record at a place
 
@@ -78,7 +78,7 @@ shown-path w p s u wide e = value-inv (readUndo w p [] s) u e λ k q. undo-begin
 
 -- ---- its object names
 
--- where they stand in d: at the end of a record that ends at the place end
+-- where they are in d: at the end of a record that ends at the place end
 record Objects (w : ℕ) (u : Undo) (d : List ℕ) (end : ℕ) : Type 0 where
   place : ℕ
   last : end ≡ place + objectsLength w u
@@ -121,7 +121,7 @@ pub shown-out : (p at : ℕ) (d : List ℕ) → length d ≤ at → shown at (un
 unfolding undoAt valueOf readUndo readText before need bind
 shown-out p at d h = rw (drop-of-length-le d h)
 
-module _ (at : ℕ) (d : List ℕ) (r : RecordRead) (told : Told at [] d r) where
+module _ (at : ℕ) (d : List ℕ) (r : RecordRead) (told : IsRecordAt at [] d r) where
   pub shown-bad : r ≡ R.Bad → (p : ℕ) → shown at (undoAt 20 p (drop at d)) ≡ nothing
   unfolding undoAt valueOf
   shown-bad e p = refusal at [] d r told e p λ n m q. rw q

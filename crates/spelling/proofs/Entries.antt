@@ -153,7 +153,7 @@ module _ (w v : ℕ) (k : Key) (p : ℕ) (s : List ℕ) where
 
 -- ---- an entry that is spelled
 
--- what stands where, in bytes that begin with the numbers ns, the object name o and the flags x
+-- what is where, in bytes that begin with the numbers ns, the object name o and the flags x
 record Front (w : ℕ) (ns o : List ℕ) (x : ℕ) (r s : List ℕ) : Type 0 where
   long : length s ≡ 42 + w + length r
   numbers : be32s s 0 10 ≡ ns
@@ -186,7 +186,7 @@ word-long : (extended : Bool) (u : ℕ) → length (cond extended (put16 u) []) 
 word-long true u = length-put16 u
 word-long false u = refl
 
--- where the bytes of the extended word u, or none, stand
+-- where the bytes of the extended word u, or none, are
 module _ (w u : ℕ) (s t : List ℕ) where
   word-at : (extended : Bool) → drop (42 + w) s ≡ cond extended (put16 u) [] ++ t → u < 65536 → wordIn extended w s ≡ cond extended u 0
   word-at true at h = be16-here s (42 + w) u t at h
@@ -355,7 +355,7 @@ entry-takes w v k p s e m q =
     let h : Passes w v k p s e m = read-passes w v k p s e m q in
     omega (arith, h .size, fixed-size w (h .extended))
 
--- what is read stands after the key before it
+-- what is read is after the key before it
 pub entry-rises : (w v : ℕ) (k : Key) (p : ℕ) (s : List ℕ) (e : Entry) (m : ℕ) → readEntry w v k p s ≡ good e m
     → rises (compare (k .name) (e .name)) (k .stage) (e .stage) ≡ true
 unfolding entryOf

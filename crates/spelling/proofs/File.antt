@@ -170,7 +170,7 @@ module _ (w : ℕ) (hash : List ℕ → List ℕ) (width : (b : List ℕ) → le
 
 -- ---- a cut file. Nothing of the hash is used
 
--- what stands at the beginning of a list that begins with a spelled body
+-- what is at the beginning of a list that begins with a spelled body
 record Begins (w v : ℕ) (es : List Entry) (f : List ℕ) : Type 0 where
   version-is : be32 f 4 ≡ v
   count-is : be32 f 8 ≡ length es

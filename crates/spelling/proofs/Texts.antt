@@ -32,7 +32,7 @@ text-read b n p s t m q =
     text-inv b n p s t m q λ fits is size.
     rw (← is, ← size) (omega arith, take-before b s fits, lacks-before b s)
 
--- the same where f says what the text stands for
+-- the same where f says what the text means
 pub read-decoded : {A : Type 0} (f : List ℕ → Option A) (b n p : ℕ) (t rest : List ℕ) (a : A) → lacks b t ≡ true → f t ≡ some a
     → bind (readText b n p (t ++ (b ∷ rest))) (λ u m. needSome (f u) n p (λ x. good x 0)) ≡ good a (length t + 1)
 unfolding bind shift needSome

@@ -11,16 +11,15 @@ use Rattle.format.specs.Records.{Forest}
 use Rattle.format.specs.Layout.{distinct}
 use Rattle.format_laws.proofs.Texts.{lacks-end}
 use Rattle.entries_run.specs.Steps.{nameAt}
-use Rattle.tree_counts.specs.Judge.{child}
+use Rattle.tree_counts.specs.Counts.{child}
 use Rattle.tree_nodes.specs.Flat.{Reads}
 use Rattle.tree_search.specs.declared.child.Child.{Child}
 use Rattle.tree_search.specs.declared.child.Child.the-variants as C
-use Rattle.tree_search.specs.declared.child.Answer.the-variants as A
 use Rattle.entries_directory.specs.declared.Front.{Front}
 use Rattle.tree_check.specs.declared.look.Look.{Look}
 use Rattle.tree_check.specs.declared.look.Look.the-variants as L
-use Rattle.tree_search.specs.Siblings.{Last, FoundAt, Sought, ToldSoon}
-use Rattle.entries_directory.specs.Ahead.{Fits}
+use Rattle.tree_search.specs.Siblings.{FoundAt, Sought, Finds}
+use Rattle.entries_directory.specs.Ahead.{FrontFits}
 use Rattle.tree_check.specs.Components.{component, Component, lookOf, LookedUp}
 use Rattle.entries_directory.proofs.First.{name-file, fits-length}
 
@@ -38,47 +37,45 @@ module _ (x : List ℕ) (k e : ℕ) (is : e ≡ k + before 47 (drop k x)) where
       record { slash = sym (lacks-end 47 (drop k x)) ∙ ne-eqb (before 47 (drop k x)) (length (drop k x)) more; ends = omega arith }
 
   -- what a look at it answers
-  module _ (d : List ℕ) (at place left : ℕ) (after : at ≤ place) (inside : place ≤ length d) (l : k ≤ length x) (siblings : ℕ) where
-    pub look-file : e ≡ length x → LookedUp d at siblings place left x (length x) k L.File
-    look-file h = record { least = omega arith; most = omega arith; within = omega arith; is = λ f m differ r last. name-file x k e is l h }
+  module _ (d : List ℕ) (at siblings : ℕ) (l : k ≤ length x) where
+    pub look-file : e ≡ length x → LookedUp d at siblings x (length x) k L.File
+    look-file h = record { most = omega arith; within = omega arith; is = λ f m differ r. name-file x k e is l h }
 
     module _ (more : e < length x) where
-      abbrev Told : Child → Type 0
-      Told r = (f : Forest) (m : ℕ) → distinct f ≡ true → Reads (drop at d) f siblings m → Last d f place left → Sought d f (take (e - k) (drop k x)) r
+      abbrev Says : Child → Type 0
+      Says r = (f : Forest) (m : ℕ) → distinct f ≡ true → Reads (drop at d) f siblings m → Sought d f (take (e - k) (drop k x)) r
 
-      look-missing : Told C.Missing → LookedUp d at siblings place left x (length x) k (L.Missing (e + 1))
+      look-missing : Says C.Missing → LookedUp d at siblings x (length x) k (L.Missing (e + 1))
       look-missing t = record {
-        least = omega arith;
         most = omega arith;
         within = omega arith;
-        is = λ f m differ r last. (name-component l more, ap (λ (c : List ℕ). child c f) (sym component-is) ∙ t f m differ r last);
+        is = λ f m differ r. (name-component l more, ap (λ (c : List ℕ). child c f) (sym component-is) ∙ t f m differ r);
       }
 
-      look-found : (p n : ℕ) → at ≤ p → p ≤ length d → Told (C.Found p n) → LookedUp d at siblings place left x (length x) k (L.Found (e + 1) p n)
-      look-found p n least most t = record {
-        least = least;
+      look-found : (p : ℕ) → p ≤ length d → Says (C.Found p) → LookedUp d at siblings x (length x) k (L.Found (e + 1) p)
+      look-found p most t = record {
         most = most;
         within = omega arith;
-        is = λ f m differ r last. (name-component l more, subst (λ (c : List ℕ). FoundAt d f c p n) component-is (t f m differ r last));
+        is = λ f m differ r. (name-component l more, subst (λ (c : List ℕ). FoundAt d f c p) component-is (t f m differ r));
       }
 
-      pub look-child : (r : Child) → ToldSoon d at siblings place left (take (e - k) (drop k x)) (A.Known r) → LookedUp d at siblings place left x (length x) k (lookOf (e + 1) r)
+      pub look-child : (r : Child) → Finds d at siblings (take (e - k) (drop k x)) r → LookedUp d at siblings x (length x) k (lookOf (e + 1) r)
       look-child C.Missing t = look-missing (t .is)
-      look-child (C.Found p n) t = look-found p n (t .least) (t .most) (t .is)
+      look-child (C.Found p) t = look-found p (t .most) (t .is)
 
 -- ---- in the first name ahead, x
 
-module _ (v : ℕ) (b work : List ℕ) (s : Front) (fits : Fits b s) (room : 8192 ≤ length work) (x : List ℕ) (named : x ≡ nameAt v b work (s .cursor .start) (s .cursor .len)) where
+module _ (v : ℕ) (b work : List ℕ) (s : Front) (fits : FrontFits b s) (room : 8192 ≤ length work) (x : List ℕ) (named : x ≡ nameAt v b work (s .cursor .start) (s .cursor .len)) where
   same-length : length x ≡ s .cursor .len
   same-length = fits-length v b work s fits room x named
 
-  module _ (q : ℕ) (l : q ≤ s .cursor .len) (e : ℕ) (is : e ≡ q + before 47 (drop q x)) (d : List ℕ) (at place left : ℕ) (after : at ≤ place) (inside : place ≤ length d) (siblings : ℕ) where
+  module _ (q : ℕ) (l : q ≤ s .cursor .len) (e : ℕ) (is : e ≡ q + before 47 (drop q x)) (d : List ℕ) (at siblings : ℕ) where
     -- what a look at it answers
     abbrev Answers : Look → Type 0
-    Answers r = LookedUp d at siblings place left (nameAt v b work (s .cursor .start) (s .cursor .len)) (s .cursor .len) q r
+    Answers r = LookedUp d at siblings (nameAt v b work (s .cursor .start) (s .cursor .len)) (s .cursor .len) q r
 
     pub ahead-file : e ≡ length x → Answers L.File
-    ahead-file h = rw (← named, ← same-length) (look-file x q e is d at place left after inside (omega (arith, same-length)) siblings h)
+    ahead-file h = rw (← named, ← same-length) (look-file x q e is d at siblings (omega (arith, same-length)) h)
 
-    pub ahead-child : (e ≡ length x → ⊥) → e ≤ length x → (r : Child) → ToldSoon d at siblings place left (take (e - q) (drop q x)) (A.Known r) → Answers (lookOf (e + 1) r)
-    ahead-child other most r t = rw (← named, ← same-length) (look-child x q e is d at place left after inside (omega (arith, same-length)) siblings (omega arith) r t)
+    pub ahead-child : (e ≡ length x → ⊥) → e ≤ length x → (r : Child) → Finds d at siblings (take (e - q) (drop q x)) r → Answers (lookOf (e + 1) r)
+    ahead-child other most r t = rw (← named, ← same-length) (look-child x q e is d at siblings (omega (arith, same-length)) (omega arith) r t)

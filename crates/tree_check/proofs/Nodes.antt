@@ -6,7 +6,7 @@ use lib.Dec.{eqb, leb}
 use Rattle.format.specs.Records.{Count, valid, invalid}
 use Rattle.format.specs.Layout.{bit, isValid}
 use Rattle.format.specs.Reader.{Head}
-use Rattle.tree_counts.specs.Judge.{says, weight}
+use Rattle.tree_counts.specs.Counts.{says, weight}
 use Rattle.tree_nodes.specs.declared.node.Node as Code
 use Rattle.tree_nodes.specs.Answers.{counted}
 use Rattle.tree_nodes.proofs.Trees.{NodeAt}

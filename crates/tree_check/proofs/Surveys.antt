@@ -1,4 +1,4 @@
--- Laws of a pass over the nodes of a tree. The trees that are still to pass are one list of siblings, of which the first so many have to be valid.
+-- Laws of a pass over the nodes of a tree. The trees that are still to pass are one list of siblings, of which the first ones have to be valid.
 use mathlib.Core.Path.{_≡_, refl, sym, ap, _∙_}
 use mathlib.Core.List.{List}
 use mathlib.Core.Bool.{Bool, true, false, cond, not, _&&_, and-assoc, and-comm, and-true}
@@ -13,7 +13,7 @@ use Rattle.format.specs.Layout.{bit, isValid, allValid}
 use Rattle.format.specs.Reader.{readNode}
 use Rattle.format_laws.proofs.Tests.{by-test, and-inv}
 use Rattle.format_laws.proofs.Lists.{drop-to}
-use Rattle.tree_counts.specs.Judge.{weight, tidy, positive}
+use Rattle.tree_counts.specs.Counts.{weight, validBelow, positive}
 use Rattle.tree_counts.proofs.Counts.{valid-step}
 use Rattle.tree_nodes.specs.declared.node.Node as Code
 use Rattle.tree_nodes.specs.declared.node.NodeRead.the-variants as R
@@ -29,17 +29,17 @@ use Rattle.tree_nodes.proofs.Trees.{chain, reads-chain, reads-at, NodeAt, node-
 
 -- ---- two lists of siblings
 
-tidy-chain : (f g : Forest) → tidy (chain f g) ≡ (tidy f && tidy g)
-unfolding chain tidy
-tidy-chain nil g = refl
-tidy-chain (tree n kids after) g = rw (tidy-chain after g) (simp and-assoc)
+valid-below-chain : (f g : Forest) → validBelow (chain f g) ≡ (validBelow f && validBelow g)
+unfolding chain validBelow
+valid-below-chain nil g = refl
+valid-below-chain (tree n kids after) g = rw (valid-below-chain after g) (simp and-assoc)
 
 positive-chain : (f g : Forest) → positive (chain f g) ≡ positive f + positive g
 unfolding chain positive
 positive-chain nil g = sym (zero-add (positive g))
 positive-chain (tree n kids after) g = omega (arith, positive-chain after g)
 
--- whether the first so many siblings are valid
+-- whether the first k siblings are valid
 unfoldable pub firsts : ℕ → Forest → Bool
 firsts zero f = true
 firsts (suc k) nil = true
@@ -63,23 +63,23 @@ firsts-all (tree n kids after) = rw (firsts-all after) (sym (valid-step n kids a
 
 -- ---- one node
 
--- the test of the trees that are still to pass, and what they say after so many nodes with a count of at least 1
+-- the test of the trees that are still to pass, and what they say after nodes nodes with a count of at least 1
 abbrev pub passes : ℕ → Forest → Bool
-passes k f = firsts k f && tidy f
+passes k f = firsts k f && validBelow f
 
 unfoldable pub surveyFrom : ℕ → ℕ → Forest → Survey
-surveyFrom k met f = cond (passes k f) (S.Tidy (met + positive f)) S.Untidy
+surveyFrom k nodes f = cond (passes k f) (S.Consistent (nodes + positive f)) S.Inconsistent
 
 module _ (n : Node) (kids after : Forest) where
-  chain-passes : (k : ℕ) → passes (width kids + k) (chain kids after) ≡ ((allValid kids && firsts k after) && (tidy kids && tidy after))
-  chain-passes k = rw (firsts-chain kids after k, tidy-chain kids after)
+  chain-passes : (k : ℕ) → passes (width kids + k) (chain kids after) ≡ ((allValid kids && firsts k after) && (validBelow kids && validBelow after))
+  chain-passes k = rw (firsts-chain kids after k, valid-below-chain kids after)
 
-  tree-passes : (k : ℕ) → isValid (n .count) ≡ true → passes k (tree n kids after) ≡ ((allValid kids && firsts (k - 1) after) && (tidy kids && tidy after))
-  unfolding firsts tidy
+  tree-passes : (k : ℕ) → isValid (n .count) ≡ true → passes k (tree n kids after) ≡ ((allValid kids && firsts (k - 1) after) && (validBelow kids && validBelow after))
+  unfolding firsts validBelow
   tree-passes zero v = rw (v, and-true (allValid kids))
   tree-passes (suc k) v =
       let e : suc k - 1 ≡ k = omega arith in
-      rw (v, e) (sym (and-assoc (firsts k after) (allValid kids) (tidy kids && tidy after)) ∙ ap (λ (b : Bool). b && (tidy kids && tidy after)) (and-comm (firsts k after) (allValid kids)))
+      rw (v, e) (sym (and-assoc (firsts k after) (allValid kids) (validBelow kids && validBelow after)) ∙ ap (λ (b : Bool). b && (validBelow kids && validBelow after)) (and-comm (firsts k after) (allValid kids)))
 
   passes-valid : (k : ℕ) → isValid (n .count) ≡ true → passes k (tree n kids after) ≡ passes (k - 1 + width kids) (chain kids after)
   passes-valid k v =
@@ -87,52 +87,52 @@ module _ (n : Node) (kids after : Forest) where
       tree-passes k v ∙ sym (chain-passes (k - 1)) ∙ ap (λ (i : ℕ). passes i (chain kids after)) e
 
   passes-invalid : isValid (n .count) ≡ false → passes 0 (tree n kids after) ≡ passes 0 (chain kids after)
-  unfolding firsts tidy
-  passes-invalid v = rw (v, tidy-chain kids after)
+  unfolding firsts validBelow
+  passes-invalid v = rw (v, valid-below-chain kids after)
 
   passes-wrong : (k : ℕ) → isValid (n .count) ≡ false → 0 < k → passes k (tree n kids after) ≡ false
   unfolding firsts
   passes-wrong zero v l = absurd (omega arith)
   passes-wrong (suc k) v l = rw v
 
-  met-more : (met : ℕ) → met + positive (tree n kids after) ≡ met + weight (n .count) + positive (chain kids after)
+  nodes-more : (nodes : ℕ) → nodes + positive (tree n kids after) ≡ nodes + weight (n .count) + positive (chain kids after)
   unfolding positive
-  met-more met = omega (arith, positive-chain kids after)
+  nodes-more nodes = omega (arith, positive-chain kids after)
 
   -- a node that is invalid where it has to be valid, and any other
-  pub survey-wrong : (k met : ℕ) → (ltb 0 k && not (isValid (n .count))) ≡ true → surveyFrom k met (tree n kids after) ≡ S.Untidy
+  pub survey-wrong : (k nodes : ℕ) → (ltb 0 k && not (isValid (n .count))) ≡ true → surveyFrom k nodes (tree n kids after) ≡ S.Inconsistent
   unfolding surveyFrom
-  survey-wrong k met e =
+  survey-wrong k nodes e =
       let i = and-inv (ltb 0 k) (not (isValid (n .count))) e in
       rw (passes-wrong k (not-true (isValid (n .count)) (i .1)) (ltb-true 0 k (i .0)))
 
-  pub survey-more : (k met : ℕ) → (ltb 0 k && not (isValid (n .count))) ≡ false
-      → surveyFrom k met (tree n kids after) ≡ surveyFrom (cond (isValid (n .count)) (k - 1 + width kids) 0) (met + weight (n .count)) (chain kids after)
+  pub survey-more : (k nodes : ℕ) → (ltb 0 k && not (isValid (n .count))) ≡ false
+      → surveyFrom k nodes (tree n kids after) ≡ surveyFrom (cond (isValid (n .count)) (k - 1 + width kids) 0) (nodes + weight (n .count)) (chain kids after)
   unfolding surveyFrom
-  survey-more k met e =
+  survey-more k nodes e =
       by-test (isValid (n .count))
-      (λ v. rw (v, passes-valid k v, met-more met))
+      (λ v. rw (v, passes-valid k v, nodes-more nodes))
       (λ v.
       let z : k ≡ 0 = omega (arith, ltb-false 0 k (sym (and-true (ltb 0 k)) ∙ (rw v at e))) in
-      rw (v, z, passes-invalid v, met-more met))
+      rw (v, z, passes-invalid v, nodes-more nodes))
 
 -- ---- a pass over the nodes that has come to a place
 
-pub record Surveying (d : List ℕ) (v : Bool) (f : Forest) (place pending strict met : ℕ) : Type 0 where
+pub record Surveying (d : List ℕ) (v : Bool) (f : Forest) (place pending strict nodes : ℕ) : Type 0 where
   pub left : Forest
   pub taken : ℕ
   pub reads : Reads (drop place d) left pending taken
-  pub same : surveyOf v f ≡ surveyFrom strict met left
+  pub same : surveyOf v f ≡ surveyFrom strict nodes left
 
 survey-begins : (v : Bool) (f : Forest) (strict k : ℕ) → strict ≡ cond v (0 - 1 + k) 0 → width f ≡ k → surveyOf v f ≡ surveyFrom strict 0 f
 unfolding surveyOf surveyFrom firsts
 survey-begins true f strict k e w = let z : strict ≡ width f = omega arith in rw (z, firsts-all f, zero-add (positive f))
 survey-begins false f strict k e w = rw (e, zero-add (positive f))
 
-survey-nil : (strict met : ℕ) → surveyFrom strict met nil ≡ S.Tidy met
-unfolding surveyFrom firsts tidy positive
-survey-nil zero met = rw (add-zero met)
-survey-nil (suc strict) met = rw (add-zero met)
+survey-nil : (strict nodes : ℕ) → surveyFrom strict nodes nil ≡ S.Consistent nodes
+unfolding surveyFrom firsts validBelow positive
+survey-nil zero nodes = rw (add-zero nodes)
+survey-nil (suc strict) nodes = rw (add-zero nodes)
 
 survey-same : (a b m n : ℕ) (f : Forest) → a ≡ b → m ≡ n → surveyFrom a m f ≡ surveyFrom b n f
 survey-same a b m n f e i = rw (e, i)
@@ -144,16 +144,16 @@ module _ (d : List ℕ) (v : Bool) (f : Forest) where
   pub survey-start : (at k m strict : ℕ) → strict ≡ cond v (0 - 1 + k) 0 → Reads (drop at d) f k m → Surveying d v f at k strict 0
   survey-start at k m strict e r = record { left = f; taken = m; reads = r; same = survey-begins v f strict k e (reads-width _ _ _ _ r) }
 
-  module _ (place pending strict met : ℕ) (x : Surveying d v f place pending strict met) where
-    pub survey-end : pending ≤ 0 → S.Tidy met ≡ surveyOf v f
-    survey-end l = sym (x .same ∙ ap (surveyFrom strict met) (reads-empty _ _ _ _ (x .reads) l) ∙ survey-nil strict met)
+  module _ (place pending strict nodes : ℕ) (x : Surveying d v f place pending strict nodes) where
+    pub survey-end : pending ≤ 0 → S.Consistent nodes ≡ surveyOf v f
+    survey-end l = sym (x .same ∙ ap (surveyFrom strict nodes) (reads-empty _ _ _ _ (x .reads) l) ∙ survey-nil strict nodes)
 
     module _ (some : 0 < pending) where
       first-of : First (drop place d) (x .left) pending
       first-of = reads-first _ _ _ _ (x .reads) some
 
-      here : surveyOf v f ≡ surveyFrom strict met (tree (first-of .head .node) (first-of .kids) (first-of .after))
-      here = x .same ∙ ap (surveyFrom strict met) (first-of .is)
+      here : surveyOf v f ≡ surveyFrom strict nodes (tree (first-of .head .node) (first-of .kids) (first-of .after))
+      here = x .same ∙ ap (surveyFrom strict nodes) (first-of .is)
 
       pub survey-stop : {X : Type 0} → R.Bad ≡ nodeAt place (readNode 20 0 (drop place d)) → X
       survey-stop e = absurd (no-bad place (first-of .own) (first-of .head) _ (first-of .node) e)
@@ -165,11 +165,11 @@ module _ (d : List ℕ) (v : Bool) (f : Forest) where
         same-test : (ltb 0 strict && not (node .valid)) ≡ (ltb 0 strict && not (isValid (first-of .head .node .count)))
         same-test = ap (λ (b : Bool). ltb 0 strict && not b) (node-here .is-valid)
 
-        pub survey-untidy : (ltb 0 strict && not (node .valid)) ≡ true → S.Untidy ≡ surveyOf v f
-        survey-untidy e = sym (here ∙ survey-wrong (first-of .head .node) (first-of .kids) (first-of .after) strict met (sym same-test ∙ e))
+        pub survey-inconsistent : (ltb 0 strict && not (node .valid)) ≡ true → S.Inconsistent ≡ surveyOf v f
+        survey-inconsistent e = sym (here ∙ survey-wrong (first-of .head .node) (first-of .kids) (first-of .after) strict nodes (sym same-test ∙ e))
 
         pub survey-on : (ltb 0 strict && not (node .valid)) ≡ false → (strict′ w : ℕ) → strict′ ≡ cond (node .valid) (strict - 1 + node .subtrees) 0
-            → w ≡ cond (node .valid) (bit (leb 1 (node .count))) 0 → Surveying d v f (node .next) (pending - 1 + node .subtrees) strict′ (met + w)
+            → w ≡ cond (node .valid) (bit (leb 1 (node .count))) 0 → Surveying d v f (node .next) (pending - 1 + node .subtrees) strict′ (nodes + w)
         survey-on e strict′ w demands weighs =
             let k : first-of .head .subtrees + (pending - 1) ≡ pending - 1 + node .subtrees = omega (arith, node-here .subtrees) in
             record {
@@ -178,8 +178,8 @@ module _ (d : List ℕ) (v : Bool) (f : Forest) where
               reads = reads-at _ _ _ _ _ _ (reads-chain _ _ _ _ _ _ _ (first-of .reads-kids) (first-of .reads-after)) (drop-to d place (first-of .own) (node .next) (node-here .next)) k;
               same =
                   here
-                  ∙ survey-more (first-of .head .node) (first-of .kids) (first-of .after) strict met (sym same-test ∙ e)
+                  ∙ survey-more (first-of .head .node) (first-of .kids) (first-of .after) strict nodes (sym same-test ∙ e)
                   ∙ survey-same _ _ _ _ _
                   (sym (demands ∙ demand-same _ _ (strict - 1) _ _ (node-here .is-valid) (node-here .subtrees ∙ sym (reads-width _ _ _ _ (first-of .reads-kids)))))
-                  (ap (λ (i : ℕ). met + i) (sym (weighs ∙ node-weighs _ _ _ _ node-here)));
+                  (ap (λ (i : ℕ). nodes + i) (sym (weighs ∙ node-weighs _ _ _ _ node-here)));
             }

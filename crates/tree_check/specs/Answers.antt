@@ -5,25 +5,24 @@ use mathlib.Core.Bool.{Bool, true, cond, _&&_}
 use Prim.Native.Nat.{ℕ}
 use lib.ListN.{length, drop}
 use lib.Dec.{eqb}
-use Rattle.format.specs.Records.{Entry, start, Forest, Tree}
+use Rattle.format.specs.Records.{Entry, Forest, Tree}
 use Rattle.format.specs.Layout.{distinct, okTreeCounts, names}
 use Rattle.format.specs.Reading.{good}
-use Rattle.format.specs.Reader.{readEntries, readNodes}
+use Rattle.format.specs.Reader.{readForest, readNodes}
+use Rattle.fields.specs.Workspace.{Frame}
+use Rattle.entries_run.specs.Steps.{EntriesRead}
 use Rattle.tree_nodes.specs.declared.node.Node.{Node}
-use Rattle.tree_nodes.specs.Flat.{Reads}
-use Rattle.tree_counts.specs.Judge.{judge, matched, Sound}
+use Rattle.tree_counts.specs.Counts.{countsHold, matched, SoundForest}
 
--- of the walk over all entries, where met of the nodes below the root have a count of at least 1
-pub record RootWalked (d : List ℕ) (root : Node) (met : ℕ) (b : List ℕ) (v count : ℕ) (work work′ : List ℕ) (r : Bool) : Type 0 where
-  pub long : length work′ ≡ length work
-  pub past : drop 8192 work′ ≡ drop 8192 work
-  pub is : (es : List Entry) (m : ℕ) → readEntries 20 v count start 12 (drop 12 b) ≡ good es m
-      → (f : Forest) (n : ℕ) → Sound f → Reads (drop (root .next) d) f (root .subtrees) n
-      → r ≡ (cond (root .valid) (eqb (root .count) (length (names es))) true && (judge (root .valid) (names es) f && eqb (matched (names es) f) met))
+-- of the walk over all entries, where of the nodes below the root expected ones have a count of at least 1
+pub record RootWalked (d : List ℕ) (root : Node) (expected : ℕ) (b : List ℕ) (v count : ℕ) (work work′ : List ℕ) (r : Bool) : Type 0 where
+  pub frame : Frame work work′
+  pub is : (es : List Entry) (m : ℕ) → EntriesRead v count b es m
+      → (f : Forest) (n : ℕ) → SoundForest f → readForest 20 0 127 (root .subtrees) (drop (root .next) d) ≡ good f n
+      → r ≡ (cond (root .valid) (eqb (root .count) (length (names es))) true && (countsHold (root .valid) (names es) f && eqb (matched (names es) f) expected))
 
 -- of the whole
 pub record CountsTold (d b : List ℕ) (v count : ℕ) (work work′ : List ℕ) (r : Bool) : Type 0 where
-  pub long : length work′ ≡ length work
-  pub past : drop 8192 work′ ≡ drop 8192 work
-  pub is : (es : List Entry) (m : ℕ) (t : Tree) (n : ℕ) → readEntries 20 v count start 12 (drop 12 b) ≡ good es m → readNodes 20 0 d ≡ good t n
+  pub frame : Frame work work′
+  pub is : (es : List Entry) (m : ℕ) (t : Tree) (n : ℕ) → EntriesRead v count b es m → readNodes 20 0 d ≡ good t n
       → distinct (t .subtrees) ≡ true → r ≡ okTreeCounts (names es) t

@@ -3,126 +3,89 @@
 use mathlib.Core.Path.{_≡_}
 use mathlib.Core.List.{List, _∷_}
 use mathlib.Core.Bool.{Bool, true, cond, _&&_}
-use Prim.Native.Nat.{ℕ, _+_, _-_, _*_, _≤_, _<_}
+use Prim.Native.Nat.{ℕ, _+_, _≤_, _<_}
 use lib.ListN.{length, drop}
-use lib.Dec.{eqb, leb}
+use lib.Dec.{eqb}
 use Rattle.format.specs.Records.{Forest}
-use Rattle.format.specs.Layout.{bit}
-use Rattle.format.specs.Reader.{readNode}
+use Rattle.format.specs.Reading.{good}
+use Rattle.format.specs.Reader.{readNode, readForest}
+use Rattle.fields.specs.Workspace.{Frame}
 use Rattle.tree_nodes.specs.declared.node.Node.{Node}
 use Rattle.tree_nodes.specs.declared.node.NodeRead.the-variants as R
 use Rattle.tree_nodes.specs.Answers.{nodeAt}
 use Rattle.tree_nodes.specs.Flat.{Reads}
 use Rattle.entries_run.specs.Steps.{nameAt}
-use Rattle.tree_counts.specs.Judge.{judge, matched, Sound}
-use Rattle.entries_directory.specs.Names.{sortedFrom, begins, within}
-use Rattle.tree_counts.specs.Runs.{Passed}
+use Rattle.tree_counts.specs.Counts.{countsHold, matched, SoundForest}
+use Rattle.entries_directory.specs.Names.{begins}
+use Rattle.tree_counts.specs.Runs.{NamesPassed}
 use Rattle.entries_directory.specs.declared.Front.{Front}
 use Rattle.tree_check.specs.declared.look.Look.the-variants as L
-use Rattle.tree_check.specs.declared.walk.Tally.{Tally}
+use Rattle.tree_check.specs.declared.walk.Directory.{Directory}
 use Rattle.tree_check.specs.declared.walk.Part.{Part}
 use Rattle.tree_check.specs.declared.walk.Part.the-variants as P
-use Rattle.tree_search.specs.Siblings.{Last}
-use Rattle.entries_directory.specs.Ahead.{Fits, Ahead, After, Left}
+use Rattle.entries_directory.specs.Ahead.{FrontFits, Ahead, After}
 use Rattle.tree_check.specs.Components.{LookedUp}
 
--- ---- one node
+-- ---- a directory
 
--- the tally t of what is below a node, and the node; the numbers of nodes are added where they fit
-pub record NodeAdded (node : Node) (t : Tally) (p l : ℕ) (r : Tally) : Type 0 where
-  pub ok : r .ok ≡ (cond (node .valid) (eqb (node .count) (t .count)) true && t .ok)
-  pub met : cond (node .valid) (bit (leb 1 (node .count))) 0 + t .met < 4294967296 → r .met ≡ cond (node .valid) (bit (leb 1 (node .count))) 0 + t .met
-  pub count : r .count ≡ t .count
-  pub front : r .front ≡ t .front
-  pub place : r .place ≡ p
-  pub left : r .left ≡ l
+-- the one of a node, with a name of q bytes
+abbrev pub entered : Node → ℕ → Front → Directory
+entered node q s = record { at = node .next; k = node .subtrees; valid = node .valid; count = node .count; q = q; ahead = s .ahead }
+
+-- its subtrees are in the data d, and the first of the entries ahead has as many bytes as its name
+pub record WalkReady (d : List ℕ) (dir : Directory) (b work : List ℕ) (s : Front) : Type 0 where
+  pub inside : dir .at ≤ length d
+  pub small : length d ≤ 16777216
+  pub fits : FrontFits b s
+  pub few : s .ahead < 4294967296
+  pub room : 8192 ≤ length work
+  pub some : 1 ≤ s .ahead
+  pub long : dir .q ≤ s .cursor .len
 
 -- ---- one part
 
--- of the names in the directory q, from whole on, done were passed before it, and the tally r is of this part
-pub record Moved (valid : Bool) (f : Forest) (q : List ℕ) (whole done : List (List ℕ)) (v : ℕ) (b work : List ℕ) (r : Tally) : Type 0 where
+-- of the names in the directory q, from whole on, done were passed before it; its test holds or not, and in it found nodes have a count of at least 1
+pub record Moved (valid : Bool) (f : Forest) (q : List ℕ) (whole done : List (List ℕ)) (v : ℕ) (b work : List ℕ) (holds : Bool) (found : ℕ) (front : Front) : Type 0 where
   pub now-done : List (List ℕ)
   pub rest : List (List ℕ)
   pub last : List ℕ
-  pub passed : Passed f q whole now-done rest
-  pub ok : judge valid now-done f ≡ (judge valid done f && r .ok)
-  pub met : matched now-done f ≡ matched done f + r .met
-  pub count : length now-done ≡ length done + r .count
+  pub passed : NamesPassed f q whole now-done rest
+  pub tested : countsHold valid now-done f ≡ (countsHold valid done f && holds)
+  pub sum : matched now-done f ≡ matched done f + found
   pub in-it : begins q last ≡ true
-  pub after : After v b work (r .front) last rest
+  pub after : After v b work front last rest
 
--- a place of the data d, and the entries ahead, of which the first has q bytes or more
-pub record Ready (d : List ℕ) (at : ℕ) (b work : List ℕ) (q : ℕ) (s : Front) : Type 0 where
-  pub inside : at ≤ length d
-  pub small : length d ≤ 16777216
-  pub fits : Fits b s
-  pub room : 8192 ≤ length work
-  pub some : 1 ≤ s .ahead
-  pub long : q ≤ s .cursor .len
+-- it was passed: fewer entries are ahead
+pub record PartPassed (d : List ℕ) (dir : Directory) (b : List ℕ) (v : ℕ) (work : List ℕ) (s : Front) (work′ : List ℕ) (holds : Bool) (r : Front) : Type 0 where
+  pub fits : FrontFits b r
+  pub less : r .ahead < s .ahead
+  pub frame : Frame work work′
+  pub moved : (f : Forest) (m : ℕ) → SoundForest f → Reads (drop (dir .at) d) f (dir .k) m
+      → (p x : List ℕ) (xs : List (List ℕ)) → Ahead v b work s x xs → begins p x ≡ true → length p ≡ dir .q
+      → (whole done : List (List ℕ)) → NamesPassed f p whole done (x ∷ xs)
+      → Moved (dir .valid) f p whole done v b work′ holds 0 r
 
--- what any part of the walk leaves behind: fewer entries ahead, a place in the data, and the workspace past its 8,192nd byte
-pub record Kept (d : List ℕ) (at : ℕ) (b work : List ℕ) (s : Front) (work′ : List ℕ) (r : Tally) : Type 0 where
-  pub fits : Fits b (r .front)
-  pub fewer : r .count + r .front .ahead ≤ s .ahead
-  pub less : r .front .ahead < s .ahead
-  pub least : at ≤ r .place
-  pub most : r .place ≤ length d
-  pub long : length work′ ≡ length work
-  pub past : drop 8192 work′ ≡ drop 8192 work
+-- it is in the directory below, of the node at a place
+pub record PartEntered (d : List ℕ) (dir : Directory) (b : List ℕ) (v : ℕ) (work : List ℕ) (s : Front) (work′ : List ℕ) (below : Directory) : Type 0 where
+  pub same : work′ ≡ work
+  pub place : ℕ
+  pub node : Node
+  pub read : R.Good node ≡ nodeAt place (readNode 20 0 (drop place d))
+  pub look : LookedUp d (dir .at) (dir .k) (nameAt v b work (s .cursor .start) (s .cursor .len)) (s .cursor .len) (dir .q) (L.Found (below .q) place)
+  pub is : below ≡ entered node (below .q) s
 
--- k siblings stand at the place at, and the last of them, left in number, at another place
-pub record PartWalked (d : List ℕ) (at k : ℕ) (valid : Bool) (place left : ℕ) (b : List ℕ) (v : ℕ) (work : List ℕ) (q : ℕ) (s : Front) (work′ : List ℕ) (r : Tally) : Type 0 where
-  pub kept : Kept d at b work s work′ r
-  pub hint : (f : Forest) (m : ℕ) → Sound f → Reads (drop at d) f k m → Last d f place left → Last d f (r .place) (r .left)
-  pub moved : (f : Forest) (m : ℕ) → Sound f → Reads (drop at d) f k m → Last d f place left
-      → (p x : List ℕ) (xs : List (List ℕ)) → Ahead v b work s x xs → begins p x ≡ true → length p ≡ q
-      → (a : List ℕ) (whole done : List (List ℕ)) → sortedFrom a whole ≡ true → Passed f p whole done (x ∷ xs)
-      → Moved valid f p whole done v b work′ r
+abbrev pub takenBy : List ℕ → Directory → List ℕ → ℕ → List ℕ → Front → List ℕ → Part → Type 0
+takenBy d dir b v work s work′ (P.Passed holds r) = PartPassed d dir b v work s work′ holds r
+takenBy d dir b v work s work′ (P.Entered below) = PartEntered d dir b v work s work′ below
 
--- ---- a whole directory
+pub record Taken (d : List ℕ) (dir : Directory) (b : List ℕ) (v : ℕ) (work : List ℕ) (s : Front) (work′ : List ℕ) (part : Part) : Type 0 where
+  pub is : takenBy d dir b v work s work′ part
 
-pub record Tallied (valid : Bool) (f : Forest) (q : List ℕ) (whole : List (List ℕ)) (v : ℕ) (b work : List ℕ) (r : Tally) : Type 0 where
-  pub ok : r .ok ≡ judge valid (within q whole) f
-  pub met : r .met ≡ matched (within q whole) f
-  pub count : r .count ≡ length (within q whole)
-  pub left : Left v b work (r .front) q whole
+-- ---- all entries ahead
 
-pub record DirectoryWalked (d : List ℕ) (at k : ℕ) (valid : Bool) (b : List ℕ) (v : ℕ) (work : List ℕ) (q : ℕ) (s : Front) (work′ : List ℕ) (r : Tally) : Type 0 where
-  pub kept : Kept d at b work s work′ r
-  pub tallied : (f : Forest) (m : ℕ) → Sound f → Reads (drop at d) f k m
-      → (p x : List ℕ) (xs : List (List ℕ)) → Ahead v b work s x xs → begins p x ≡ true → length p ≡ q
-      → Tallied valid f p (x ∷ xs) v b work′ r
-
--- ---- a part in two steps: what can be told without a walk further down, and that walk
-
--- the walk over the directory of a node, and the node's own test
-pub record BelowWalked (d b : List ℕ) (v : ℕ) (work : List ℕ) (e p l : ℕ) (node : Node) (s : Front) (work′ : List ℕ) (r : Tally) : Type 0 where
-  pub below : Tally
-  pub walked : DirectoryWalked d (node .next) (node .subtrees) (node .valid) b v work e s work′ below
-  pub added : NodeAdded node below p l r
-
-abbrev pub takenBy : List ℕ → ℕ → ℕ → Bool → ℕ → ℕ → List ℕ → ℕ → List ℕ → ℕ → Front → List ℕ → Part → Type 0
-takenBy d at k valid place left b v work q s work′ (P.Flat n) = PartWalked d at k valid place left b v work q s work′ n
-takenBy d at k valid place left b v work q s work′ (P.Below e p l node) =
-    (work′ ≡ work)
-    × LookedUp d at k place left (nameAt v b work (s .cursor .start) (s .cursor .len)) (s .cursor .len) q (L.Found e p l)
-    × (R.Good node ≡ nodeAt p (readNode 20 0 (drop p d)))
-
-pub record Taken (d : List ℕ) (at k : ℕ) (valid : Bool) (place left : ℕ) (b : List ℕ) (v : ℕ) (work : List ℕ) (q : ℕ) (s : Front) (work′ : List ℕ) (part : Part) : Type 0 where
-  pub is : takenBy d at k valid place left b v work q s work′ part
-
-abbrev pub BelowReady : List ℕ → List ℕ → List ℕ → Part → Front → Type 0
-BelowReady d b work (P.Flat n) s = Unit {0}
-BelowReady d b work (P.Below e p l node) s = Ready d (node .next) b work e s
-
-abbrev pub finishedBy : List ℕ → List ℕ → ℕ → List ℕ → Part → Front → List ℕ → Tally → Type 0
-finishedBy d b v work (P.Flat n) s work′ r = (r ≡ n) × (work′ ≡ work)
-finishedBy d b v work (P.Below e p l node) s work′ r = BelowWalked d b v work e p l node s work′ r
-
-pub record Finished (d b : List ℕ) (v : ℕ) (work : List ℕ) (part : Part) (s : Front) (work′ : List ℕ) (r : Tally) : Type 0 where
-  pub is : finishedBy d b v work part s work′ r
-
--- what is left of the tree's data below a part
-abbrev pub roomBelow : List ℕ → Part → ℕ
-roomBelow d (P.Flat n) = 0
-roomBelow d (P.Below e p l node) = 2 * (length d - node .next) + 2
+-- the root's directory has all names, and of the nodes below the root expected ones have a count of at least 1
+pub record Walked (d : List ℕ) (root : Directory) (expected : ℕ) (b : List ℕ) (v : ℕ) (work : List ℕ) (s : Front) (work′ : List ℕ) (r : Bool) : Type 0 where
+  pub frame : Frame work work′
+  pub is : (f : Forest) (n : ℕ) → SoundForest f → readForest 20 0 127 (root .k) (drop (root .at) d) ≡ good f n
+      → (x : List ℕ) (xs : List (List ℕ)) → Ahead v b work s x xs
+      → r ≡ (cond (root .valid) (eqb (root .count) (length (x ∷ xs))) true && (countsHold (root .valid) (x ∷ xs) f && eqb (matched (x ∷ xs) f) expected))

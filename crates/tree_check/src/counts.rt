@@ -1,10 +1,9 @@
 // Whether the counts of a cache tree are right: refusal 16.
 use crate::survey::Survey;
 use crate::survey::survey_trees;
-use crate::walk::Tally;
 use crate::walk::agrees;
-use crate::walk::both;
-use crate::walk::walk_directory;
+use crate::walk::enter;
+use crate::walk::walk_directories;
 use entries_directory::Front;
 use entries_directory::advance;
 use entries_run::first;
@@ -12,50 +11,26 @@ use tree_nodes::node::Node;
 use tree_nodes::node::NodeRead;
 use tree_nodes::node::read_node;
 use tree_search::table::reset;
+use tree_table::Table;
+ghost use mathlib.Core.Path.{_≡_};
 ghost use Prim.Native.Nat.{_≤_};
 ghost use lib.ListN.{length};
 ghost use Rattle.entries_run.specs.Steps.{Room};
 ghost use Rattle.tree_check.specs.Answers.{RootWalked, CountsTold};
-ghost use Rattle.tree_check.specs.Steps.{Ready, DirectoryWalked};
 
-// The walk over all entries, with the tables for it. The seed is any number.
-fn walk_all(d: &[u8], root: Node, b: &[u8], v: u32, work: &mut [u8], s: Front, seed: u64) -> Tally
-    requires { ⌜ Ready (now d) (root .next) (now b) (now work) 0 s ⌝ }
-    ensures { λ r. ⌜ DirectoryWalked (now (d .entry)) (root .next) (root .subtrees) (root .valid) (now (b .entry)) v (now (work .entry)) 0 s (now (work .exit)) r ⌝ }
-{
-    let mut near = [0u32; 2053];
-    let mut far = [0u32; 2053];
-    let m = (seed % 4294967296) as u32;
-    reset(&mut near, m);
-    reset(&mut far, m);
-    walk_directory(
-        d,
-        root.next,
-        root.subtrees,
-        root.valid,
-        b,
-        v,
-        work,
-        0,
-        s,
-        &mut near,
-        &mut far,
-    )
-}
-
-// What the walk over all entries tests of the root and of what is below it, where met nodes have a count of at least 1.
+// What the walk over all entries tests of the root and of what is below it. expected is the number of nodes below it with a count of at least 1.
 fn walk_root(
     d: &[u8],
     root: Node,
-    met: u32,
+    expected: u32,
     b: &[u8],
     v: u32,
     count: u32,
     work: &mut [u8],
-    seed: u64,
+    t: &mut Table,
 ) -> bool
-    requires { ⌜ (root .next ≤ length (now d)) × (length (now d) ≤ 16777216) × Room (now b) (now work) ⌝ }
-    ensures { λ r. ⌜ RootWalked (now (d .entry)) root met (now (b .entry)) v count (now (work .entry)) (now (work .exit)) r ⌝ }
+    requires { ⌜ (root .next ≤ length (now d)) × (length (now d) ≤ 16777216) × Room (now b) (now work) × (length (now t) ≡ 3126) ⌝ }
+    ensures { λ r. ⌜ RootWalked (now (d .entry)) root expected (now (b .entry)) v count (now (work .entry)) (now (work .exit)) r ⌝ }
 {
     let c = first();
     let start = Front {
@@ -64,17 +39,17 @@ fn walk_root(
         common: 0,
     };
     let front = advance(b, v, &mut *work, start);
+    let dir = enter(root, 0, front);
     if front.ahead == 0 {
-        return both(agrees(root.valid, root.count, 0), 0 == met);
+        return agrees(dir, front) & (expected == 0);
     }
-    let t = walk_all(d, root, b, v, work, front, seed);
-    let whole = both(t.ok, t.met == met);
-    both(agrees(root.valid, root.count, t.count), whole)
+    reset(t);
+    walk_directories(d, dir, expected, b, v, work, front, t)
 }
 
-// Whether the counts of the cache tree d are right for the first count entries of the body b of version v. The seed is any number.
-pub fn counts_ok(d: &[u8], b: &[u8], v: u32, count: u32, work: &mut [u8], seed: u64) -> bool
-    requires { ⌜ (length (now d) ≤ 16777216) × Room (now b) (now work) ⌝ }
+// Whether the counts of the cache tree d are right for the first count entries of the body b of version v. Of what the array t holds only its seed is used.
+pub fn counts_ok(d: &[u8], b: &[u8], v: u32, count: u32, work: &mut [u8], t: &mut Table) -> bool
+    requires { ⌜ (length (now d) ≤ 16777216) × Room (now b) (now work) × (length (now t) ≡ 3126) ⌝ }
     ensures { λ r. ⌜ CountsTold (now (d .entry)) (now (b .entry)) v count (now (work .entry)) (now (work .exit)) r ⌝ }
 {
     let read = read_node(d, 0);
@@ -83,8 +58,8 @@ pub fn counts_ok(d: &[u8], b: &[u8], v: u32, count: u32, work: &mut [u8], seed: 
         NodeRead::Good(root) => {
             let found = survey_trees(d, root.next, root.subtrees, root.valid);
             match found {
-                Survey::Untidy => false,
-                Survey::Tidy(met) => walk_root(d, root, met, b, v, count, work, seed),
+                Survey::Inconsistent => false,
+                Survey::Consistent(expected) => walk_root(d, root, expected, b, v, count, work, t),
             }
         }
     }

@@ -1,4 +1,4 @@
-// One pass over the nodes of a tree, as they stand one after another: whether the subtrees of valid nodes are valid, and how many nodes are
+// One pass over the nodes of a tree, one after another: whether the subtrees of valid nodes are valid, and how many nodes are
 // valid with a count of at least 1.
 use tree_nodes::node::NodeRead;
 use tree_nodes::node::read_node;
@@ -14,8 +14,8 @@ ghost use Rattle.tree_check.specs.Survey.{surveyOf};
 
 // Whether a node below a valid one is invalid, or how many nodes have a count of at least 1.
 pub enum Survey {
-    Untidy,
-    Tidy(u32),
+    Inconsistent,
+    Consistent(u32),
 }
 
 // 1 for a valid count of at least 1.
@@ -30,7 +30,7 @@ pub fn weight(valid: bool, count: u32) -> u32
     0
 }
 
-// Whether a node is invalid where so many of the next have to be valid.
+// Whether a node is invalid where the next strict ones have to be valid.
 fn is_wrong(strict: u64, valid: bool) -> bool
     ensures { λ r. ⌜ r ≡ (ltb 0 strict && not valid) ⌝ }
 {
@@ -40,7 +40,7 @@ fn is_wrong(strict: u64, valid: bool) -> bool
     0 < strict
 }
 
-// How many of the next have to be valid after a node with so many subtrees.
+// How many of the next have to be valid after a node with this number of subtrees.
 fn demand(strict: u64, valid: bool, subtrees: u32) -> u64
     requires { ⌜ strict < 9223372036854775808 ⌝ }
     ensures { λ r. ⌜ (r ≡ cond valid (strict - 1 + subtrees) 0) × (r ≤ strict - 1 + subtrees) ⌝ }
@@ -62,19 +62,19 @@ pub fn survey_trees(d: &[u8], at: usize, k: u32, valid: bool) -> Survey
     let mut place = at;
     let mut pending = k as u64;
     let mut strict = demand(0, valid, k);
-    let mut met: u32 = 0;
+    let mut nodes: u32 = 0;
     while 0 < pending {
         let read = read_node(d, place);
         let NodeRead::Good(node) = read else {
-            return Survey::Untidy;
+            return Survey::Inconsistent;
         };
         if is_wrong(strict, node.valid) {
-            return Survey::Untidy;
+            return Survey::Inconsistent;
         }
         strict = demand(strict, node.valid, node.subtrees);
-        met += weight(node.valid, node.count);
+        nodes += weight(node.valid, node.count);
         pending = pending - 1 + node.subtrees as u64;
         place = node.next;
     }
-    Survey::Tidy(met)
+    Survey::Consistent(nodes)
 }

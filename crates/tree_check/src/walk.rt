@@ -9,60 +9,69 @@ use entries_directory::stays;
 use tree_nodes::node::Node;
 use tree_nodes::node::NodeRead;
 use tree_nodes::node::read_node;
-use tree_search::keys::Table;
+use tree_table::Table;
 ghost use mathlib.Core.Path.{_≡_};
-ghost use mathlib.Core.Bool.{true, cond, _&&_};
-ghost use Prim.Native.Nat.{_+_, _≤_, _<_};
+ghost use mathlib.Core.Bool.{true, cond, _&&_, _||_};
+ghost use Prim.Native.Nat.{_-_, _≤_, _<_};
 ghost use lib.ListN.{length};
-ghost use lib.Dec.{eqb};
+ghost use lib.Dec.{eqb, leb, ltb};
 ghost use Rattle.tree_search.specs.Table.{Known};
-ghost use Rattle.tree_check.specs.Steps.{NodeAdded, Ready, Taken, BelowReady, Finished, DirectoryWalked};
+ghost use Rattle.tree_check.specs.Steps.{entered, WalkReady, Taken, Walked};
 
-// Whether the tests pass, how many nodes with a count of at least 1 were met, a hint to look_up, how many entries were passed, and what is
-// ahead of them. There is one on the stack for each level, so places are held in 32 bits.
-pub struct Tally {
-    pub ok: bool,
-    pub met: u32,
-    pub place: u32,
-    pub left: u32,
-    pub count: usize,
-    pub front: Front,
+// The most levels that a tree has, the root's included.
+const LEVELS: usize = 128;
+
+// A directory that was entered: the place of its node's subtrees and their number, whether the node is valid, its count, the length of the directory's
+// name with its last "/", and how many entries were ahead when it was entered. The walk holds one for each level, so numbers have 32 bits.
+pub struct Directory {
+    pub at: u32,
+    pub k: u32,
+    pub valid: bool,
+    pub count: u32,
+    pub q: u32,
+    pub ahead: u32,
 }
 
-// A part of a directory's entries: its tally; or the place after the component in its names, the place of the node of that component, how many
-// siblings there are from it on, and the node.
+// A part of a directory's entries: it was passed, whether its test holds, and what is ahead of it; or it is in a directory that is entered.
 pub enum Part {
-    Flat(Tally),
-    Below(usize, u32, u32, Node),
+    Passed(bool, Front),
+    Entered(Directory),
 }
 
-// The sum of two numbers, where it fits.
-fn plus(a: u32, b: u32) -> u32
-    ensures { λ r. ⌜ (a + b < 4294967296 → r ≡ a + b) ⌝ }
+// The directory of a node, with a name of q bytes. Its entries are ahead.
+pub(crate) fn enter(node: Node, q: usize, s: Front) -> Directory
+    requires { ⌜ (node .next < 4294967296) × (q < 4294967296) × (s .ahead < 4294967296) ⌝ }
+    ensures { λ r. ⌜ r ≡ entered node q s ⌝ }
 {
-    if 4294967295 - a < b {
-        return 0;
+    Directory {
+        at: node.next as u32,
+        k: node.subtrees,
+        valid: node.valid,
+        count: node.count,
+        q: q as u32,
+        ahead: s.ahead as u32,
     }
-    a + b
 }
 
-pub(crate) fn both(a: bool, b: bool) -> bool
-    ensures { λ r. ⌜ r ≡ (a && b) ⌝ }
+// Whether the node of a directory, where it is valid, counts the entries that were passed since it was entered.
+pub(crate) fn agrees(dir: Directory, s: Front) -> bool
+    requires { ⌜ s .ahead ≤ dir .ahead ⌝ }
+    ensures { λ r. ⌜ r ≡ cond (dir .valid) (eqb (dir .count) (dir .ahead - s .ahead)) true ⌝ }
 {
-    if a {
-        return b;
-    }
-    false
-}
-
-// Whether a valid node counts n entries.
-pub(crate) fn agrees(valid: bool, count: u32, n: usize) -> bool
-    ensures { λ r. ⌜ r ≡ cond valid (eqb count n) true ⌝ }
-{
-    if valid {
-        return count as usize == n;
+    if dir.valid {
+        return dir.count as usize == dir.ahead as usize - s.ahead;
     }
     true
+}
+
+// Whether the first entry ahead is in a directory: the directory was just entered, or the name has its first bytes in common with the one before.
+fn is_in(dir: Directory, s: Front) -> bool
+    ensures { λ r. ⌜ r ≡ (eqb (s .ahead) (dir .ahead) || (ltb 0 (s .ahead) && leb (dir .q) (s .common))) ⌝ }
+{
+    if s.ahead == dir.ahead as usize {
+        return true;
+    }
+    stays(s, dir.q as usize)
 }
 
 // The entries of which one is refused: none is ahead.
@@ -77,198 +86,83 @@ fn ended(s: Front) -> Front
     }
 }
 
-// The tally of entries that met no node.
-fn told(ok: bool, count: usize, front: Front, place: u32, left: u32) -> Tally
-    ensures { λ r. ⌜ r ≡ record { ok = ok; met = 0; count = count; front = front; place = place; left = left } ⌝ }
-{
-    Tally {
-        ok: ok,
-        met: 0,
-        count: count,
-        front: front,
-        place: place,
-        left: left,
-    }
-}
-
-// A node's test and its number, with those of all below it.
-fn add_node(node: Node, t: Tally, place: u32, left: u32) -> Tally
-    ensures { λ r. ⌜ NodeAdded node t place left r ⌝ }
-{
-    let front = t.front;
-    let fits = agrees(node.valid, node.count, t.count);
-    Tally {
-        ok: both(fits, t.ok),
-        met: plus(weight(node.valid, node.count), t.met),
-        count: t.count,
-        front: front,
-        place: place,
-        left: left,
-    }
-}
-
-// One part of a directory's entries: the files ahead, which have no further "/" after their first q bytes, where the first is one, or else all in
-// the directory of its next component, which are passed here where that has no node. k nodes stand at a place; the node above them is valid or not.
+// One part of a directory's entries: the files ahead, where the first is one; else all in the directory of its next component, which are passed here
+// where that has no node.
 fn take_part(
     d: &[u8],
-    at: usize,
-    k: u32,
-    valid: bool,
-    place: u32,
-    left: u32,
+    dir: Directory,
+    level: u32,
     b: &[u8],
     v: u32,
     work: &mut [u8],
-    q: usize,
     s: Front,
-    near: &mut Table,
-    far: &mut Table,
+    t: &mut Table,
 ) -> Part
-    requires { ⌜ Ready (now d) at (now b) (now work) q s × (at ≤ place) × (place ≤ length (now d)) × Known (now d) (now near) × Known (now d) (now far) ⌝ }
-    ensures { λ r. ⌜ Taken (now (d .entry)) at k valid place left (now (b .entry)) v (now (work .entry)) q s (now (work .exit)) r × Known (now (d .entry)) (now (near .exit)) × Known (now (d .entry)) (now (far .exit)) ⌝ }
+    requires { ⌜ WalkReady (now d) dir (now b) (now work) s × Known (now d) (now t) ⌝ }
+    ensures { λ r. ⌜ Taken (now (d .entry)) dir (now (b .entry)) v (now (work .entry)) s (now (work .exit)) r × Known (now (d .entry)) (now (t .exit)) ⌝ }
 {
-    let look = look_up(
-        d,
-        at,
-        k,
-        place as usize,
-        left,
-        b,
-        v,
-        &work[..],
-        q,
-        s,
-        near,
-        far,
-    );
+    let q = dir.q as usize;
+    let look = look_up(d, dir.at as usize, dir.k, level, b, v, &work[..], q, s, t);
     match look {
-        Look::File => {
-            let gone = pass_files(b, v, work, s, q);
-            let next = gone.front;
-            Part::Flat(told(true, gone.count, next, place, left))
-        }
-        Look::Missing(e) => {
-            let gone = pass(b, v, work, s, e);
-            let next = gone.front;
-            Part::Flat(told(!valid, gone.count, next, place, left))
-        }
-        Look::Found(e, p, l) => {
+        Look::File => Part::Passed(true, pass_files(b, v, work, s, q)),
+        Look::Missing(e) => Part::Passed(!dir.valid, pass(b, v, work, s, e)),
+        Look::Found(e, p) => {
             let read = read_node(d, p);
             match read {
-                NodeRead::Bad => Part::Flat(told(false, 0, ended(s), place, left)),
-                NodeRead::Good(node) => Part::Below(e, p as u32, l, node),
+                NodeRead::Bad => Part::Passed(false, ended(s)),
+                NodeRead::Good(node) => Part::Entered(enter(node, e, s)),
             }
         }
     }
 }
 
-// The tally of a part, by the walk over the directory of its node where it has one.
-fn finish_part(
+// All entries ahead, of which the first is in the root's directory: whether all tests hold, and expected is the number of nodes below the root with a
+// count of at least 1 that were found. A directory is left where the next entry is not in it; those above it are held.
+pub(crate) fn walk_directories(
     d: &[u8],
+    root: Directory,
+    expected: u32,
     b: &[u8],
     v: u32,
     work: &mut [u8],
-    part: Part,
     s: Front,
-    near: &mut Table,
-    far: &mut Table,
-) -> Tally
-    requires { ⌜ BelowReady (now d) (now b) (now work) part s × Known (now d) (now near) × Known (now d) (now far) ⌝ }
-    ensures { λ r. ⌜ Finished (now (d .entry)) (now (b .entry)) v (now (work .entry)) part s (now (work .exit)) r × Known (now (d .entry)) (now (near .exit)) × Known (now (d .entry)) (now (far .exit)) ⌝ }
+    t: &mut Table,
+) -> bool
+    requires { ⌜ WalkReady (now d) root (now b) (now work) s × Known (now d) (now t) × (root .q ≡ 0) × (root .ahead ≡ s .ahead) ⌝ }
+    ensures { λ r. ⌜ Walked (now (d .entry)) root expected (now (b .entry)) v (now (work .entry)) s (now (work .exit)) r ⌝ }
 {
-    match part {
-        Part::Flat(n) => n,
-        Part::Below(e, p, l, node) => {
-            let t = walk_directory(
-                d,
-                node.next,
-                node.subtrees,
-                node.valid,
-                b,
-                v,
-                work,
-                e,
-                s,
-                near,
-                far,
-            );
-            add_node(node, t, p, l)
-        }
-    }
-}
-
-// All of a directory's entries that are ahead, of which the first is one. take_part has its own frame, which is gone when a walk goes further
-// down. k nodes stand at a place; the node above them is valid or not.
-pub(crate) fn walk_directory(
-    d: &[u8],
-    at: usize,
-    k: u32,
-    valid: bool,
-    b: &[u8],
-    v: u32,
-    work: &mut [u8],
-    q: usize,
-    s: Front,
-    near: &mut Table,
-    far: &mut Table,
-) -> Tally
-    requires { ⌜ Ready (now d) at (now b) (now work) q s × Known (now d) (now near) × Known (now d) (now far) ⌝ }
-    ensures { λ r. ⌜ DirectoryWalked (now (d .entry)) at k valid (now (b .entry)) v (now (work .entry)) q s (now (work .exit)) r × Known (now (d .entry)) (now (near .exit)) × Known (now (d .entry)) (now (far .exit)) ⌝ }
-{
-    let mut ok = true;
-    let mut met: u32 = 0;
-    let mut count: usize = 0;
-    let mut place = at as u32;
-    let mut left: u32 = 0;
+    let mut above = [root; LEVELS];
+    let mut level: u32 = 0;
+    let mut dir = root;
     let mut front = s;
-    let mut part = take_part(
-        d,
-        at,
-        k,
-        valid,
-        place,
-        left,
-        b,
-        v,
-        &mut *work,
-        q,
-        front,
-        &mut *near,
-        &mut *far,
-    );
+    let mut ok = true;
+    let mut found: u64 = 0;
     loop {
-        let n = finish_part(d, b, v, &mut *work, part, front, &mut *near, &mut *far);
-        ok = both(ok, n.ok);
-        met = plus(met, n.met);
-        count += n.count;
-        place = n.place;
-        left = n.left;
-        front = n.front;
-        if stays(front, q) {
-            part = take_part(
-                d,
-                at,
-                k,
-                valid,
-                place,
-                left,
-                b,
-                v,
-                &mut *work,
-                q,
-                front,
-                &mut *near,
-                &mut *far,
-            );
+        if is_in(dir, front) {
+            let part = take_part(d, dir, level, b, v, &mut *work, front, &mut *t);
+            match part {
+                Part::Passed(holds, next) => {
+                    front = next;
+                    ok = ok & holds;
+                }
+                Part::Entered(below) => {
+                    // No tree that was read gets here.
+                    if level as usize + 1 == LEVELS {
+                        return false;
+                    }
+                    above[level as usize] = dir;
+                    level += 1;
+                    dir = below;
+                }
+            }
         } else {
-            return Tally {
-                ok: ok,
-                met: met,
-                place: place,
-                left: left,
-                count: count,
-                front: front,
-            };
+            ok = ok & agrees(dir, front);
+            if level == 0 {
+                return ok & (found == expected as u64);
+            }
+            found += weight(dir.valid, dir.count) as u64;
+            level -= 1;
+            dir = above[level as usize];
         }
     }
 }

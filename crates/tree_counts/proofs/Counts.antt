@@ -12,7 +12,7 @@ use Rattle.format.specs.Bytes.{lacks}
 use Rattle.format.specs.Records.{Count, valid, invalid, Node, Forest, nil, tree, Tree}
 use Rattle.format.specs.Layout.{bit, distinct, under, inside, files, isValid, allValid, sum, okCount, okCounts, okTreeCounts}
 use Rattle.format_laws.proofs.Tests.{false-true, by-test, and-inv, and-inv₃, and-left-comm}
-use Rattle.tree_counts.specs.Judge.{weight, plain, tidy, positive, reached, covered, counted, hit, judgeEach, judge, matched, countsAll, Sound}
+use Rattle.tree_counts.specs.Counts.{weight, plain, validBelow, positive, reached, covered, counted, hit, countsHoldEach, countsHold, matched, countsAll, SoundForest}
 use Rattle.tree_counts.proofs.Tests.{and-when, sums-equal}
 use Rattle.tree_counts.proofs.Siblings.{sound-name, sound-new, sound-kids, sound-after, unreached, file-unreached}
 
@@ -23,7 +23,7 @@ tally : List ℕ → Forest → ℕ
 tally s nil = 0
 tally s (tree n kids after) = bit (under (n .name) s) + tally s after
 
-tally-bit : (s : List ℕ) (f : Forest) → Sound f → tally s f ≡ bit (reached s f)
+tally-bit : (s : List ℕ) (f : Forest) → SoundForest f → tally s f ≡ bit (reached s f)
 unfolding tally reached
 tally-bit s nil h = refl
 tally-bit s (tree n kids after) h =
@@ -59,14 +59,14 @@ gap : List (List ℕ) → Forest → ℕ
 gap [] f = 0
 gap (s ∷ ss) f = bit (not (lacks 47 s || reached s f)) + gap ss f
 
-one-name : (s : List ℕ) (f : Forest) → Sound f → cond (lacks 47 s) 1 0 + (tally s f + bit (not (lacks 47 s || reached s f))) ≡ 1
+one-name : (s : List ℕ) (f : Forest) → SoundForest f → cond (lacks 47 s) 1 0 + (tally s f + bit (not (lacks 47 s || reached s f))) ≡ 1
 one-name s f h =
     rw (tally-bit s f h)
     (by-test (lacks 47 s)
     (λ e. rw (e, file-unreached s f e))
     (λ e. rw e (by-test (reached s f) (λ r. rw r) (λ r. rw r))))
 
-parts : (names : List (List ℕ)) (f : Forest) → Sound f → length names ≡ files names + below names f + gap names f
+parts : (names : List (List ℕ)) (f : Forest) → SoundForest f → length names ≡ files names + below names f + gap names f
 unfolding files gap
 parts [] f h = rw (below-none f)
 parts (s ∷ ss) f h = omega (arith, parts ss f h, below-more s ss f, one-name s f h)
@@ -80,7 +80,7 @@ gap-covered (s ∷ ss) f =
     (λ e. rw e (ne-eqb (1 + gap ss f) 0 (λ z. omega arith)))
 
 -- the names are as many as those with no further "/" and those under siblings exactly where all are covered
-full : (names : List (List ℕ)) (f : Forest) → Sound f → eqb (length names) (files names + below names f) ≡ covered names f
+full : (names : List (List ℕ)) (f : Forest) → SoundForest f → eqb (length names) (files names + below names f) ≡ covered names f
 full names f h = by-test (eqb (gap names f) 0) yes no ∙ gap-covered names f
   where
     yes : eqb (gap names f) 0 ≡ true → eqb (length names) (files names + below names f) ≡ eqb (gap names f) 0
@@ -91,7 +91,7 @@ full names f h = by-test (eqb (gap names f) 0) yes no ∙ gap-covered names f
 
 -- ---- one node
 
--- the steps of allValid and sum, by the tests and numbers of Judge
+-- the steps of allValid and sum, by the tests and numbers of Counts
 number : Count → ℕ
 number (valid c) = c
 number invalid = 0
@@ -124,7 +124,7 @@ sum-below names (tree n kids after) v e =
     sum-step n kids after ∙ ap₂ _+_ (count-length (n .count) (inside (n .name) names) kids (i .0) (j .0)) (sum-below names after (i .1) (j .2))
 
 -- one node, where the counts below it are right
-node-count : (c : Count) (names : List (List ℕ)) (kids : Forest) → Sound kids → okCounts names kids ≡ true
+node-count : (c : Count) (names : List (List ℕ)) (kids : Forest) → SoundForest kids → okCounts names kids ≡ true
     → okCount c names kids ≡ (countsAll c names kids && cond (isValid c) (covered names kids) true)
 unfolding okCount
 node-count invalid names kids h e = refl
@@ -159,7 +159,7 @@ hit-most : (c : Count) (names : List (List ℕ)) → hit c names ≤ weight c
 hit-most c [] = omega arith
 hit-most c (s ∷ ss) = omega arith
 
--- each node is met at most once
+-- each node is counted at most once
 pub matched-most : (names : List (List ℕ)) (f : Forest) → matched names f ≤ positive f
 unfolding matched positive
 matched-most names nil = omega arith
@@ -171,9 +171,9 @@ regroup : (v c m o tk ek mk ta ea ma : Bool)
     → ((((v && (c && m)) && o) && (tk && (ek && mk))) && (ta && (ea && ma))) ≡ ((v && (tk && ta)) && (((c && (o && ek)) && ea) && (m && (mk && ma))))
 regroup v c m o tk ek mk ta ea ma = simp (and-assoc, and-left-comm)
 
-counts-each : (names : List (List ℕ)) (f : Forest) → Sound f
-    → okCounts names f ≡ (tidy f && (judgeEach names f && eqb (matched names f) (positive f)))
-unfolding okCounts tidy judgeEach matched positive
+counts-each : (names : List (List ℕ)) (f : Forest) → SoundForest f
+    → okCounts names f ≡ (validBelow f && (countsHoldEach names f && eqb (matched names f) (positive f)))
+unfolding okCounts validBelow countsHoldEach matched positive
 counts-each names nil h = refl
 counts-each names (tree n kids after) h =
     let own = inside (n .name) names in
@@ -192,24 +192,24 @@ counts-each names (tree n kids after) h =
     (counted (n .count) own)
     (eqb (hit (n .count) own) (weight (n .count)))
     (cond (isValid (n .count)) (covered own kids) true)
-    (tidy kids) (judgeEach own kids) (eqb (matched own kids) (positive kids))
-    (tidy after) (judgeEach names after) (eqb (matched names after) (positive after)))
+    (validBelow kids) (countsHoldEach own kids) (eqb (matched own kids) (positive kids))
+    (validBelow after) (countsHoldEach names after) (eqb (matched names after) (positive after)))
   where
     two : (own : List (List ℕ)) → matched own kids + matched names after ≤ positive kids + positive after
     two own = omega (arith, matched-most own kids, matched-most names after)
 
--- the counts of a tree are right exactly where the root counts all names, the subtrees of valid nodes are valid, the walk judges every directory
--- that names are in, and every node with a count of at least 1 is met
-pub counts-judged : (names : List (List ℕ)) (t : Tree) → plain (t .subtrees) ≡ true → distinct (t .subtrees) ≡ true
+-- the counts of a tree are right exactly where the root counts all names, the subtrees of valid nodes are valid, the walk tests every directory
+-- that names are in, and every node with a count of at least 1 is counted
+pub counts-tested : (names : List (List ℕ)) (t : Tree) → plain (t .subtrees) ≡ true → distinct (t .subtrees) ≡ true
     → okTreeCounts names t
     ≡ (countsAll (t .root .count) names (t .subtrees)
-    && (tidy (t .subtrees)
-    && (judge (isValid (t .root .count)) names (t .subtrees) && eqb (matched names (t .subtrees)) (positive (t .subtrees)))))
-unfolding okTreeCounts judge
-counts-judged names t p d = go (t .root .count) (t .subtrees) (record { plainly = p; differ = d })
+    && (validBelow (t .subtrees)
+    && (countsHold (isValid (t .root .count)) names (t .subtrees) && eqb (matched names (t .subtrees)) (positive (t .subtrees)))))
+unfolding okTreeCounts countsHold
+counts-tested names t p d = go (t .root .count) (t .subtrees) (record { plainly = p; differ = d })
   where
-    go : (c : Count) (f : Forest) → Sound f → (okCount c names f && okCounts names f)
-        ≡ (countsAll c names f && (tidy f && ((cond (isValid c) (covered names f) true && judgeEach names f) && eqb (matched names f) (positive f))))
+    go : (c : Count) (f : Forest) → SoundForest f → (okCount c names f && okCounts names f)
+        ≡ (countsAll c names f && (validBelow f && ((cond (isValid c) (covered names f) true && countsHoldEach names f) && eqb (matched names f) (positive f))))
     go c f h =
         and-when (okCount c names f) _ (okCounts names f) (λ e. node-count c names f h e)
         ∙ rw (counts-each names f h) (simp (and-assoc, and-left-comm))

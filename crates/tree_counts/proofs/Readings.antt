@@ -9,7 +9,7 @@ use Rattle.format.specs.Records.{Node, Forest, tree, Tree}
 use Rattle.format.specs.Layout.{okNodeName}
 use Rattle.format.specs.Reading.{Read, bad, good, need, shift, bind}
 use Rattle.format.specs.Reader.{readNode, readSiblings, readForest, readNodes}
-use Rattle.tree_counts.specs.Judge.{plain}
+use Rattle.tree_counts.specs.Counts.{plain}
 
 plain-tree : (n : Node) (kids after : Forest) → okNodeName (n .name) ≡ true → plain kids ≡ true → plain after ≡ true → plain (tree n kids after) ≡ true
 unfolding plain

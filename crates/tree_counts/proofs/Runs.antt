@@ -11,11 +11,11 @@ use Rattle.format.specs.Records.{Forest, Tree}
 use Rattle.format.specs.Layout.{has, under, isValid}
 use Rattle.format_laws.proofs.Tests.{clash, by-test, and-inv}
 use Rattle.format_laws.proofs.Lists.{eqList-true}
-use Rattle.tree_counts.specs.Judge.{says, weight, child, reached, judge, matched, Sound}
+use Rattle.tree_counts.specs.Counts.{says, weight, child, reached, countsHold, matched, SoundForest}
 use Rattle.entries_directory.specs.Names.{sortedFrom, begins, leads, trails, every, beyond, within, enter, runIn}
-use Rattle.tree_counts.specs.Runs.{Run, Boundary, Passed}
+use Rattle.tree_counts.specs.Runs.{Run, Boundary, NamesPassed}
 use Rattle.entries_directory.proofs.Names.{under-one}
-use Rattle.tree_counts.proofs.Walk.{inside-length, has-reached, child-some, judge-found, matched-found}
+use Rattle.tree_counts.proofs.Walk.{inside-length, has-reached, child-some, counts-hold-found, matched-found}
 use Rattle.entries_directory.proofs.Order.{under-convex, done-clear}
 use Rattle.entries_directory.proofs.Runs.{beyond-leads, within-end, within-step, beyond-step, within-sorted, runIn-every, runIn-inside, within-run, beyond-run, within-leads, beyond-end, runIn-some}
 
@@ -76,12 +76,12 @@ run-at f c a done (t ∷ run) rest lc k sorted l all h = record {
 
 -- ---- a walk over the names in a directory
 
-pub passed-start : (f : Forest) (q : List ℕ) (ss : List (List ℕ)) → Passed f q ss [] ss
+pub passed-start : (f : Forest) (q : List ℕ) (ss : List (List ℕ)) → NamesPassed f q ss [] ss
 passed-start f q ss = record { joined = refl; left = refl; edge = boundary-start f (within q ss) }
 
 -- past a name that is under no sibling
 pub passed-name : (f : Forest) (q : List ℕ) (whole done : List (List ℕ)) (s : List ℕ) (ss : List (List ℕ)) → begins q s ≡ true
-    → reached (drop (length q) s) f ≡ false → Passed f q whole done (s ∷ ss) → Passed f q whole (done ++ (drop (length q) s ∷ [])) ss
+    → reached (drop (length q) s) f ≡ false → NamesPassed f q whole done (s ∷ ss) → NamesPassed f q whole (done ++ (drop (length q) s ∷ [])) ss
 passed-name f q whole done s ss b free h = record {
   joined =
       append-assoc done (drop (length q) s ∷ []) (within q ss)
@@ -92,7 +92,7 @@ passed-name f q whole done s ss b free h = record {
 }
 
 module _ (f : Forest) (q c a : List ℕ) (whole done : List (List ℕ)) (s : List ℕ) (ss : List (List ℕ)) (t : Tree) (lc : lacks 47 c ≡ true)
-    (found : child c f ≡ some t) (sorted : sortedFrom a whole ≡ true) (b : begins (enter q c) s ≡ true) (h : Passed f q whole done (s ∷ ss)) where
+    (found : child c f ≡ some t) (sorted : sortedFrom a whole ≡ true) (b : begins (enter q c) s ≡ true) (h : NamesPassed f q whole done (s ∷ ss)) where
   sorted-here : sortedFrom [] (done ++ (runIn q c (s ∷ ss) ++ within q (beyond (begins (enter q c)) (s ∷ ss)))) ≡ true
   sorted-here =
       ap (λ (l : List (List ℕ)). sortedFrom [] (done ++ l)) (sym (within-run q c (s ∷ ss)))
@@ -104,7 +104,7 @@ module _ (f : Forest) (q c a : List ℕ) (whole done : List (List ℕ)) (s : Lis
       run-at f c [] done (runIn q c (s ∷ ss)) (within q (beyond (begins (enter q c)) (s ∷ ss))) lc (child-some c f t found) sorted-here
       (runIn-some q c s ss b) (runIn-every q c (s ∷ ss)) (subst (Boundary f done) (within-run q c (s ∷ ss)) (h .edge))
 
-  pub passed-run : Passed f q whole (done ++ runIn q c (s ∷ ss)) (beyond (begins (enter q c)) (s ∷ ss))
+  pub passed-run : NamesPassed f q whole (done ++ runIn q c (s ∷ ss)) (beyond (begins (enter q c)) (s ∷ ss))
   passed-run = record {
     joined =
         append-assoc done (runIn q c (s ∷ ss)) (within q (beyond (begins (enter q c)) (s ∷ ss)))
@@ -119,17 +119,17 @@ module _ (f : Forest) (q c a : List ℕ) (whole done : List (List ℕ)) (s : Lis
   run-length : length (runIn q c (s ∷ ss)) ≡ length (within (enter q c) (s ∷ ss))
   run-length = sym (inside-length c (runIn q c (s ∷ ss)) (runIn-every q c (s ∷ ss))) ∙ ap length (runIn-inside q c (s ∷ ss))
 
-  pub judge-run : Sound f → (v : Bool)
-      → judge v (done ++ runIn q c (s ∷ ss)) f
-      ≡ (judge v done f
-      && (says (t .root .count) (length (within (enter q c) (s ∷ ss))) && judge (isValid (t .root .count)) (within (enter q c) (s ∷ ss)) (t .subtrees)))
-  judge-run d v = judge-found c done (runIn q c (s ∷ ss)) f run-here d v t found ∙ rw (run-length, runIn-inside q c (s ∷ ss))
+  pub counts-hold-run : SoundForest f → (v : Bool)
+      → countsHold v (done ++ runIn q c (s ∷ ss)) f
+      ≡ (countsHold v done f
+      && (says (t .root .count) (length (within (enter q c) (s ∷ ss))) && countsHold (isValid (t .root .count)) (within (enter q c) (s ∷ ss)) (t .subtrees)))
+  counts-hold-run d v = counts-hold-found c done (runIn q c (s ∷ ss)) f run-here d v t found ∙ rw (run-length, runIn-inside q c (s ∷ ss))
 
-  pub matched-run : Sound f
+  pub matched-run : SoundForest f
       → matched (done ++ runIn q c (s ∷ ss)) f ≡ matched done f + (weight (t .root .count) + matched (within (enter q c) (s ∷ ss)) (t .subtrees))
   matched-run d = matched-found c done (runIn q c (s ∷ ss)) f run-here d t found ∙ rw (runIn-inside q c (s ∷ ss))
 
-pub passed-end : (f : Forest) (q : List ℕ) (whole done ss : List (List ℕ)) → leads (begins q) ss ≡ false → Passed f q whole done ss
+pub passed-end : (f : Forest) (q : List ℕ) (whole done ss : List (List ℕ)) → leads (begins q) ss ≡ false → NamesPassed f q whole done ss
     → (done ≡ within q whole) × (ss ≡ beyond (begins q) whole)
 passed-end f q whole done ss e h = (
   sym (append-nil done) ∙ ap (λ (l : List (List ℕ)). done ++ l) (sym (within-end q ss e)) ∙ h .joined,

@@ -10,12 +10,12 @@ use Rattle.format.specs.Bytes.{eqList, lacks}
 use Rattle.format.specs.Records.{Node, Forest, nil, tree}
 use Rattle.format.specs.Layout.{okNodeName, has, distinct, under}
 use Rattle.format_laws.proofs.Tests.{clash, by-test, and-inv, and-inv₃}
-use Rattle.tree_counts.specs.Judge.{plain, reached, Sound}
+use Rattle.tree_counts.specs.Counts.{plain, reached, SoundForest}
 use Rattle.tree_counts.proofs.Tests.{or-false-inv}
 use Rattle.entries_directory.proofs.Names.{under-slash, under-one}
 
 -- what holds of a list of siblings holds of its parts
-module _ (n : Node) (kids after : Forest) (h : Sound (tree n kids after)) where
+module _ (n : Node) (kids after : Forest) (h : SoundForest (tree n kids after)) where
   plain-parts : (okNodeName (n .name) ≡ true) × (plain kids ≡ true) × (plain after ≡ true)
   unfolding plain
   plain-parts = and-inv₃ (okNodeName (n .name)) (plain kids) (plain after) (h .plainly)
@@ -31,14 +31,14 @@ module _ (n : Node) (kids after : Forest) (h : Sound (tree n kids after)) where
   pub sound-new : has (n .name) after ≡ false
   sound-new = not-true (has (n .name) after) (distinct-parts .0)
 
-  pub sound-kids : Sound kids
+  pub sound-kids : SoundForest kids
   sound-kids = record { plainly = plain-parts .1; differ = distinct-parts .1 }
 
-  pub sound-after : Sound after
+  pub sound-after : SoundForest after
   sound-after = record { plainly = plain-parts .2; differ = distinct-parts .2 }
 
 -- a name is under no sibling but the one with its component
-pub unreached : (c s : List ℕ) (f : Forest) → lacks 47 c ≡ true → under c s ≡ true → Sound f → has c f ≡ false → reached s f ≡ false
+pub unreached : (c s : List ℕ) (f : Forest) → lacks 47 c ≡ true → under c s ≡ true → SoundForest f → has c f ≡ false → reached s f ≡ false
 unfolding reached has
 unreached c s nil lc u h e = refl
 unreached c s (tree n kids after) lc u h e =

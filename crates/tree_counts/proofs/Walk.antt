@@ -14,7 +14,7 @@ use Rattle.format.specs.Layout.{has, under, inside, isValid}
 use Rattle.format_laws.proofs.Tests.{false-true, clash, by-test, and-inv}
 use Rattle.format_laws.proofs.Lists.{eqList-true}
 use Rattle.format_laws.proofs.Readings.{none-some}
-use Rattle.tree_counts.specs.Judge.{says, weight, child, reached, covered, counted, hit, judgeEach, judge, matched, Sound}
+use Rattle.tree_counts.specs.Counts.{says, weight, child, reached, covered, counted, hit, countsHoldEach, countsHold, matched, SoundForest}
 use Rattle.entries_directory.specs.Names.{every, never}
 use Rattle.tree_counts.specs.Runs.{Run}
 use Rattle.tree_counts.proofs.Tests.{or-false-inv}
@@ -69,7 +69,7 @@ child-has c (tree n kids after) e =
     (λ q. rw q (child-has c after (rw q at e)))
 
 -- then a name under that component is under no sibling
-pub child-free : (c s : List ℕ) (f : Forest) → Sound f → lacks 47 c ≡ true → child c f ≡ none → under c s ≡ true → reached s f ≡ false
+pub child-free : (c s : List ℕ) (f : Forest) → SoundForest f → lacks 47 c ≡ true → child c f ≡ none → under c s ≡ true → reached s f ≡ false
 child-free c s f h lc e u = unreached c s f lc u h (child-has c f e)
 
 -- it is the first sibling, or one after it
@@ -86,7 +86,7 @@ child-nil : {X : Type 0} (c : List ℕ) (t : Tree) → child c nil ≡ some t �
 unfolding child
 child-nil c t e = let z : _≡_ {A = ℕ} 0 1 = cc in absurd (omega arith)
 
-pub child-sound : (c : List ℕ) (f : Forest) (t : Tree) → Sound f → child c f ≡ some t → Sound (t .subtrees)
+pub child-sound : (c : List ℕ) (f : Forest) (t : Tree) → SoundForest f → child c f ≡ some t → SoundForest (t .subtrees)
 child-sound c nil t h e = child-nil c t e
 child-sound c (tree n kids after) t h e =
     child-inv c n kids after t e
@@ -130,14 +130,14 @@ module _ {A : Type 0} (op : A → A → A) (unit : A) (one : Count → List (Lis
       here : inside c (done ++ run) ≡ inside c run
       here = inside-append c done run ∙ rw (inside-never c done (r .new))
 
-      over-absent : (f : Forest) → Sound f → has c f ≡ false → over (done ++ run) f ≡ over done f
+      over-absent : (f : Forest) → SoundForest f → has c f ≡ false → over (done ++ run) f ≡ over done f
       unfolding over has
       over-absent nil h e = refl
       over-absent (tree n kids after) h e =
           let i = or-false-inv (eqList c (n .name)) (has c after) e in
           rw (elsewhere (n .name) (sound-name n kids after h) (i .0), over-absent after (sound-after n kids after h) (i .1))
 
-      over-found : (f : Forest) (t : Tree) → Sound f → child c f ≡ some t
+      over-found : (f : Forest) (t : Tree) → SoundForest f → child c f ≡ some t
           → over (done ++ run) f ≡ op (over done f) (one (t .root .count) (inside c run) (t .subtrees))
       unfolding over
       over-found nil t h e = child-nil c t e
@@ -158,16 +158,16 @@ module _ {A : Type 0} (op : A → A → A) (unit : A) (one : Count → List (Lis
           rw (elsewhere (n .name) (sound-name n kids after h) q, over-found after t (sound-after n kids after h) p)
           (sym (assoc (one (n .count) (inside (n .name) done) kids) (over done after) (one (t .root .count) (inside c run) (t .subtrees)))))
 
--- ---- judge and matched gather over siblings
+-- ---- countsHold and matched gather over siblings
 
-judgeOne : Count → List (List ℕ) → Forest → Bool
-judgeOne k names kids = counted k names && judge (isValid k) names kids
+countsHoldOne : Count → List (List ℕ) → Forest → Bool
+countsHoldOne k names kids = counted k names && countsHold (isValid k) names kids
 
 matchedOne : Count → List (List ℕ) → Forest → ℕ
 matchedOne k names kids = hit k names + matched names kids
 
-each-over : (names : List (List ℕ)) (f : Forest) → judgeEach names f ≡ over _&&_ true judgeOne names f
-unfolding judgeEach judge over judgeOne
+each-over : (names : List (List ℕ)) (f : Forest) → countsHoldEach names f ≡ over _&&_ true countsHoldOne names f
+unfolding countsHoldEach countsHold over countsHoldOne
 each-over names nil = refl
 each-over names (tree n kids after) = rw (each-over names after)
 
@@ -183,14 +183,14 @@ always : (v : Bool) → cond v true true ≡ true
 always true = refl
 always false = refl
 
-each-start : (f : Forest) → judgeEach [] f ≡ true
-unfolding judgeEach inside covered
+each-start : (f : Forest) → countsHoldEach [] f ≡ true
+unfolding countsHoldEach inside covered
 each-start nil = refl
 each-start (tree n kids after) = rw (always (isValid (n .count)), each-start kids, each-start after)
 
-pub judge-start : (v : Bool) (f : Forest) → judge v [] f ≡ true
-unfolding judge covered
-judge-start v f = rw (always v, each-start f)
+pub counts-hold-start : (v : Bool) (f : Forest) → countsHold v [] f ≡ true
+unfolding countsHold covered
+counts-hold-start v f = rw (always v, each-start f)
 
 pub matched-start : (f : Forest) → matched [] f ≡ 0
 unfolding matched inside
@@ -204,45 +204,45 @@ covered-append (x ∷ s) t f = rw (covered-append s t f) (sym (and-assoc (lacks 
 
 -- a name that is under no sibling
 module _ (done : List (List ℕ)) (s : List ℕ) (f : Forest) (free : reached s f ≡ false) where
-  each-pass : judgeEach (done ++ (s ∷ [])) f ≡ judgeEach done f
-  each-pass = each-over (done ++ (s ∷ [])) f ∙ over-pass _&&_ true judgeOne done s f free ∙ sym (each-over done f)
+  each-pass : countsHoldEach (done ++ (s ∷ [])) f ≡ countsHoldEach done f
+  each-pass = each-over (done ++ (s ∷ [])) f ∙ over-pass _&&_ true countsHoldOne done s f free ∙ sym (each-over done f)
 
   pub matched-pass : matched (done ++ (s ∷ [])) f ≡ matched done f
   matched-pass = matched-over (done ++ (s ∷ [])) f ∙ over-pass _+_ 0 matchedOne done s f free ∙ sym (matched-over done f)
 
-  pub judge-pass : (v : Bool) → judge v (done ++ (s ∷ [])) f ≡ (judge v done f && (lacks 47 s || not v))
-  unfolding judge covered
-  judge-pass v = rw (covered-append done (s ∷ []) f, free, each-pass) (go v (lacks 47 s))
+  pub counts-hold-pass : (v : Bool) → countsHold v (done ++ (s ∷ [])) f ≡ (countsHold v done f && (lacks 47 s || not v))
+  unfolding countsHold covered
+  counts-hold-pass v = rw (covered-append done (s ∷ []) f, free, each-pass) (go v (lacks 47 s))
     where
       go : (v l : Bool)
-          → (cond v (covered done f && ((l || false) && true)) true && judgeEach done f) ≡ ((cond v (covered done f) true && judgeEach done f) && (l || not v))
-      go true true = rw (and-true (covered done f), and-true (covered done f && judgeEach done f))
-      go true false = rw (and-false (covered done f), and-false (covered done f && judgeEach done f))
-      go false true = sym (and-true (judgeEach done f))
-      go false false = sym (and-true (judgeEach done f))
+          → (cond v (covered done f && ((l || false) && true)) true && countsHoldEach done f) ≡ ((cond v (covered done f) true && countsHoldEach done f) && (l || not v))
+      go true true = rw (and-true (covered done f), and-true (covered done f && countsHoldEach done f))
+      go true false = rw (and-false (covered done f), and-false (covered done f && countsHoldEach done f))
+      go false true = sym (and-true (countsHoldEach done f))
+      go false false = sym (and-true (countsHoldEach done f))
 
 -- a name with no further "/" is one
 module _ (done : List (List ℕ)) (s : List ℕ) (f : Forest) (file : lacks 47 s ≡ true) where
-  pub judge-file : (v : Bool) → judge v (done ++ (s ∷ [])) f ≡ judge v done f
-  judge-file v = judge-pass done s f (file-unreached s f file) v ∙ rw file (and-true (judge v done f))
+  pub counts-hold-file : (v : Bool) → countsHold v (done ++ (s ∷ [])) f ≡ countsHold v done f
+  counts-hold-file v = counts-hold-pass done s f (file-unreached s f file) v ∙ rw file (and-true (countsHold v done f))
 
   pub matched-file : matched (done ++ (s ∷ [])) f ≡ matched done f
   matched-file = matched-pass done s f (file-unreached s f file)
 
 -- a run of names under one component, where a sibling has that name and where none has
-judgeOne-none : (k : Count) (kids : Forest) → judgeOne k [] kids ≡ true
-unfolding judgeOne
-judgeOne-none k kids = judge-start (isValid k) kids
+countsHoldOne-none : (k : Count) (kids : Forest) → countsHoldOne k [] kids ≡ true
+unfolding countsHoldOne
+countsHoldOne-none k kids = counts-hold-start (isValid k) kids
 
 matchedOne-none : (k : Count) (kids : Forest) → matchedOne k [] kids ≡ 0
 unfolding matchedOne
 matchedOne-none k kids = zero-add (matched [] kids) ∙ matched-start kids
 
-judgeOne-some : (k : Count) (names : List (List ℕ)) (kids : Forest) → 1 ≤ length names
-    → judgeOne k names kids ≡ (says k (length names) && judge (isValid k) names kids)
-unfolding judgeOne
-judgeOne-some k [] kids h = absurd (omega arith)
-judgeOne-some k (s ∷ ss) kids h = refl
+countsHoldOne-some : (k : Count) (names : List (List ℕ)) (kids : Forest) → 1 ≤ length names
+    → countsHoldOne k names kids ≡ (says k (length names) && countsHold (isValid k) names kids)
+unfolding countsHoldOne
+countsHoldOne-some k [] kids h = absurd (omega arith)
+countsHoldOne-some k (s ∷ ss) kids h = refl
 
 matchedOne-some : (k : Count) (names : List (List ℕ)) (kids : Forest) → 1 ≤ length names → matchedOne k names kids ≡ weight k + matched names kids
 unfolding matchedOne
@@ -256,26 +256,26 @@ run-covered c (s ∷ ss) f t h e =
     let i = and-inv (under c s) (every (under c) ss) h in
     rw (under-slash c s (i .0), has-reached c s f (child-some c f t e) (i .0)) (run-covered c ss f t (i .1) e)
 
-module _ (c : List ℕ) (done run : List (List ℕ)) (f : Forest) (r : Run c done run) (h : Sound f) where
+module _ (c : List ℕ) (done run : List (List ℕ)) (f : Forest) (r : Run c done run) (h : SoundForest f) where
   some-inside : 1 ≤ length (inside c run)
   some-inside = rw (inside-length c run (r .all)) (r .some)
 
   each-found : (t : Tree) → child c f ≡ some t
-      → judgeEach (done ++ run) f
-      ≡ (judgeEach done f && (says (t .root .count) (length run) && judge (isValid (t .root .count)) (inside c run) (t .subtrees)))
+      → countsHoldEach (done ++ run) f
+      ≡ (countsHoldEach done f && (says (t .root .count) (length run) && countsHold (isValid (t .root .count)) (inside c run) (t .subtrees)))
   each-found t e =
       each-over (done ++ run) f
-      ∙ over-found _&&_ true judgeOne judgeOne-none (λ x. refl) and-comm and-assoc c done run r f t h e
+      ∙ over-found _&&_ true countsHoldOne countsHoldOne-none (λ x. refl) and-comm and-assoc c done run r f t h e
       ∙ ap₂ _&&_ (sym (each-over done f))
-      (judgeOne-some (t .root .count) (inside c run) (t .subtrees) some-inside ∙ rw (inside-length c run (r .all)))
+      (countsHoldOne-some (t .root .count) (inside c run) (t .subtrees) some-inside ∙ rw (inside-length c run (r .all)))
 
-  pub judge-found : (v : Bool) (t : Tree) → child c f ≡ some t
-      → judge v (done ++ run) f
-      ≡ (judge v done f && (says (t .root .count) (length run) && judge (isValid (t .root .count)) (inside c run) (t .subtrees)))
-  unfolding judge
-  judge-found v t e =
+  pub counts-hold-found : (v : Bool) (t : Tree) → child c f ≡ some t
+      → countsHold v (done ++ run) f
+      ≡ (countsHold v done f && (says (t .root .count) (length run) && countsHold (isValid (t .root .count)) (inside c run) (t .subtrees)))
+  unfolding countsHold
+  counts-hold-found v t e =
       rw (covered-append done run f, run-covered c run f t (r .all) e, and-true (covered done f), each-found t e)
-      (sym (and-assoc (cond v (covered done f) true) (judgeEach done f) _))
+      (sym (and-assoc (cond v (covered done f) true) (countsHoldEach done f) _))
 
   pub matched-found : (t : Tree) → child c f ≡ some t
       → matched (done ++ run) f ≡ matched done f + (weight (t .root .count) + matched (inside c run) (t .subtrees))

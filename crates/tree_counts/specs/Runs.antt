@@ -1,4 +1,4 @@
--- Names in order, and those of them that stand in one directory.
+-- Names in order, and those of them that are in one directory.
 use mathlib.Core.Path.{_≡_}
 use mathlib.Core.List.{List, _++_}
 use mathlib.Core.Bool.{true, false}
@@ -23,7 +23,7 @@ pub record Boundary (f : Forest) (done rest : List (List ℕ)) : Type 0 where
 -- ---- whole names: q is a directory's, with its last "/"
 
 -- a walk over the names in the directory q, of those from whole on: done have been passed, from the directory on, and those from ss on are left
-pub record Passed (f : Forest) (q : List ℕ) (whole done ss : List (List ℕ)) : Type 0 where
+pub record NamesPassed (f : Forest) (q : List ℕ) (whole done ss : List (List ℕ)) : Type 0 where
   pub joined : done ++ within q ss ≡ within q whole
   pub left : beyond (begins q) ss ≡ beyond (begins q) whole
   pub edge : Boundary f done (within q ss)

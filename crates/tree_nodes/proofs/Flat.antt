@@ -1,8 +1,8 @@
--- Laws of the nodes one after another: how far k of them reach, and how a list of siblings stands among them.
+-- Laws of the nodes one after another: how far k of them reach, and how a list of siblings is among them.
 use mathlib.Core.Path.{_≡_, refl, sym, ap, _∙_, ap₂}
 use mathlib.Core.List.{List, [], _∷_, _++_}
-use mathlib.Core.Bool.{Bool, true, false, cond, not, _&&_}
-use Prim.Native.Nat.{ℕ, zero, suc, _+_, _-_, _≤_, _<_}
+use mathlib.Core.Bool.{Bool, true, false}
+use Prim.Native.Nat.{ℕ, zero, suc, _+_, _*_, _-_, _≤_, _<_}
 use native.Mathlib.Nat.{add-zero, zero-add, suc-add, add-assoc}
 use native.Mathlib.Omega.{arith}
 use lib.ListN.{length, getD, drop, length-drop, List·getD-append, length-append}
@@ -11,14 +11,14 @@ use lib.Dec.{ltb}
 use borrow.Author.Tests.{ltb-true, ltb-false}
 use Rattle.format.specs.Bytes.{before}
 use Rattle.format.specs.Records.{Node, Forest, nil, tree, width, Item, items}
-use Rattle.format.specs.Layout.{has, distinct, okNodeName}
+use Rattle.format.specs.Layout.{has, okNodeName}
 use Rattle.format.specs.Reading.{Read, bad, good, need, bind}
 use Rattle.format.specs.Reader.{Head, readText, readNode, readSiblings, readForest}
 use Rattle.format_laws.proofs.Lists.{drop-to}
 use Rattle.format_laws.proofs.Numbers.{suc-pred}
 use Rattle.format_laws.proofs.Readings.{bad-good, good-inv, need-inv, bind-inv}
 use Rattle.tree_nodes.specs.Answers.{nodeAt}
-use Rattle.tree_nodes.specs.Flat.{size, lengthOf, treesLength, nameOf, restOf, namesOf, hasName, namesDiffer, allDiffer, Reads, reads-none, reads-more}
+use Rattle.tree_nodes.specs.Flat.{size, lengthOf, treesLength, nameOf, restOf, namesOf, hasName, Reads, reads-none, reads-more}
 use Rattle.format.specs.Places.{nodeStart}
 use Rattle.tree_nodes.proofs.Readings.{node-took}
 use Rattle.tree_nodes.proofs.Nodes.{node-named, NodeIs, no-node}
@@ -81,7 +81,7 @@ trees-step k (x ∷ s) h m e =
 
 -- ---- a list of siblings that was read
 
--- siblings with at most so many levels
+-- siblings with at most the given number of levels
 pub data Levels : ℕ → Forest → Type 0 where
   levels-none : {l : ℕ} → Levels l nil
   levels-more : {l : ℕ} {n : Node} {kids after : Forest} → Levels l kids → Levels (suc l) after → Levels (suc l) (tree n kids after)
@@ -107,7 +107,7 @@ forest-shape (suc l) (suc k) s f m e =
 pub forest-reads : (l k : ℕ) (s : List ℕ) (f : Forest) (m : ℕ) → readForest 20 0 l k s ≡ good f m → Reads s f k m
 forest-reads l k s f m e = forest-shape l k s f m e .0
 
--- ---- what stands where
+-- ---- what is where
 
 pub place-none : (s : List ℕ) → nodeStart 20 0 s ≡ 0
 unfolding nodeStart
@@ -168,45 +168,10 @@ reads-names s _ _ _ (reads-more {h = h} {a = a} {b = b} q r t) =
     let l : treesLength 1 s ≡ a + b = omega arith in
     rw (l, ← drop-drop b a s, ← (g .0)) (ap (λ (x : List (List ℕ)). h .node .name ∷ x) (reads-names _ _ _ _ t))
 
-has-names : (x : List ℕ) (f : Forest) → has x f ≡ hasName x (siblingNames f)
+pub has-names : (x : List ℕ) (f : Forest) → has x f ≡ hasName x (siblingNames f)
 unfolding has hasName siblingNames
 has-names x nil = refl
 has-names x (tree n kids after) = rw (has-names x after)
-
--- whether the lists further down differ in name, each in itself
-unfoldable pub kidsDiffer : Forest → Bool
-kidsDiffer nil = true
-kidsDiffer (tree n kids after) = namesDiffer (siblingNames kids) && kidsDiffer kids && kidsDiffer after
-
-and-names : (h x n k : Bool) → (not h && (x && (n && k))) ≡ (cond h false n && (x && k))
-and-names true x n k = refl
-and-names false true n k = refl
-and-names false false true k = refl
-and-names false false false k = refl
-
-pub distinct-is : (f : Forest) → distinct f ≡ (namesDiffer (siblingNames f) && kidsDiffer f)
-unfolding distinct namesDiffer siblingNames kidsDiffer
-distinct-is nil = refl
-distinct-is (tree n kids after) =
-    rw (has-names (n .name) after, distinct-is kids, distinct-is after)
-    (and-names (hasName (n .name) (siblingNames after)) (namesDiffer (siblingNames kids) && kidsDiffer kids) (namesDiffer (siblingNames after)) (kidsDiffer after))
-
-pub differ-step : (k : ℕ) (s : List ℕ) (h : Head) (m : ℕ) → readNode 20 0 s ≡ good h m → allDiffer (suc k) s ≡ cond (namesDiffer (namesOf (h .subtrees) (drop m s))) (allDiffer k (drop m s)) false
-unfolding allDiffer
-differ-step k s h m e = rw e
-
-and-parts : (n k a x : Bool) → cond n (k && (a && x)) false ≡ ((n && k && a) && x)
-and-parts true true a x = refl
-and-parts true false a x = refl
-and-parts false k a x = refl
-
-pub reads-differ : (s : List ℕ) (f : Forest) (k m : ℕ) → Reads s f k m → (j : ℕ) → allDiffer (size f + j) s ≡ (kidsDiffer f && allDiffer j (drop m s))
-unfolding size kidsDiffer
-reads-differ s _ _ _ reads-none j = rw (zero-add j)
-reads-differ s _ _ _ (reads-more {h = h} {kids = kids} {after = after} {a = a} {b = b} {c = c} q r t) j =
-    rw
-    (suc-add (size kids + size after) j, add-assoc (size kids) (size after) j, ← drops a b c s, differ-step (size kids + (size after + j)) s h a q, reads-names _ _ _ _ r, reads-differ _ _ _ _ r (size after + j), reads-differ _ _ _ _ t j)
-    (and-parts (namesDiffer (siblingNames kids)) (kidsDiffer kids) (kidsDiffer after) (allDiffer j (drop c (drop b (drop a s)))))
 
 -- ---- the items of a list
 
@@ -239,6 +204,30 @@ reads-item s _ _ _ (reads-more {h = h} {kids = kids} {after = after} {a = a} {b 
     let p : nodeStart 20 (suc j) s ≡ a + (b + nodeStart 20 i (drop b (drop a s))) = place-step j s h a q ∙ ap (λ (x : ℕ). a + x) (ap (λ (x : ℕ). nodeStart 20 x (drop a s)) e ∙ reads-places _ _ _ _ r i) in
     let w : j ≡ length xs + i = omega arith in
     shown-at _ _ _ _ (reads-item _ _ _ _ t l i z (omega arith)) (drops a b _ s ∙ ap (λ (x : ℕ). drop x s) (sym p)) (sym (ap (λ (x : ℕ). getD (xs ++ items l after) x z) w ∙ getD-append-add xs (items l after) i z)))
+
+-- ---- a flat pass over n trees: it began at a place, has come to another, and pending trees are still to pass. Each node takes a byte or more, so that
+-- their number stays far below 2 ^ 64
+
+pub record FlatPass (d : List ℕ) (at n place pending : ℕ) : Type 0 where
+  pub least : at ≤ place
+  pub inside : place ≤ length d
+  pub few : pending ≤ n + (place - at) * 4294967296
+
+pub flat-start : (d : List ℕ) (at n : ℕ) → at ≤ length d → FlatPass d at n at n
+flat-start d at n inside = record { least = omega arith; inside = inside; few = omega arith }
+
+-- a node is passed: its subtrees are to pass, and fewer bytes are left
+module _ (d : List ℕ) (at n place pending : ℕ) (p : FlatPass d at n place pending) (node : Code.Node) (is : NodeIs d place node) where
+  pub flat-more : node .subtrees < 4294967296 → FlatPass d at n (node .next) (pending - 1 + node .subtrees)
+  flat-more few =
+      let a = is .named in
+      let b = is .ended in
+      let c = p .least in
+      let e = p .few in
+      record { least = omega arith; inside = is .within; few = omega arith }
+
+  pub flat-less : length d - node .next < length d - place
+  flat-less = let a = is .named in let b = is .ended in let c = is .within in omega arith
 
 -- ---- from a place on
 

@@ -48,7 +48,7 @@ module _ (r : List ℕ) (depth x k : ℕ) (less : x ≡ getD r depth 0 - 1) wher
       let long : below < length (set r depth x) = rw (length-set r depth x) h in
       ap climbed (stack-set (set r depth x) below k long ∙ ap (λ (st : List ℕ). k ∷ st) (ap (stackOf (set r depth x)) is ∙ stack-set r depth x (omega arith) ∙ rw less refl))
 
--- ---- the way up
+-- ---- the climb
 
 climb-some : (n : ℕ) (st : List ℕ) → 0 < n → climbed (n ∷ st) ≡ n ∷ st
 unfolding climbed
@@ -90,7 +90,7 @@ climb-more r (suc depth) some h =
 
 -- ---- the items that are still to come
 
--- Pending s st is: on each level of the stack st so many siblings stand in s, the deepest first, each followed by all below it; is are
+-- Pending s st is: on each level of the stack st its number of siblings are in s, the deepest first, each followed by all below it; is are
 -- the items of all of them
 data Pending : List ℕ → List ℕ → List Item → Type 0 where
   pending-none : {s : List ℕ} → Pending s [] []
@@ -157,7 +157,7 @@ pending-next s st is _ h (pending-list {rest = more} (reads-more {h = head} {kid
 pending-all : (s : List ℕ) (is : List Item) → Pending s [] is → length is ≡ 0
 pending-all s _ pending-none = refl
 
--- where the way up has ended and not all is passed
+-- where the climb has ended and not all is passed
 settled-next : (s : List ℕ) (n : ℕ) (st : List ℕ) (is : List Item) → climbed (n ∷ st) ≡ n ∷ st → Pending s (n ∷ st) is → 0 < length is → Next s n st is
 unfolding climbed
 settled-next s zero [] is settled p some = let none = pending-all s is (pending-up s [] is 0 refl p) in absurd (omega arith)
@@ -223,7 +223,7 @@ module _ (d : List ℕ) (k : ℕ) (t : Tree) (place left n : ℕ) (st : List ℕ
       }
 
 module _ (d : List ℕ) (k place left : ℕ) (r : List ℕ) (depth : ℕ) (h : Passing d k place left (stackOf r (suc depth))) where
-  -- a node is passed, and the way up from it
+  -- a node is passed, and the climb from it
   pub passing-more : 0 < left → (node : Code.Node) → NodeIs d place node
       → (st : List ℕ) → ((0 < node .subtrees → depth < 127) → st ≡ passed (node .subtrees) (stackOf r (suc depth))) → Passing d k (node .next) (left - 1) st
   unfolding stackOf

@@ -166,7 +166,7 @@ afterCount name count s = bind (readSubtrees 0 s) λ subtrees o. afterSubtrees n
 unfoldable pub afterName : List ℕ → List ℕ → Read Head
 afterName name s = bind (readCount 0 s) λ count n. afterCount name count (drop n s)
 
--- the node that begins at a place, of which the rest stands at another
+-- the node that begins at a place, of which the rest is at another
 unfoldable pub nodeFrom : ℕ → ℕ → Read Head → NodeRead
 nodeFrom at place (bad n p) = R.Bad
 nodeFrom at place (good h m) = R.Good (record {

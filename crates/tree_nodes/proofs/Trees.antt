@@ -1,12 +1,13 @@
--- Laws of trees that stand in the data: two lists of siblings as one, the node at a place, a whole tree.
+-- Laws of trees that are in the data: two lists of siblings as one, the node at a place, a whole tree.
 use mathlib.Core.Path.{_≡_, refl, sym, ap, _∙_, subst}
 use mathlib.Core.List.{List, append-nil}
 use Prim.Native.Nat.{ℕ, _+_, _-_, _≤_, _<_, suc}
 use native.Mathlib.Nat.{zero-add, suc-add}
 use native.Mathlib.Omega.{arith}
-use lib.ListN.{drop, length}
+use lib.ListN.{take, drop, length}
 use lib.Seq.{drop-drop}
 use lib.Dec.{eqb}
+use Rattle.format.specs.Bytes.{before}
 use Rattle.format.specs.Records.{valid, Forest, nil, tree, Tree, Node, items, treeItems}
 use Rattle.format.specs.Layout.{isValid}
 use Rattle.format.specs.Reading.{Read, good}
@@ -15,7 +16,7 @@ use Rattle.format_laws.proofs.Readings.{need-inv, bind-inv, good-inv}
 use Rattle.tree_nodes.specs.Answers.{counted, nodeOf, nodeAt}
 use Rattle.tree_nodes.specs.Flat.{Reads, reads-none, reads-more, TreeAt, treesLength, nameOf}
 use Rattle.tree_nodes.proofs.Flat.{forest-reads, Levels, levels-none, levels-more, forest-shape, trees-none, trees-step, reads-length}
-use Rattle.tree_nodes.proofs.Nodes.{node-named}
+use Rattle.tree_nodes.proofs.Nodes.{NodeIs, node-named}
 use Rattle.tree_nodes.specs.declared.node.Node as Code
 use Rattle.tree_nodes.specs.declared.node.NodeRead.the-variants as R
 
@@ -87,6 +88,15 @@ pub first-named : (s : List ℕ) (f : Forest) (k : ℕ) (x : First s f k) → na
 unfolding nameOf
 first-named s f k x = sym (node-named 20 0 s (x .head) (x .own) (x .node) .0)
 
+-- the bytes from a place to the NUL are the name of the node there
+pub name-is : (d : List ℕ) (at nul : ℕ) → nul ≡ at + before 0 (drop at d) → take (nul - at) (drop at d) ≡ nameOf (drop at d)
+unfolding nameOf
+name-is d at nul e = let i : nul - at ≡ before 0 (drop at d) = omega arith in rw i
+
+pub node-name-is : (d : List ℕ) (at : ℕ) (node : Code.Node) → NodeIs d at node → take (node .nul - at) (drop at d) ≡ nameOf (drop at d)
+unfolding nameOf
+node-name-is d at node is = sym (is .name) ∙ node-named 20 0 (drop at d) (is .head) (node .next - at) (is .reads) .0
+
 -- ---- two lists of siblings
 
 -- the siblings f and then g
@@ -107,7 +117,7 @@ reads-at s t f k j m r e i = rw (← e, ← i) r
 
 -- ---- the node at a place
 
--- the node that stands at a place, as it is read
+-- the node that is at a place, as it is read
 pub record NodeAt (node : Code.Node) (place own : ℕ) (h : Head) : Type 0 where
   pub is-valid : node .valid ≡ isValid (h .node .count)
   pub count : node .count ≡ counted (h .node .count)

@@ -1,14 +1,15 @@
--- The nodes one after another, as they stand in the data, whatever they belong to.
+-- The nodes one after another, as they are in the data, whatever they belong to.
 use mathlib.Core.Path.{_≡_}
 use mathlib.Core.List.{List, [], _∷_}
 use mathlib.Core.Bool.{Bool, true, false, cond}
-use Prim.Native.Nat.{ℕ, zero, suc, _+_}
+use Prim.Native.Nat.{ℕ, zero, suc, _+_, _-_, _≤_}
 use lib.ListN.{length, take, drop}
 use Rattle.format.specs.Bytes.{eqList, before}
 use Rattle.format.specs.Records.{Forest, nil, tree, Tree}
 use Rattle.format.specs.Reading.{good}
 use Rattle.format.specs.Reader.{Head, readNode}
 use Rattle.format.specs.Places.{onNode}
+use Rattle.tree_nodes.specs.declared.passes.Sibling.{Sibling}
 
 -- how many bytes k nodes take with all below them; fuel is at least the number of bytes
 unfoldable pub lengthOf : ℕ → ℕ → List ℕ → ℕ
@@ -40,11 +41,6 @@ unfoldable pub namesDiffer : List (List ℕ) → Bool
 namesDiffer [] = true
 namesDiffer (x ∷ l) = cond (hasName x l) false (namesDiffer l)
 
--- whether in each of n nodes, one after another, the subtrees differ in name
-unfoldable pub allDiffer : ℕ → List ℕ → Bool
-allDiffer zero s = true
-allDiffer (suc n) s = onNode (readNode 20 0 s) true (λ subtrees m. cond (namesDiffer (namesOf subtrees (drop m s))) (allDiffer n (drop m s)) false)
-
 -- ---- siblings that were read
 
 -- Reads s f k m: the first m bytes of s are the k siblings of f, each followed by all below it
@@ -62,10 +58,22 @@ unfoldable pub size : Forest → ℕ
 size nil = 0
 size (tree n kids more) = suc (size kids + size more)
 
--- a tree that stands at a place: its root, and its subtrees after it
+-- a tree that is at a place: its root, and its subtrees after it
 pub record TreeAt (d : List ℕ) (place : ℕ) (t : Tree) : Type 0 where
   pub subtrees : ℕ
   pub own : ℕ
   pub below : ℕ
   pub node : readNode 20 0 (drop place d) ≡ good (record { node = t .root; subtrees = subtrees }) own
   pub kids : Reads (drop own (drop place d)) (t .subtrees) subtrees below
+
+-- the name of the node at a place ends at nul, in the data
+pub record EndsAt (d : List ℕ) (at nul : ℕ) : Type 0 where
+  pub least : at ≤ nul
+  pub most : nul ≤ length d
+  pub name : take (nul - at) (drop at d) ≡ nameOf (drop at d)
+
+-- the sibling at a place, and the next one after it and all below it
+pub record SiblingAt (d : List ℕ) (at : ℕ) (r : Sibling) : Type 0 where
+  pub ends : EndsAt d at (r .nul)
+  pub after : r .next ≡ at + treesLength 1 (drop at d)
+  pub within : r .next ≤ length d

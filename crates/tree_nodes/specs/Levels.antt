@@ -10,7 +10,7 @@ use Rattle.format.specs.Reader.{readNodes}
 use Rattle.format.specs.Places.{nodeStart}
 use Rattle.tree_nodes.specs.declared.passes.NodePlace.{NodePlace}
 
--- the counts of an array on so many levels, as a stack
+-- the counts of an array on its first n levels, as a stack
 unfoldable pub stackOf : List ℕ → ℕ → List ℕ
 stackOf remaining zero = []
 stackOf remaining (suc levels) = getD remaining levels 0 ∷ stackOf remaining levels

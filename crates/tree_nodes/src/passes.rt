@@ -1,16 +1,23 @@
-// The nodes one after another, as they stand in the data.
+// The nodes one after another, as they are in the data.
 use crate::node::NodeRead;
 use crate::node::read_node;
+use fields::find;
 ghost use mathlib.Core.Path.{_≡_};
 ghost use Prim.Native.Nat.{suc, _+_, _-_, _≤_, _<_};
 ghost use lib.ListN.{length, drop};
-ghost use Rattle.tree_nodes.specs.Flat.{treesLength};
+ghost use Rattle.tree_nodes.specs.Flat.{treesLength, SiblingAt};
 ghost use Rattle.tree_nodes.specs.Levels.{stackOf, climbed, passed, NodeFound};
 
 // The place of a node in the data and its level, from 1 on.
 pub struct NodePlace {
     pub place: usize,
     pub level: u32,
+}
+
+// The end of a node's name, and the place after the node and all below it.
+pub struct Sibling {
+    pub nul: usize,
+    pub next: usize,
 }
 
 fn one_less(n: u32) -> u32
@@ -87,13 +94,13 @@ pub fn find_node(d: &[u8], k: u32) -> NodePlace
     }
 }
 
-// The place after a node and all below it; the end where there is none. Each node adds its subtrees to those that are still to pass.
-pub fn after_tree(d: &[u8], at: usize) -> usize
+// The place after k trees, one after another; the end where one of them has no node. Each node adds its subtrees to those that are still to pass.
+pub fn after_trees(d: &[u8], at: usize, k: u32) -> usize
     requires { ⌜ (at ≤ length (now d)) × (length (now d) ≤ 16777216) ⌝ }
-    ensures { λ r. ⌜ (r ≡ at + treesLength 1 (drop at (now (d .entry)))) × (r ≤ length (now (d .entry))) ⌝ }
+    ensures { λ r. ⌜ (r ≡ at + treesLength k (drop at (now (d .entry)))) × (r ≤ length (now (d .entry))) ⌝ }
 {
     let mut place = at;
-    let mut pending: u64 = 1;
+    let mut pending = k as u64;
     while 0 < pending {
         let read = read_node(d, place);
         match read {
@@ -107,4 +114,30 @@ pub fn after_tree(d: &[u8], at: usize) -> usize
         }
     }
     place
+}
+
+// The place after a node and all below it; the end where there is none.
+pub fn after_tree(d: &[u8], at: usize) -> usize
+    requires { ⌜ (at ≤ length (now d)) × (length (now d) ≤ 16777216) ⌝ }
+    ensures { λ r. ⌜ (r ≡ at + treesLength 1 (drop at (now (d .entry)))) × (r ≤ length (now (d .entry))) ⌝ }
+{
+    after_trees(d, at, 1)
+}
+
+// Where the name of the node at a place ends, and the place after the node and all below it; the end where there is none.
+pub fn sibling_at(d: &[u8], at: usize) -> Sibling
+    requires { ⌜ (at ≤ length (now d)) × (length (now d) ≤ 16777216) ⌝ }
+    ensures { λ r. ⌜ SiblingAt (now (d .entry)) at r ⌝ }
+{
+    let read = read_node(d, at);
+    match read {
+        NodeRead::Bad => Sibling {
+            nul: find(d, at, 0),
+            next: d.len(),
+        },
+        NodeRead::Good(node) => Sibling {
+            nul: node.nul,
+            next: after_trees(d, node.next, node.subtrees),
+        },
+    }
 }

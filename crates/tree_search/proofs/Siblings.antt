@@ -1,4 +1,4 @@
--- Laws of siblings that stand in the data: the first of them, and the search for one by its name.
+-- Laws of siblings in the data: the first of them, and the search for one by its name.
 use mathlib.Core.Path.{_≡_, refl, sym, ap, subst, _∙_}
 use mathlib.Core.List.{List, []}
 use mathlib.Core.Bool.{true, false, not}
@@ -11,7 +11,7 @@ use borrow.Author.Tests.{not-true}
 use Rattle.format.specs.Bytes.{eqList, before}
 use Rattle.format.specs.Records.{Node, Forest, nil, tree, Tree}
 use Rattle.format.specs.Layout.{has, distinct}
-use Rattle.tree_counts.specs.Judge.{child}
+use Rattle.tree_counts.specs.Counts.{child}
 use Rattle.format_laws.proofs.Tests.{clash, by-test, and-inv₃}
 use Rattle.format_laws.proofs.Lists.{eqList-true}
 use Rattle.format_laws.proofs.Readings.{none-some}
@@ -19,8 +19,6 @@ use Rattle.tree_counts.proofs.Walk.{child-some}
 use Rattle.tree_nodes.specs.Flat.{treesLength, nameOf, Reads, reads-none, reads-more}
 use Rattle.tree_search.specs.Siblings.{Last, FoundAt}
 use Rattle.tree_nodes.proofs.Trees.{First, reads-first, reads-empty, first-length, first-named}
-
--- ---- the first of some siblings
 
 -- ---- a search by name
 
@@ -102,12 +100,11 @@ module _ (d : List ℕ) (f : Forest) where
       same-name : eqList name (nameOf (drop place d)) ≡ eqList name (first-of .head .node .name)
       same-name = ap (eqList name) (first-named _ _ _ first-of)
 
-      pub last-here : eqList name (nameOf (drop place d)) ≡ true → FoundAt d f name place left
+      pub last-here : eqList name (nameOf (drop place d)) ≡ true → FoundAt d f name place
       last-here e = record {
         found = record { root = first-of .head .node; subtrees = first-of .kids };
         is = l .part name _ (ap (child name) (first-of .is) ∙ child-here name (first-of .head .node) (first-of .kids) (first-of .after) (sym same-name ∙ e));
-        stands = record { subtrees = first-of .head .subtrees; own = first-of .own; below = first-of .below; node = first-of .node; kids = first-of .reads-kids };
-        last = l;
+        tree = record { subtrees = first-of .head .subtrees; own = first-of .own; below = first-of .below; node = first-of .node; kids = first-of .reads-kids };
       }
 
       pub last-on : eqList name (nameOf (drop place d)) ≡ false → (next : ℕ) (is : next ≡ place + treesLength 1 (drop place d)) → child name (l .siblings) ≡ child name (last-next next is .siblings)
@@ -130,8 +127,3 @@ module _ (d : List ℕ) (f : Forest) (name : List ℕ) where
 
     pub search-end : left ≤ 0 → child name f ≡ none
     search-end l = x .same ∙ ap (child name) (reads-empty _ _ _ _ (x .last .reads) l) ∙ child-none name
-
--- the bytes from a place to the NUL are the name of the node there
-pub name-is : (d : List ℕ) (at nul : ℕ) → nul ≡ at + before 0 (drop at d) → take (nul - at) (drop at d) ≡ nameOf (drop at d)
-unfolding nameOf
-name-is d at nul e = let i : nul - at ≡ before 0 (drop at d) = omega arith in rw i

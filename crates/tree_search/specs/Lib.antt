@@ -1,4 +1,4 @@
 -- What the crate's contracts cite.
-pub mod Keys
 pub mod Siblings
 pub mod Table
+pub mod Rows

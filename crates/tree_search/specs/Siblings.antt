@@ -1,4 +1,4 @@
--- Siblings that stand in the data of a cache tree.
+-- Siblings in the data of a cache tree.
 use mathlib.Core.Path.{_≡_}
 use mathlib.Core.List.{List}
 use mathlib.Core.Bool.{true}
@@ -7,15 +7,14 @@ use Prim.Native.Nat.{ℕ, _≤_}
 use lib.ListN.{length, drop}
 use Rattle.format.specs.Records.{Forest, Tree}
 use Rattle.format.specs.Layout.{distinct}
-use Rattle.tree_counts.specs.Judge.{child}
-use Rattle.tree_nodes.specs.Flat.{Reads}
+use Rattle.tree_counts.specs.Counts.{child}
+use Rattle.tree_nodes.specs.Flat.{Reads, TreeAt}
 use Rattle.tree_search.specs.declared.child.Child.{Child}
 use Rattle.tree_search.specs.declared.child.Child.the-variants as C
 use Rattle.tree_search.specs.declared.child.Answer.{Answer}
 use Rattle.tree_search.specs.declared.child.Answer.the-variants as A
-use Rattle.tree_nodes.specs.Flat.{TreeAt}
 
--- the last of the siblings f stand from a place on, so many
+-- the last of the siblings f, left in number, are from a place on
 pub record Last (d : List ℕ) (f : Forest) (place left : ℕ) : Type 0 where
   pub siblings : Forest
   pub taken : ℕ
@@ -23,48 +22,42 @@ pub record Last (d : List ℕ) (f : Forest) (place left : ℕ) : Type 0 where
   pub differ : distinct siblings ≡ true
   pub part : (name : List ℕ) (t : Tree) → child name siblings ≡ some t → child name f ≡ some t
 
--- none of the siblings f has the name, or the tree of the one that has it stands at a place, and so many stand from it on
-pub record FoundAt (d : List ℕ) (f : Forest) (name : List ℕ) (place left : ℕ) : Type 0 where
+-- the tree of the one of the siblings f that has the name is at a place
+pub record FoundAt (d : List ℕ) (f : Forest) (name : List ℕ) (place : ℕ) : Type 0 where
   pub found : Tree
   pub is : child name f ≡ some found
-  pub stands : TreeAt d place found
-  pub last : Last d f place left
+  pub tree : TreeAt d place found
 
+-- none of the siblings f has the name, or the one that has it was found
 abbrev pub Sought : List ℕ → Forest → List ℕ → Child → Type 0
 Sought d f name C.Missing = child name f ≡ none
-Sought d f name (C.Found place left) = FoundAt d f name place left
+Sought d f name (C.Found place) = FoundAt d f name place
 
 -- the place of what was found; the end where nothing was
 abbrev pub placeIn : ℕ → Child → ℕ
 placeIn end C.Missing = end
-placeIn end (C.Found place left) = place
+placeIn end (C.Found place) = place
 
 -- the same of what can be told at once
-abbrev pub Answered : List ℕ → Forest → List ℕ → Answer → Type 0
-Answered d f name A.Unknown = Unit {0}
-Answered d f name (A.Known c) = Sought d f name c
+abbrev pub AnswerFits : List ℕ → Forest → List ℕ → Answer → Type 0
+AnswerFits d f name A.Unknown = Unit {0}
+AnswerFits d f name (A.Known c) = Sought d f name c
 
 abbrev pub placeOfAnswer : ℕ → Answer → ℕ
 placeOfAnswer end A.Unknown = end
 placeOfAnswer end (A.Known c) = placeIn end c
 
--- the last so many of the k siblings at a place stand from another on, in the data
-pub record Lane (d : List ℕ) (at k place left : ℕ) : Type 0 where
+-- a cursor over the k siblings at a place: the last of them, left in number, are from another place on, in the data
+pub record Cursor (d : List ℕ) (at k place left : ℕ) : Type 0 where
   pub least : at ≤ place
   pub most : place ≤ length d
   pub last : (f : Forest) (m : ℕ) → distinct f ≡ true → Reads (drop at d) f k m → Last d f place left
 
 -- what is told of a name among the k siblings at a place is so, and lies in the data, from that place on
-pub record Told (d : List ℕ) (at k : ℕ) (name : List ℕ) (r : Answer) : Type 0 where
+pub record AnswerHolds (d : List ℕ) (at k : ℕ) (name : List ℕ) (r : Answer) : Type 0 where
   pub least : at ≤ placeOfAnswer (length d) r
   pub most : placeOfAnswer (length d) r ≤ length d
-  pub is : (f : Forest) (m : ℕ) → distinct f ≡ true → Reads (drop at d) f k m → Answered d f name r
+  pub is : (f : Forest) (m : ℕ) → distinct f ≡ true → Reads (drop at d) f k m → AnswerFits d f name r
 
 abbrev pub Finds : List ℕ → ℕ → ℕ → List ℕ → Child → Type 0
-Finds d at k name r = Told d at k name (A.Known r)
-
--- the same where the last so many of them stand from another place on
-pub record ToldSoon (d : List ℕ) (at k place left : ℕ) (name : List ℕ) (r : Answer) : Type 0 where
-  pub least : at ≤ placeOfAnswer (length d) r
-  pub most : placeOfAnswer (length d) r ≤ length d
-  pub is : (f : Forest) (m : ℕ) → distinct f ≡ true → Reads (drop at d) f k m → Last d f place left → Answered d f name r
+Finds d at k name r = AnswerHolds d at k name (A.Known r)

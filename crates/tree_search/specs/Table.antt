@@ -1,72 +1,91 @@
--- A table of siblings, used in one of two ways. Notes: 1,024 keys, 0 where there is none; for each of them what is noted: 0 for no sibling, 1 for several,
--- else 2 more than the place of one; at 2048 the place of the siblings, their number, 0 where none are noted, and the number that keys are made with.
--- Lanes: the places of 1,024 siblings; for each of them how many stand from it on, 0 where it is none; at 2051 the place of all siblings and their number,
--- 0 where no lanes are laid.
+-- What the array holds while entries are walked over. Two tables: keys from a slot on, 0 where there is none, and after them for each slot the number 0
+-- for no sibling, 1 for several, else 2 more than the place of one. Sixteen rows of 16 cursors, one row a level: two numbers for each cursor, its place and
+-- how many siblings are from it on, 0 where it is not set. For each table and each row the list that it is of: its place and its number of siblings, 0 where
+-- there is none.
 use mathlib.Core.Path.{_≡_}
 use mathlib.Core.List.{List}
-use mathlib.Core.Bool.{Bool, true, false, not, cond, _&&_}
-use Prim.Native.Nat.{ℕ, _+_, _-_, _≤_, _<_}
+use mathlib.Core.Bool.{true, false, cond}
+use Prim.Native.Nat.{ℕ, _+_, _*_, _-_, _≤_, _<_}
 use lib.ListN.{length, getD, set, drop}
 use lib.Dec.{eqb}
 use Rattle.format.specs.Bytes.{eqList}
 use Rattle.format.specs.Records.{Forest, nil}
 use Rattle.format.specs.Layout.{distinct}
-use Rattle.tree_counts.specs.Judge.{child}
+use Rattle.tree_counts.specs.Counts.{child}
 use Rattle.tree_nodes.specs.Flat.{nameOf, Reads}
-use Rattle.tree_search.specs.Siblings.{Last, Lane}
-use Rattle.tree_search.specs.Keys.{keyOf, slotOf}
+use Rattle.tree_table.specs.Keys.{keyIn, slotIn}
+use Rattle.tree_search.specs.Siblings.{Last, Cursor}
+use Rattle.tree_search.specs.declared.table.Region.{Region}
+use Rattle.tree_search.specs.declared.table.Region.the-variants as R
 
--- the key of a name, its slot, whether it is wanted, and what is noted in a slot
-unfoldable pub keyIn : List ℕ → List ℕ → ℕ
-keyIn t y = keyOf (getD t 2050 0) y
+-- ---- a table whose keys are from a slot on, as many as slots
 
-unfoldable pub slotFor : List ℕ → List ℕ → ℕ
-slotFor t y = slotOf t (keyIn t y)
+-- the slot of a name's key, and whether that is in the table
+unfoldable pub slotFor : ℕ → ℕ → List ℕ → List ℕ → ℕ
+slotFor from slots t y = slotIn from slots t (keyIn t y)
 
-abbrev pub Wanted : List ℕ → List ℕ → Type 0
-Wanted t y = getD t (slotFor t y) 0 ≡ keyIn t y
+abbrev pub HasKey : ℕ → ℕ → List ℕ → List ℕ → Type 0
+HasKey from slots t y = getD t (slotFor from slots t y) 0 ≡ keyIn t y
 
-abbrev pub noteAt : List ℕ → ℕ → ℕ
-noteAt t i = getD t (1024 + i) 0
+-- what is put down for slot i
+abbrev pub placeAt : ℕ → List ℕ → ℕ → ℕ
+placeAt slots t i = getD t (slots + i) 0
 
--- the table with the sibling at a place noted, if its name is wanted
-unfoldable pub noted : List ℕ → ℕ → List ℕ → List ℕ
-noted d place t =
-    cond (eqb (getD t (slotFor t (nameOf (drop place d))) 0) (keyIn t (nameOf (drop place d))))
-    (set t (1024 + slotFor t (nameOf (drop place d))) (cond (eqb (noteAt t (slotFor t (nameOf (drop place d)))) 0) (place + 2) 1))
+-- the table with the sibling at a place put down, if its key is there
+unfoldable pub withPlace : ℕ → ℕ → List ℕ → ℕ → List ℕ → List ℕ
+withPlace from slots d place t =
+    cond (eqb (getD t (slotFor from slots t (nameOf (drop place d))) 0) (keyIn t (nameOf (drop place d))))
+    (set t (slots + slotFor from slots t (nameOf (drop place d))) (cond (eqb (placeAt slots t (slotFor from slots t (nameOf (drop place d)))) 0) (place + 2) 1))
     t
 
--- what is noted lies in the data, from a place on
-pub record Inside (d : List ℕ) (at : ℕ) (t : List ℕ) : Type 0 where
-  pub most : (i : ℕ) → i < 1024 → noteAt t i ≤ length d + 2
-  pub least : (i : ℕ) → i < 1024 → 2 ≤ noteAt t i → at + 2 ≤ noteAt t i
+-- what is put down lies in the data, from a place on
+pub record Inside (from slots : ℕ) (d : List ℕ) (at : ℕ) (t : List ℕ) : Type 0 where
+  pub most : (i : ℕ) → from ≤ i → i < from + slots → placeAt slots t i ≤ length d + 2
+  pub least : (i : ℕ) → from ≤ i → i < from + slots → 2 ≤ placeAt slots t i → at + 2 ≤ placeAt slots t i
 
--- of the siblings f all but those of rest were noted
-pub record Noted (d : List ℕ) (f : Forest) (t : List ℕ) (rest : Forest) : Type 0 where
-  pub stands : (i : ℕ) → i < 1024 → 2 ≤ noteAt t i → Last d f (noteAt t i - 2) 1
-  pub none : (y : List ℕ) → Wanted t y → noteAt t (slotFor t y) ≡ 0 → child y f ≡ child y rest
-  pub one : (y : List ℕ) → Wanted t y → 2 ≤ noteAt t (slotFor t y) → eqList y (nameOf (drop (noteAt t (slotFor t y) - 2) d)) ≡ false → child y f ≡ child y rest
+-- of the siblings f all but those of rest were put down
+pub record PutDown (from slots : ℕ) (d : List ℕ) (f : Forest) (t : List ℕ) (rest : Forest) : Type 0 where
+  pub last : (i : ℕ) → from ≤ i → i < from + slots → 2 ≤ placeAt slots t i → Last d f (placeAt slots t i - 2) 1
+  pub none : (y : List ℕ) → HasKey from slots t y → placeAt slots t (slotFor from slots t y) ≡ 0 → child y f ≡ child y rest
+  pub one : (y : List ℕ) → HasKey from slots t y → 2 ≤ placeAt slots t (slotFor from slots t y) → eqList y (nameOf (drop (placeAt slots t (slotFor from slots t y) - 2) d)) ≡ false → child y f ≡ child y rest
 
--- whether a table has the place of k siblings and their number at i, and there are some
-unfoldable pub isSaid : List ℕ → ℕ → ℕ → ℕ → Bool
-isSaid t i at k = not (eqb k 0) && (eqb (getD t i 0) at && eqb (getD t (i + 1) 0) k)
+-- all siblings of the list that the table is of, which has its place and number at list
+pub record TableKnown (from slots list : ℕ) (d t : List ℕ) : Type 0 where
+  pub inside : 1 ≤ getD t (list + 1) 0 → Inside from slots d (getD t list 0) t
+  pub is : 1 ≤ getD t (list + 1) 0 → (f : Forest) (m : ℕ) → distinct f ≡ true → Reads (drop (getD t list 0) d) f (getD t (list + 1) 0) m → PutDown from slots d f t nil
 
-pub record Says (t : List ℕ) (i at k : ℕ) : Type 0 where
-  pub place : getD t i 0 ≡ at
-  pub number : getD t (i + 1) 0 ≡ k
-  pub some : 1 ≤ k
+-- ---- a row of cursors
 
--- the lanes of a table, which notes nothing, are of the k siblings at a place
-pub record Lanes (d : List ℕ) (at k : ℕ) (t : List ℕ) : Type 0 where
-  pub long : length t ≡ 2053
-  pub only : getD t 2049 0 ≡ 0
-  pub place : getD t 2051 0 ≡ at
-  pub number : getD t 2052 0 ≡ k
-  pub is : (i : ℕ) → i < 1024 → 1 ≤ noteAt t i → Lane d at k (getD t i 0) (noteAt t i)
+-- those that are set are cursors over the k siblings at a place
+pub record Cursors (row : ℕ) (d : List ℕ) (at k : ℕ) (t : List ℕ) : Type 0 where
+  pub is : (c : ℕ) → c < 16 → 1 ≤ getD t (row + c * 2 + 1) 0 → Cursor d at k (getD t (row + c * 2) 0) (getD t (row + c * 2 + 1) 0)
 
--- a table says what is so of its siblings
+-- over those of the list that the row is of
+pub record RowKnown (row list : ℕ) (d t : List ℕ) : Type 0 where
+  pub is : 1 ≤ getD t (list + 1) 0 → Cursors row d (getD t list 0) (getD t (list + 1) 0) t
+
+-- ---- the array
+
 pub record Known (d t : List ℕ) : Type 0 where
-  pub long : length t ≡ 2053
-  pub inside : 1 ≤ getD t 2049 0 → Inside d (getD t 2048 0) t
-  pub is : 1 ≤ getD t 2049 0 → (f : Forest) (m : ℕ) → distinct f ≡ true → Reads (drop (getD t 2048 0) d) f (getD t 2049 0) m → Noted d f t nil
-  pub lanes : 1 ≤ getD t 2052 0 → Lanes d (getD t 2051 0) (getD t 2052 0) t
+  pub long : length t ≡ 3126
+  pub short-lists : TableKnown 0 512 3074 d t
+  pub long-lists : TableKnown 1024 768 3076 d t
+  pub rows : (j : ℕ) → j < 16 → RowKnown (2560 + j * 32) (3078 + j * 3) d t
+
+-- where the keys of a table begin, how many slots it has, and where its list is
+abbrev pub firstSlot : Region → ℕ
+firstSlot R.Short = 0
+firstSlot R.Long = 1024
+
+abbrev pub slotsOf : Region → ℕ
+slotsOf R.Short = 512
+slotsOf R.Long = 768
+
+abbrev pub listOf : Region → ℕ
+listOf R.Short = 3074
+listOf R.Long = 3076
+
+-- a table is of no list
+pub record Vacant (region : Region) (t : List ℕ) : Type 0 where
+  pub long : length t ≡ 3126
+  pub none : getD t (listOf region + 1) 0 ≡ 0

@@ -1,6 +1,4 @@
-// The sibling of a name: by a table of its list, else the one after the last that was found, else by a scan where the siblings are few.
+// The sibling of a name: by cursors over its list, else by a table of it, else by a scan where the list is short.
 pub mod child;
-pub mod keys;
-pub mod lanes;
-pub mod seek;
+pub mod cursors;
 pub mod table;

@@ -1,152 +1,202 @@
-// A table of the siblings that are about to be asked for: one pass over them notes where each of them stands whose key is wanted.
+// Two tables, each of some siblings of a list: of those whose keys are in it, one pass over the list puts down where each is.
 use crate::child::Answer;
 use crate::child::Child;
 use crate::child::is_named;
-use crate::keys::SLOTS;
-use crate::keys::Table;
-use crate::keys::key_of;
-use crate::keys::slot_of;
-use crate::keys::want;
 use fields::find;
 use tree_nodes::passes::after_tree;
+use tree_table::Table;
+use tree_table::clear;
+use tree_table::has_seed;
+use tree_table::is_of;
+use tree_table::key_of;
+use tree_table::make_seed;
+use tree_table::place_of;
+use tree_table::set_list;
+use tree_table::slot_of;
 ghost use mathlib.Core.Path.{_≡_};
 ghost use mathlib.Core.List.{List};
-ghost use Prim.Native.Nat.{ℕ, _+_, _≤_, _<_};
-ghost use lib.ListN.{length, getD, drop};
+ghost use Prim.Native.Nat.{ℕ, _≤_, _<_};
+ghost use lib.ListN.{length, drop};
 ghost use Rattle.tree_nodes.specs.Flat.{nameOf};
-ghost use Rattle.tree_search.specs.Keys.{keyOf};
-ghost use Rattle.tree_search.specs.Siblings.{Told};
-ghost use Rattle.tree_search.specs.Table.{noted, isSaid, Known};
+ghost use Rattle.tree_table.specs.Keys.{keyIn};
+ghost use Rattle.tree_search.specs.Siblings.{AnswerHolds};
+ghost use Rattle.tree_search.specs.Table.{Known, Vacant, withPlace, firstSlot, slotsOf, listOf};
+ghost use Rattle.tree_search.specs.declared.table.Region.{Region};
 
-// A number of a table as a place.
-pub fn place_of(x: u32) -> usize
-    ensures { λ r. ⌜ r ≡ x ⌝ }
-{
-    x as usize
+// Which of the two. Many shorter lists may be below a long one: they have a table of their own, so that they don't make the long one's begin anew.
+pub enum Region {
+    Short,
+    Long,
 }
 
-// 1,024 numbers of a table from a place on are 0.
-pub fn clear(t: &mut Table, from: usize)
-    requires { ⌜ from ≤ 1024 ⌝ }
-    ensures { λ _. ⌜ (length (now (t .exit)) ≡ length (now (t .entry))) × ((i : ℕ) → i < 1024 → getD (now (t .exit)) (from + i) 0 ≡ 0) ⌝ }
+// Where the keys of each table begin. After its keys are as many numbers, which say for each slot where the sibling is: 0 for none, 1 for several, else 2
+// more than the place of one.
+const SHORT_KEYS: usize = 0;
+
+const LONG_KEYS: usize = 1024;
+
+// How many slots each table has. A pass over a long list costs more, so its table takes more keys.
+const SHORT_SLOTS: usize = 512;
+
+const LONG_SLOTS: usize = 768;
+
+// The first of the numbers that say which lists the tables and the rows of cursors are of, and how many these are.
+const LISTS: usize = 3074;
+
+const LIST_NUMBERS: usize = 52;
+
+// Where the list of each table is: its place, then its number of siblings, 0 where there is none.
+const SHORT_LIST: usize = LISTS;
+
+const LONG_LIST: usize = LISTS + 2;
+
+fn first_slot(region: Region) -> usize
+    ensures { λ r. ⌜ (r ≡ firstSlot region) × (r ≤ 1024) ⌝ }
 {
-    let mut i = 0;
-    while i < SLOTS {
-        t[from + i] = 0;
-        i += 1;
+    match region {
+        Region::Short => SHORT_KEYS,
+        Region::Long => LONG_KEYS,
     }
 }
 
-// A table of no siblings, whose keys are made with m.
-pub fn reset(t: &mut Table, m: u32)
-    requires { ⌜ length (now t) ≡ 2053 ⌝ }
-    ensures { λ _. ⌜ ((d : List ℕ) → Known d (now (t .exit))) ⌝ }
+fn slots_of(region: Region) -> usize
+    ensures { λ r. ⌜ (r ≡ slotsOf region) × (512 ≤ r) × (r ≤ 1024) ⌝ }
 {
-    t[2049] = 0;
-    t[2050] = m;
-    t[2052] = 0;
+    match region {
+        Region::Short => SHORT_SLOTS,
+        Region::Long => LONG_SLOTS,
+    }
+}
+
+fn list_of(region: Region) -> usize
+    ensures { λ r. ⌜ (r ≡ listOf region) × (r ≤ 3076) ⌝ }
+{
+    match region {
+        Region::Short => SHORT_LIST,
+        Region::Long => LONG_LIST,
+    }
+}
+
+// The tables and the rows are of no list.
+pub fn reset(t: &mut Table)
+    requires { ⌜ length (now t) ≡ 3126 ⌝ }
+    ensures { λ _. ⌜ ((d : List ℕ) → Known d (now (t .exit))) × ((region : Region) → Vacant region (now (t .exit))) ⌝ }
+{
+    clear(t, LISTS, LIST_NUMBERS);
+}
+
+// How many keys a table takes: three quarters of its slots. It only chooses how to search: nothing rests on the answer.
+pub fn most_keys(region: Region) -> u32 {
+    match region {
+        Region::Short => 384,
+        Region::Long => 576,
+    }
+}
+
+// The seed is made from data, if it was not made yet. The keys in the tables were made with another, so these are of no list then.
+fn seed_tables(d: &[u8], t: &mut Table)
+    requires { ⌜ Known (now d) (now t) ⌝ }
+    ensures { λ _. ⌜ Known (now (d .entry)) (now (t .exit)) ⌝ }
+{
+    if has_seed(t) {
+        return;
+    }
+    make_seed(d, t);
+    set_list(t, SHORT_LIST, 0, 0);
+    set_list(t, LONG_LIST, 0, 0);
+}
+
+// A table is of no list and has no keys. d is the data that the seed is made from.
+pub fn begin(d: &[u8], region: Region, t: &mut Table)
+    requires { ⌜ Known (now d) (now t) ⌝ }
+    ensures { λ _. ⌜ Known (now (d .entry)) (now (t .exit)) × Vacant region (now (t .exit)) ⌝ }
+{
+    seed_tables(d, t);
+    set_list(t, list_of(region), 0, 0);
+    clear(t, first_slot(region), slots_of(region));
+}
+
+// A key is in a table that is of no list. How many were added.
+pub fn put_key(region: Region, key: u32, t: &mut Table) -> u32
+    requires { ⌜ Vacant region (now t) ⌝ }
+    ensures { λ r. ⌜ (r < 2) × Vacant region (now (t .exit)) × ((d : List ℕ) → Known d (now (t .entry)) → Known d (now (t .exit))) ⌝ }
+{
+    let i = slot_of(t, first_slot(region), slots_of(region), key);
+    if t[i] == key {
+        return 0;
+    }
+    t[i] = key;
+    1
 }
 
 // The key of the node at a place.
-fn key_at(d: &[u8], place: usize, m: u32) -> u32
+fn key_at(d: &[u8], place: usize, t: &Table) -> u32
     requires { ⌜ place ≤ length (now d) ⌝ }
-    ensures { λ r. ⌜ r ≡ keyOf m (nameOf (drop place (now (d .entry)))) ⌝ }
+    ensures { λ r. ⌜ r ≡ keyIn (now (t .entry)) (nameOf (drop place (now (d .entry)))) ⌝ }
 {
     let nul = find(d, place, 0);
-    key_of(&d[place..nul], m)
+    key_of(&d[place..nul], t)
 }
 
-// The sibling at a place is noted, if its key is wanted.
-fn note(d: &[u8], place: usize, t: &mut Table)
+// The sibling at a place is put down, if its key is in the table.
+fn put_place(d: &[u8], place: usize, region: Region, t: &mut Table)
     requires { ⌜ (place ≤ length (now d)) × (length (now d) ≤ 16777216) ⌝ }
-    ensures { λ _. ⌜ now (t .exit) ≡ noted (now (d .entry)) place (now (t .entry)) ⌝ }
+    ensures { λ _. ⌜ now (t .exit) ≡ withPlace (firstSlot region) (slotsOf region) (now (d .entry)) place (now (t .entry)) ⌝ }
 {
-    let key = key_at(d, place, t[2050]);
-    let i = slot_of(t, key);
+    let key = key_at(d, place, t);
+    let slots = slots_of(region);
+    let i = slot_of(t, first_slot(region), slots, key);
     if t[i] != key {
         return;
     }
-    if t[SLOTS + i] == 0 {
-        t[SLOTS + i] = place as u32 + 2;
+    if t[slots + i] == 0 {
+        t[slots + i] = place as u32 + 2;
         return;
     }
-    t[SLOTS + i] = 1;
+    t[slots + i] = 1;
 }
 
-// The keys of the k siblings at a place are wanted.
-pub fn want_siblings(d: &[u8], at: usize, k: u32, t: &mut Table)
-    requires { ⌜ (at ≤ length (now d)) × (length (now d) ≤ 16777216) × (length (now t) ≡ 2053) ⌝ }
-    ensures { λ _. ⌜ length (now (t .exit)) ≡ length (now (t .entry)) ⌝ }
-{
-    let mut place = at;
-    let mut left = k;
-    while 0 < left {
-        let key = key_at(d, place, t[2050]);
-        want(t, key);
-        place = after_tree(d, place);
-        left -= 1;
-    }
-}
-
-// The k siblings at a place are noted in a table with wanted keys.
-pub fn settle(d: &[u8], at: usize, k: u32, t: &mut Table)
-    requires { ⌜ (at ≤ length (now d)) × (length (now d) ≤ 16777216) × (length (now t) ≡ 2053) ⌝ }
+// Of the k siblings at a place those whose keys are in the table are put down, and the table is of these.
+pub fn put_places(d: &[u8], at: usize, k: u32, region: Region, t: &mut Table)
+    requires { ⌜ (at ≤ length (now d)) × (length (now d) ≤ 16777216) × Vacant region (now t) × Known (now d) (now t) ⌝ }
     ensures { λ _. ⌜ Known (now (d .entry)) (now (t .exit)) ⌝ }
 {
-    clear(t, SLOTS);
+    let slots = slots_of(region);
+    clear(t, first_slot(region) + slots, slots);
     let mut place = at;
     let mut left = k;
     while 0 < left {
-        note(d, place, t);
+        put_place(d, place, region, t);
         place = after_tree(d, place);
         left -= 1;
     }
-    t[2048] = at as u32;
-    t[2049] = k;
-    t[2052] = 0;
+    set_list(t, list_of(region), at, k);
 }
 
-// Whether a table has the place of k siblings and their number at i, and there are some.
-pub fn says(t: &Table, i: usize, at: usize, k: u32) -> bool
-    requires { ⌜ i ≤ 2051 ⌝ }
-    ensures { λ r. ⌜ r ≡ isSaid (now (t .entry)) i at k ⌝ }
+// What a table says of a name among the k siblings at a place.
+pub fn find_in_table(d: &[u8], at: usize, k: u32, name: &[u8], region: Region, t: &Table) -> Answer
+    requires { ⌜ (at ≤ length (now d)) × (length (now d) ≤ 16777216) × Known (now d) (now t) ⌝ }
+    ensures { λ r. ⌜ AnswerHolds (now (d .entry)) at k (now (name .entry)) r ⌝ }
 {
-    if k == 0 {
-        return false;
+    if !is_of(t, list_of(region), at, k) {
+        return Answer::Unknown;
     }
-    if place_of(t[i]) == at {
-        return t[i + 1] == k;
-    }
-    false
-}
-
-// Whether the k siblings at a place are noted in a table.
-pub fn is_of(t: &Table, at: usize, k: u32) -> bool
-    ensures { λ r. ⌜ r ≡ isSaid (now (t .entry)) 2048 at k ⌝ }
-{
-    says(t, 2048, at, k)
-}
-
-// What the notes of a table say of a name.
-pub fn recall(d: &[u8], name: &[u8], t: &Table) -> Answer
-    requires { ⌜ Known (now d) (now t) × (1 ≤ getD (now t) 2049 0) × (getD (now t) 2048 0 ≤ length (now d)) ⌝ }
-    ensures { λ r. ⌜ Told (now (d .entry)) (getD (now (t .entry)) 2048 0) (getD (now (t .entry)) 2049 0) (now (name .entry)) r ⌝ }
-{
-    let key = key_of(name, t[2050]);
-    let i = slot_of(t, key);
+    let key = key_of(name, t);
+    let slots = slots_of(region);
+    let i = slot_of(t, first_slot(region), slots, key);
     if t[i] != key {
         return Answer::Unknown;
     }
-    let note = t[SLOTS + i];
-    if note == 0 {
+    let number = t[slots + i];
+    if number == 0 {
         return Answer::Known(Child::Missing);
     }
-    if note == 1 {
+    if number == 1 {
         return Answer::Unknown;
     }
-    let place = place_of(note) - 2;
+    let place = place_of(number) - 2;
     if is_named(d, place, name) {
-        return Answer::Known(Child::Found(place, 1));
+        return Answer::Known(Child::Found(place));
     }
     Answer::Known(Child::Missing)
 }

@@ -3,5 +3,5 @@ pub mod Names
 pub mod Nodes
 pub mod Steps
 pub mod Trees
-pub mod Ways
+pub mod Paths
 pub mod Wholes

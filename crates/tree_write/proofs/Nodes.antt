@@ -113,7 +113,7 @@ node-cut s h m q =
 
 -- ---- a node at a place of the data
 
-pub record Stands (d : List ℕ) (place : ℕ) (node : Code.Node) : Type 0 where
+pub record NodeCut (d : List ℕ) (place : ℕ) (node : Code.Node) : Type 0 where
   pub head : Head
   pub took : ℕ
   pub reads : readNode 20 0 (drop place d) ≡ good head took
@@ -125,10 +125,10 @@ pub record Stands (d : List ℕ) (place : ℕ) (node : Code.Node) : Type 0 where
   pub within : place + took ≤ length d
 
 module _ (d : List ℕ) (place : ℕ) (inside : place ≤ length d) (node : Code.Node) where
-  stands-by : (r : Read Head) → readNode 20 0 (drop place d) ≡ r → R.Good node ≡ nodeAt place r → Stands d place node
+  node-cut-by : (r : Read Head) → readNode 20 0 (drop place d) ≡ r → R.Good node ≡ nodeAt place r → NodeCut d place node
   unfolding nodeAt
-  stands-by (bad n p) q e = let z : _≡_ {A = ℕ} 0 1 = cc in absurd (omega arith)
-  stands-by (good h m) q e =
+  node-cut-by (bad n p) q e = let z : _≡_ {A = ℕ} 0 1 = cc in absurd (omega arith)
+  node-cut-by (good h m) q e =
       let is : node ≡ nodeOf place h m = cc in
       let cut : Cut (drop place d) h m = node-cut (drop place d) h m q in
       let object : node .object ≡ place + m - objectLength (h .node .count) = ap (λ (n : Code.Node). n .object) is in
@@ -148,24 +148,24 @@ module _ (d : List ℕ) (place : ℕ) (inside : place ≤ length d) (node : Code
         within = omega arith;
       }
 
-  pub stands : NodeHere d place node → Stands d place node
-  stands here = stands-by (readNode 20 0 (drop place d)) refl (here .read)
+  pub cut-here : NodeHere d place node → NodeCut d place node
+  cut-here here = node-cut-by (readNode 20 0 (drop place d)) refl (here .read)
 
 pub head-is : {a b : Head} {m n : ℕ} → good a m ≡ good b n → a ≡ b
 head-is e = cc
 
 -- the head that a reading at the place gives
-pub stands-head : (d : List ℕ) (place : ℕ) (node : Code.Node) (x : Stands d place node) (h : Head) (m : ℕ) → readNode 20 0 (drop place d) ≡ good h m → x .head ≡ h
-stands-head d place node x h m q = head-is (sym (x .reads) ∙ q)
+pub cut-head : (d : List ℕ) (place : ℕ) (node : Code.Node) (x : NodeCut d place node) (h : Head) (m : ℕ) → readNode 20 0 (drop place d) ≡ good h m → x .head ≡ h
+cut-head d place node x h m q = head-is (sym (x .reads) ∙ q)
 
-module _ (d : List ℕ) (place : ℕ) (node : Code.Node) (x : Stands d place node) where
-  -- what was written of the node that stands there
+module _ (d : List ℕ) (place : ℕ) (node : Code.Node) (x : NodeCut d place node) where
+  -- what was written of the node that is there
   told : (text : Head → List ℕ) (out out′ : List ℕ) (at r : ℕ) → Wrote out at (text (x .head)) out′ r → length (text (x .head)) ≤ x .took → NodeWritten text d place node out at out′ r
   told text out out′ at r wrote few =
       let e = wrote .end in
       let next = x .next in
       record {
-        wrote = λ h m q. subst (λ (i : Head). Wrote out at (text i) out′ r) (stands-head d place node x h m q) wrote;
+        wrote = λ h m q. subst (λ (i : Head). Wrote out at (text i) out′ r) (cut-head d place node x h m q) wrote;
         short = omega arith;
       }
 
@@ -245,7 +245,7 @@ module _ (d : List ℕ) (place : ℕ) (node : Code.Node) (x : Stands d place nod
         let count : x .head .node .count ≡ invalid = by-count (x .head .node .count) (λ n is. absurd (true≢false (sym (ap isValid is) ∙ sym (x .valid) ∙ v))) (λ is. is) in
         record {
           wrote = λ h m q.
-              let is : h .node .count ≡ invalid = ap (λ (i : Head). i .node .count) (sym (stands-head d place node x h m q)) ∙ count in
+              let is : h .node .count ≡ invalid = ap (λ (i : Head). i .node .count) (sym (cut-head d place node x h m q)) ∙ count in
               rw (invalid-same 20 h is) at (w .wrote h m q);
           short = w .short;
         }

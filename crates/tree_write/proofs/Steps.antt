@@ -1,4 +1,4 @@
--- One step along siblings of which those on the way to a name's directory are made invalid.
+-- One step along siblings of which those on the path to a name's directory are made invalid.
 use mathlib.Core.Path.{_≡_, refl, sym, ap, subst, _∙_}
 use mathlib.Core.List.{List, _++_, append-nil}
 use mathlib.Core.Bool.{true, false}
@@ -10,8 +10,8 @@ use Rattle.format.specs.Records.{Forest, nil, tree}
 use Rattle.format.specs.Layout.{under}
 use Rattle.format.specs.Reader.{Head, readNode}
 use Rattle.format.specs.Writer.{writeForest}
-use Rattle.format.specs.Requests.{invalidWay}
-use Rattle.tree_counts.specs.Judge.{Sound}
+use Rattle.format.specs.Requests.{invalidPath}
+use Rattle.tree_counts.specs.Counts.{SoundForest}
 use Rattle.tree_counts.proofs.Siblings.{sound-kids, sound-after}
 use Rattle.tree_nodes.specs.declared.node.Node as Code
 use Rattle.tree_nodes.specs.declared.node.NodeRead.the-variants as R
@@ -24,13 +24,13 @@ use Rattle.tree_nodes.proofs.Trees.{First, reads-first, reads-empty, first-leng
 use Rattle.tree_nodes.proofs.Trees.{chain, reads-chain, reads-at, NodeAt, node-at, no-bad}
 use Rattle.output.specs.Output.{Wrote}
 use Rattle.output.proofs.Laws.{wrote-then}
-use Rattle.tree_write.specs.declared.Way.{Way}
+use Rattle.tree_write.specs.declared.PathPlace.{PathPlace}
 use Rattle.tree_write.specs.declared.Passed.{Passed}
 use Rattle.tree_write.specs.Written.{NodeHere, madeInvalid, NodeWritten, TreesWritten}
 use Rattle.tree_write.specs.Steps.{ToWrite, Part, Stepped}
 use Rattle.tree_write.proofs.Nodes.{head-is}
 use Rattle.tree_write.proofs.Trees.{write-nil}
-use Rattle.tree_write.proofs.Ways.{way-enters, way-passes, way-none}
+use Rattle.tree_write.proofs.Paths.{path-enters, way-passes, path-none}
 
 -- ---- where siblings end
 
@@ -49,18 +49,18 @@ first-total s f k m r some x =
 
 -- ---- what is written of a sibling, and what is left
 
-module _ (d name : List ℕ) (w : Way) (s : List ℕ) (x : ToWrite d name w s) where
+module _ (d name : List ℕ) (w : PathPlace) (s : List ℕ) (x : ToWrite d name w s) where
   module _ (some : 0 < w .left) where
     first-of : First (drop (w .place) d) (x .siblings) (w .left)
     first-of = reads-first _ _ _ _ (x .reads) some
 
-    sound-of : Sound (tree (first-of .head .node) (first-of .kids) (first-of .after))
-    sound-of = subst Sound (first-of .is) (x .sound)
+    sound-of : SoundForest (tree (first-of .head .node) (first-of .kids) (first-of .after))
+    sound-of = subst SoundForest (first-of .is) (x .sound)
 
-    text-is : s ≡ writeForest (invalidWay 20 (drop (w .from) name) (tree (first-of .head .node) (first-of .kids) (first-of .after))) ++ writeForest (x .trees)
-    text-is = x .is ∙ ap (λ (f : Forest). writeForest (invalidWay 20 (drop (w .from) name) f) ++ writeForest (x .trees)) (first-of .is)
+    text-is : s ≡ writeForest (invalidPath 20 (drop (w .from) name) (tree (first-of .head .node) (first-of .kids) (first-of .after))) ++ writeForest (x .trees)
+    text-is = x .is ∙ ap (λ (f : Forest). writeForest (invalidPath 20 (drop (w .from) name) f) ++ writeForest (x .trees)) (first-of .is)
 
-    -- the trees that follow stand after the first sibling, its subtrees and its later siblings
+    -- the trees that follow are after the first sibling, its subtrees and its later siblings
     follows : Reads (drop (first-of .rest) (drop (first-of .below) (drop (first-of .own) (drop (w .place) d)))) (x .trees) (w .later) (x .more)
     follows =
         let total : x .taken ≡ first-of .own + (first-of .below + first-of .rest) = first-total _ _ _ _ (x .reads) some first-of in
@@ -105,10 +105,10 @@ module _ (d name : List ℕ) (w : Way) (s : List ℕ) (x : ToWrite d name w s) w
             let next : drop (first-of .own) (drop (w .place) d) ≡ drop (node .next) d = drop-to d (w .place) (first-of .own) (node .next) (node-here .next) in
             record {
               part = madeInvalid 20 (first-of .head);
-              rest = writeForest (invalidWay 20 (drop k (drop (w .from) name)) (first-of .kids)) ++ writeForest (chain (first-of .after) (x .trees));
+              rest = writeForest (invalidPath 20 (drop k (drop (w .from) name)) (first-of .kids)) ++ writeForest (chain (first-of .after) (x .trees));
               whole =
                   text-is
-                  ∙ way-enters 20 (drop (w .from) name) n (first-of .kids) (first-of .after) (x .trees) (first-of .head .subtrees) in-dir sound-of (reads-width _ _ _ _ (first-of .reads-kids));
+                  ∙ path-enters 20 (drop (w .from) name) n (first-of .kids) (first-of .after) (x .trees) (first-of .head .subtrees) in-dir sound-of (reads-width _ _ _ _ (first-of .reads-kids));
               wrote = written .wrote (first-of .head) (first-of .own) (first-of .node);
               left = record {
                 siblings = first-of .kids;
@@ -118,7 +118,7 @@ module _ (d name : List ℕ) (w : Way) (s : List ℕ) (x : ToWrite d name w s) w
                 sound = sound-kids n (first-of .kids) (first-of .after) sound-of;
                 reads = reads-at _ _ _ _ _ _ (first-of .reads-kids) next (sym (node-here .subtrees));
                 follow = reads-at _ _ _ _ _ _ (reads-chain _ _ _ _ _ _ _ (first-of .reads-after) follows) (ap (drop (first-of .below)) next) count;
-                is = ap (λ (t : List ℕ). writeForest (invalidWay 20 t (first-of .kids)) ++ writeForest (chain (first-of .after) (x .trees))) name-rest;
+                is = ap (λ (t : List ℕ). writeForest (invalidPath 20 t (first-of .kids)) ++ writeForest (chain (first-of .after) (x .trees))) name-rest;
               };
             }
 
@@ -134,7 +134,7 @@ module _ (d name : List ℕ) (w : Way) (s : List ℕ) (x : ToWrite d name w s) w
             drop-drop (first-of .below) (first-of .own) (drop (w .place) d) ∙ drop-to d (w .place) (first-of .own + first-of .below) (passed .place) length-is in
             record {
               part = writeForest (tree n (first-of .kids) nil);
-              rest = writeForest (invalidWay 20 (drop (w .from) name) (first-of .after)) ++ writeForest (x .trees);
+              rest = writeForest (invalidPath 20 (drop (w .from) name) (first-of .after)) ++ writeForest (x .trees);
               whole = text-is ∙ way-passes 20 (drop (w .from) name) n (first-of .kids) (first-of .after) (x .trees) out-dir;
               wrote = written .wrote (tree n (first-of .kids) nil) _ (reads-more (first-of .node) (first-of .reads-kids) reads-none);
               left = record {
@@ -151,21 +151,21 @@ module _ (d name : List ℕ) (w : Way) (s : List ℕ) (x : ToWrite d name w s) w
 
   -- ---- no sibling is left
 
-  pub way-end : w .left ≤ 0 → (out out′ : List ℕ) (passed : Passed) → TreesWritten d (w .place) (w .later) out (w .at) out′ passed → Wrote out (w .at) s out′ (passed .at)
-  way-end l out out′ passed written =
+  pub path-end : w .left ≤ 0 → (out out′ : List ℕ) (passed : Passed) → TreesWritten d (w .place) (w .later) out (w .at) out′ passed → Wrote out (w .at) s out′ (passed .at)
+  path-end l out out′ passed written =
       let none : x .siblings ≡ nil = reads-empty _ _ _ _ (x .reads) l in
       let zero-left : w .left ≡ 0 = omega arith in
       let taken : x .taken ≡ 0 = reads-total _ _ _ _ (x .reads) ∙ ap (λ (k : ℕ). treesLength k (drop (w .place) d)) zero-left ∙ trees-none (drop (w .place) d) in
       let text : s ≡ writeForest (x .trees) =
       x .is
-      ∙ ap (λ (f : Forest). writeForest (invalidWay 20 (drop (w .from) name) f) ++ writeForest (x .trees)) none
-      ∙ way-none 20 (drop (w .from) name) (x .trees) in
+      ∙ ap (λ (f : Forest). writeForest (invalidPath 20 (drop (w .from) name) f) ++ writeForest (x .trees)) none
+      ∙ path-none 20 (drop (w .from) name) (x .trees) in
       rw text (written .wrote (x .trees) (x .more) (rw taken at (x .follow)))
 
 -- ---- all siblings
 
-pub way-start : (d name : List ℕ) (place at k : ℕ) (f : Forest) (m : ℕ) → Sound f → Reads (drop place d) f k m
-    → ToWrite d name (record { place = place; at = at; left = k; later = 0; from = 0 }) (writeForest (invalidWay 20 name f))
+pub way-start : (d name : List ℕ) (place at k : ℕ) (f : Forest) (m : ℕ) → SoundForest f → Reads (drop place d) f k m
+    → ToWrite d name (record { place = place; at = at; left = k; later = 0; from = 0 }) (writeForest (invalidPath 20 name f))
 way-start d name place at k f m sound r = record {
   siblings = f;
   taken = m;
@@ -174,19 +174,19 @@ way-start d name place at k f m sound r = record {
   sound = sound;
   reads = r;
   follow = reads-none;
-  is = sym (ap (λ (s : List ℕ). writeForest (invalidWay 20 name f) ++ s) write-nil ∙ append-nil (writeForest (invalidWay 20 name f)));
+  is = sym (ap (λ (s : List ℕ). writeForest (invalidPath 20 name f) ++ s) write-nil ∙ append-nil (writeForest (invalidPath 20 name f)));
 }
 
 -- with what is still to write, s is written at a place of out₀
-pub record Going (d name out₀ : List ℕ) (at : ℕ) (s out : List ℕ) (w : Way) : Type 0 where
+pub record Going (d name out₀ : List ℕ) (at : ℕ) (s out : List ℕ) (w : PathPlace) : Type 0 where
   pub left : List ℕ
   pub still : ToWrite d name w left
   pub rest : (out′ : List ℕ) (r : ℕ) → Wrote out (w .at) left out′ r → Wrote out₀ at s out′ r
 
-pub going-start : (d name s out : List ℕ) (w : Way) → ToWrite d name w s → Going d name out (w .at) s out w
+pub going-start : (d name s out : List ℕ) (w : PathPlace) → ToWrite d name w s → Going d name out (w .at) s out w
 going-start d name s out w x = record { left = s; still = x; rest = λ out′ r wrote. wrote }
 
-pub going-on : (d name out₀ : List ℕ) (at : ℕ) (s out : List ℕ) (w : Way) → Going d name out₀ at s out w → (out₁ : List ℕ) (r : Way) → Stepped d name out w out₁ r
+pub going-on : (d name out₀ : List ℕ) (at : ℕ) (s out : List ℕ) (w : PathPlace) → Going d name out₀ at s out w → (out₁ : List ℕ) (r : PathPlace) → Stepped d name out w out₁ r
     → Going d name out₀ at s out₁ r
 going-on d name out₀ at s out w x out₁ r step =
     let y = step .wrote (x .left) (x .still) in

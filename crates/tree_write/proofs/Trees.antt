@@ -36,16 +36,16 @@ write-chain (tree n kids after) g = rw (write-chain after g) (simp append-assoc)
 
 -- ---- the trees that are still to write: with them, s is written at a place of out₀
 
-pub record Left (d out₀ : List ℕ) (at : ℕ) (s : List ℕ) (place pending : ℕ) (out : List ℕ) (end : ℕ) : Type 0 where
+pub record TreesToWrite (d out₀ : List ℕ) (at : ℕ) (s : List ℕ) (place pending : ℕ) (out : List ℕ) (end : ℕ) : Type 0 where
   pub trees : Forest
   pub taken : ℕ
   pub reads : Reads (drop place d) trees pending taken
   pub rest : (out′ : List ℕ) (r : ℕ) → Wrote out end (writeForest trees) out′ r → Wrote out₀ at s out′ r
 
-pub left-start : (d out : List ℕ) (place n at : ℕ) (f : Forest) (m : ℕ) → Reads (drop place d) f n m → Left d out at (writeForest f) place n out at
+pub left-start : (d out : List ℕ) (place n at : ℕ) (f : Forest) (m : ℕ) → Reads (drop place d) f n m → TreesToWrite d out at (writeForest f) place n out at
 left-start d out place n at f m r = record { trees = f; taken = m; reads = r; rest = λ out′ e w. w }
 
-module _ (d out₀ : List ℕ) (at : ℕ) (s : List ℕ) (place pending : ℕ) (out : List ℕ) (end : ℕ) (x : Left d out₀ at s place pending out end) where
+module _ (d out₀ : List ℕ) (at : ℕ) (s : List ℕ) (place pending : ℕ) (out : List ℕ) (end : ℕ) (x : TreesToWrite d out₀ at s place pending out end) where
   pub left-end : pending ≤ 0 → Wrote out₀ at s out end
   left-end l =
       let none : writeForest (x .trees) ≡ [] = ap writeForest (reads-empty _ _ _ _ (x .reads) l) ∙ write-nil in
@@ -73,7 +73,7 @@ module _ (d out₀ : List ℕ) (at : ℕ) (s : List ℕ) (place pending : ℕ) (
           ∙ write-tree n kids after
           ∙ rw (reads-width _ _ _ _ (first-of .reads-kids), write-chain kids after)
 
-      pub left-on : Left d out₀ at s (node .next) (pending - 1 + node .subtrees) out₁ end₁
+      pub left-on : TreesToWrite d out₀ at s (node .next) (pending - 1 + node .subtrees) out₁ end₁
       left-on =
           let k : first-of .head .subtrees + (pending - 1) ≡ pending - 1 + node .subtrees = omega (arith, node-here .subtrees) in
           let from = drop-to d place (first-of .own) (node .next) (node-here .next) in

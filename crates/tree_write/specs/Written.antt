@@ -1,4 +1,4 @@
--- What is written of nodes that stand in the data d of a cache tree, from a place on.
+-- What is written of nodes that are in the data d of a cache tree, from a place on.
 use mathlib.Core.Path.{_≡_}
 use mathlib.Core.List.{List}
 use mathlib.Core.Bool.{true}
@@ -9,8 +9,8 @@ use Rattle.format.specs.Layout.{distinct}
 use Rattle.format.specs.Reading.{good}
 use Rattle.format.specs.Reader.{Head, readNode, readNodes}
 use Rattle.format.specs.Writer.{writeNode, writeForest}
-use Rattle.format.specs.Requests.{invalidNode, invalidWay}
-use Rattle.tree_counts.specs.Judge.{Sound}
+use Rattle.format.specs.Requests.{invalidNode, invalidPath}
+use Rattle.tree_counts.specs.Counts.{SoundForest}
 use Rattle.tree_nodes.specs.declared.node.Node.{Node}
 use Rattle.tree_nodes.specs.declared.node.NodeRead.the-variants as R
 use Rattle.tree_nodes.specs.Answers.{nodeAt}
@@ -47,9 +47,9 @@ pub record TreesWritten (d : List ℕ) (place n : ℕ) (out : List ℕ) (at : �
   pub within : r .place ≤ length d
   pub short : r .at + place ≤ at + r .place
 
--- k siblings were written, those on the way to a name's directory made invalid
+-- k siblings were written, those on the path to a name's directory made invalid
 pub record WayWritten (name d : List ℕ) (place k : ℕ) (out : List ℕ) (at : ℕ) (out′ : List ℕ) (r : ℕ) : Type 0 where
-  pub wrote : (f : Forest) (m : ℕ) → Sound f → Reads (drop place d) f k m → Wrote out at (writeForest (invalidWay 20 name f)) out′ r
+  pub wrote : (f : Forest) (m : ℕ) → SoundForest f → Reads (drop place d) f k m → Wrote out at (writeForest (invalidPath 20 name f)) out′ r
   pub short : r + place ≤ at + length d
 
 -- a text of the tree that the whole data say was written

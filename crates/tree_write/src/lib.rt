@@ -1,9 +1,9 @@
-// Writing the data of a cache tree from the data of one that was read. A number has one decimal text, so a valid node is copied as it stands; an
+// Writing the data of a cache tree from the data of one that was read. A number has one decimal text, so a valid node is copied as it is; an
 // invalid one is written with "-1" and no object name. Each function answers the place after what it wrote; with an output too short it measures.
 use fields::common;
 use fields::find;
 use output::put_byte;
-use output::put_bytes;
+use output::put_part;
 use tree_nodes::node::Node;
 use tree_nodes::node::NodeRead;
 use tree_nodes::node::read_node;
@@ -15,7 +15,7 @@ ghost use Rattle.format.specs.Layout.{under};
 ghost use Rattle.format.specs.Writer.{writeTree};
 ghost use Rattle.format.specs.Requests.{invalidTree};
 ghost use Rattle.tree_write.specs.Written.{Room, NodeHere, asIs, madeInvalid, NodeWritten, TreesWritten, WayWritten, WholeWritten};
-ghost use Rattle.tree_write.specs.Steps.{Ready, Stepped};
+ghost use Rattle.tree_write.specs.Steps.{StepBounds, Stepped};
 
 // A place of the data and one of the output, after some trees.
 struct Passed {
@@ -23,7 +23,7 @@ struct Passed {
     at: usize,
 }
 
-// A node made invalid: its name and NUL, "-1", and what stands from the space up to the LF.
+// A node made invalid: its name and NUL, "-1", and what there is from the space up to the LF.
 fn put_invalid(d: &[u8], place: usize, node: Node, out: &mut [u8], at: usize) -> usize
     requires { ⌜ Room (now d) place at × NodeHere (now d) place node ⌝ }
     ensures { λ r. ⌜ NodeWritten (madeInvalid 20) (now (d .entry)) place node (now (out .entry)) at (now (out .exit)) r ⌝ }
@@ -31,10 +31,10 @@ fn put_invalid(d: &[u8], place: usize, node: Node, out: &mut [u8], at: usize) ->
     let count = node.nul + 1;
     let object = node.object;
     let space = find(d, count, b' ');
-    let named = put_bytes(&mut *out, at, &d[place..count]);
+    let named = put_part(&mut *out, at, d, place, count);
     let minus = put_byte(&mut *out, named, b'-');
     let one = put_byte(&mut *out, minus, b'1');
-    put_bytes(out, one, &d[space..object])
+    put_part(out, one, d, space, object)
 }
 
 // A node as it is: copied where it is valid.
@@ -43,8 +43,7 @@ fn put_node(d: &[u8], place: usize, node: Node, out: &mut [u8], at: usize) -> us
     ensures { λ r. ⌜ NodeWritten asIs (now (d .entry)) place node (now (out .entry)) at (now (out .exit)) r ⌝ }
 {
     if node.valid {
-        let next = node.next;
-        return put_bytes(out, at, &d[place..next]);
+        return put_part(out, at, d, place, node.next);
     }
     put_invalid(d, place, node, out, at)
 }
@@ -79,9 +78,9 @@ fn put_trees(d: &[u8], start: usize, n: u64, out: &mut [u8], at: usize) -> Passe
     }
 }
 
-// A place on the way to a name's directory: how many siblings are left there, how many trees of the levels above follow them, and the byte from
+// A place on the path to a name's directory: how many siblings are left there, how many trees of the levels above follow them, and the byte from
 // which on the name is one in their directory.
-struct Way {
+struct PathPlace {
     place: usize,
     at: usize,
     left: u32,
@@ -106,13 +105,13 @@ fn is_under(d: &[u8], place: usize, nul: usize, name: &[u8], from: usize) -> boo
 
 // One sibling. Where the name is in its directory it is made invalid, its subtrees are the next siblings, and the siblings after it follow later:
 // the name is in no directory of theirs. Else it is written with all below it.
-fn step(d: &[u8], name: &[u8], out: &mut [u8], w: Way) -> Way
-    requires { ⌜ Ready (now d) (now name) w × (0 < w .left) ⌝ }
+fn step(d: &[u8], name: &[u8], out: &mut [u8], w: PathPlace) -> PathPlace
+    requires { ⌜ StepBounds (now d) (now name) w × (0 < w .left) ⌝ }
     ensures { λ r. ⌜ Stepped (now (d .entry)) (now (name .entry)) (now (out .entry)) w (now (out .exit)) r ⌝ }
 {
     let read = read_node(d, w.place);
     match read {
-        NodeRead::Bad => Way {
+        NodeRead::Bad => PathPlace {
             place: w.place,
             at: w.at,
             left: 0,
@@ -122,7 +121,7 @@ fn step(d: &[u8], name: &[u8], out: &mut [u8], w: Way) -> Way
         NodeRead::Good(node) => {
             if is_under(d, w.place, node.nul, name, w.from) {
                 let at = put_invalid(d, w.place, node, out, w.at);
-                return Way {
+                return PathPlace {
                     place: node.next,
                     at: at,
                     left: node.subtrees,
@@ -131,7 +130,7 @@ fn step(d: &[u8], name: &[u8], out: &mut [u8], w: Way) -> Way
                 };
             }
             let passed = put_trees(d, w.place, 1, out, w.at);
-            Way {
+            PathPlace {
                 place: passed.place,
                 at: passed.at,
                 left: w.left - 1,
@@ -142,12 +141,12 @@ fn step(d: &[u8], name: &[u8], out: &mut [u8], w: Way) -> Way
     }
 }
 
-// k siblings at a place, of which those on the way to a name's directory are made invalid.
-fn put_way(d: &[u8], start: usize, k: u32, name: &[u8], out: &mut [u8], at: usize) -> usize
+// k siblings at a place, of which those on the path to a name's directory are made invalid.
+fn put_path(d: &[u8], start: usize, k: u32, name: &[u8], out: &mut [u8], at: usize) -> usize
     requires { ⌜ Room (now d) start at ⌝ }
     ensures { λ r. ⌜ WayWritten (now (name .entry)) (now (d .entry)) start k (now (out .entry)) at (now (out .exit)) r ⌝ }
 {
-    let mut w = Way {
+    let mut w = PathPlace {
         place: start,
         at: at,
         left: k,
@@ -161,7 +160,7 @@ fn put_way(d: &[u8], start: usize, k: u32, name: &[u8], out: &mut [u8], at: usiz
     passed.at
 }
 
-// The whole data, of which the root and the nodes on the way to a name's directory are made invalid.
+// The whole data, of which the root and the nodes on the path to a name's directory are made invalid.
 fn put_invalid_tree(d: &[u8], name: &[u8], out: &mut [u8], at: usize) -> usize
     requires { ⌜ Room (now d) 0 at ⌝ }
     ensures { λ r. ⌜ WholeWritten (λ t. writeTree (invalidTree 20 (now (name .entry)) t)) (now (d .entry)) (now (out .entry)) at (now (out .exit)) r ⌝ }
@@ -171,17 +170,17 @@ fn put_invalid_tree(d: &[u8], name: &[u8], out: &mut [u8], at: usize) -> usize
         NodeRead::Bad => at,
         NodeRead::Good(root) => {
             let end = put_invalid(d, 0, root, &mut *out, at);
-            put_way(d, root.next, root.subtrees, name, out, end)
+            put_path(d, root.next, root.subtrees, name, out, end)
         }
     }
 }
 
-// The whole data of a tree that was read, as it is or made invalid on the way to a name's directory.
-pub fn put_tree(d: &[u8], way: bool, name: &[u8], out: &mut [u8], at: usize) -> usize
+// The whole data of a tree that was read, as it is or made invalid on the path to a name's directory.
+pub fn put_tree(d: &[u8], touched: bool, name: &[u8], out: &mut [u8], at: usize) -> usize
     requires { ⌜ (length (now d) ≤ 16777216) × (at ≤ 562949953421312) ⌝ }
-    ensures { λ r. ⌜ WholeWritten (λ t. writeTree (cond way (invalidTree 20 (now (name .entry)) t) t)) (now (d .entry)) (now (out .entry)) at (now (out .exit)) r ⌝ }
+    ensures { λ r. ⌜ WholeWritten (λ t. writeTree (cond touched (invalidTree 20 (now (name .entry)) t) t)) (now (d .entry)) (now (out .entry)) at (now (out .exit)) r ⌝ }
 {
-    if way {
+    if touched {
         return put_invalid_tree(d, name, out, at);
     }
     let passed = put_trees(d, 0, 1, out, at);

@@ -31,12 +31,12 @@ listing-names :
 unfolding listing be16 be32 be32s eqList before lacks zeros componentsFrom components okComponent okComponents okName lengthField compare okMode fixedLength entryLength need shift bind isSet okWord plainLength readPlain readName entryOf readTail readFixed readEntry namePlace walkable walkRead walkAnswer
 listing-names = (refl, refl)
 
--- any place at which a sound entry stands will do
+-- any place with a sound entry will do
 second-alone : walkOver 20 listing 2 (placeAt 76 9) ≡ inFile (fileEntry 0x81ed 0x22 (98 ∷ 47 ∷ 99 ∷ [])) ∷ refused 18 0 ∷ []
 unfolding listing be16 be32 be32s eqList before lacks zeros componentsFrom components okComponent okComponents okName lengthField compare okMode fixedLength entryLength need shift bind isSet okWord plainLength readPlain readName entryOf readTail readFixed readEntry walkable walkRead walkAnswer placeAfter walkOver
 second-alone = refl
 
--- no entry stands at 13 or past the end, and there the place stays; a header of version 4 or without the signature has none to show
+-- no entry is at 13 or past the end, and there the place stays; a header of version 4 or without the signature has none to show
 no-entry :
     (walkAnswer 20 listing 13 2 ≡ refused 18 0)
     × (placeAfter 20 listing 13 2 ≡ placeAt 13 1)

@@ -28,7 +28,7 @@ module _ (w v p : ℕ) (old : eqb v 4 ≡ false) where
     unfolding readTail bind
     tail-bad k n e = rw (name-plain (k .name) f (x % 4096) (drop f s), e)
 
-    -- every name stands after the empty one
+    -- every name is after the empty one
     pub tail-start : (name : List ℕ) (m : ℕ) → readPlain f p (x % 4096) (drop f s) ≡ good name m
         → readTail w v start p f x y s ≡ good (entryOf w s x y name) (m + 0)
     unfolding readTail bind shift need goesBefore

@@ -14,10 +14,10 @@ use Rattle.format.specs.Reader.{Contents, readEntries, readFile}
 use Rattle.format.specs.Places.{bodyIn}
 use Rattle.format_laws.proofs.Tests.{by-test, and-inv, and-both, cond-inv}
 use Rattle.hash.specs.Sha1.{sha1}
-use Rattle.answers.specs.Answers.{tooSmall, pick, given, entryAnswer}
-use Rattle.answers.proofs.Laws.{item-none}
+use Rattle.answers.specs.Answers.{tooSmall, inRoom, pick, entryAnswer}
+use Rattle.answers.proofs.Laws.{room-large, room-inv, item-none}
 use Rattle.file_read.proofs.Files.{file-says}
-use Rattle.file_read.proofs.Bodies.{entries-length}
+use Rattle.entries_run.proofs.Steps.{entries-length}
 use Rattle.walk.specs.declared.Started.the-variants.{Refused, Ready}
 use Rattle.walk.specs.Walks.{startedOf, startAnswer, walkable}
 use Rattle.walk.proofs.Steps.{steps-show, steps-named, steps-show-all}
@@ -53,10 +53,7 @@ started-inv (good c m) n e g =
 start-inv : {X : Type 0} (work : List ℕ) (x : Read Contents) (n : ℕ) → startAnswer work x ≡ Ready n
     → ((c : Contents) (m : ℕ) → tooSmall work ≡ false → x ≡ good c m → eqb (c .version) 4 ≡ false → length (c .records .entries) ≡ n → X) → X
 unfolding startAnswer
-start-inv work x n e g =
-    cond-inv (tooSmall work) (Refused 19 0) (startedOf x) (Ready n) e
-    (λ small r. let z : _≡_ {A = ℕ} 0 1 = cc in absurd (omega arith))
-    (λ large r. started-inv x n r (λ c m read old count. g c m large read old count))
+start-inv work x n e g = started-inv (inRoom work x) n e λ c m read old count. room-inv work x c m read λ large is. g c m large is old count
 
 -- ---- the theorem
 
@@ -68,7 +65,7 @@ module _ (w : ℕ) (hash : List ℕ → List ℕ) (f : List ℕ) where
         all = λ c m q old. file-read w hash f c m q old λ ok j es. steps-show-all w f ok (length (c .records .entries)) start 12 (c .records .entries) j es;
         started = λ work n e k.
             start-inv work (readFile w hash f) n e λ c m large q old count.
-            let is : entryAnswer work k (readFile w hash f) ≡ pick false (getElem? (c .records .entries) k) = unfold entryAnswer given in rw (large, q, old) in
+            let is : entryAnswer work k (readFile w hash f) ≡ pick false (getElem? (c .records .entries) k) = unfold entryAnswer in rw (room-large work (readFile w hash f) large, q, old) in
             rw (is, ← count)
             (file-read w hash f c m q old λ ok j es. steps-show w f ok (length (c .records .entries)) start 12 (c .records .entries) j es k);
         placed = λ work n e k few.

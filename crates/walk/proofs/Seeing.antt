@@ -33,20 +33,20 @@ use Rattle.entries.proofs.Fields.{fields-are}
 use Rattle.walk.specs.declared.Sight.{Sight}
 use Rattle.walk.specs.declared.Sight.the-variants.{Nothing, Found}
 use Rattle.walk.specs.Walks.{placeAt, walkable, or18, walkRead, walkAnswer, nameShown, placeAfter, StepShows}
-use Rattle.walk.specs.Sights.{sightRead, Stands, Sees}
+use Rattle.walk.specs.Sights.{sightRead, PartsInside, Sees}
 use Rattle.walk.proofs.Plain.{tail-bad, tail-start}
 use Rattle.walk.proofs.Steps.{walk-on, view-is, place-is}
 
 -- ---- nothing, or an entry
 
 sees-nothing : (x : Read Entry) (b : List ℕ) (at : ℕ) → x ≡ bad 18 0 → Sees x b at Nothing
-sees-nothing x b at e = record { same = e; stands = λ h n m q. let z : _≡_ {A = ℕ} 0 1 = cc in absurd (omega arith) }
+sees-nothing x b at e = record { same = e; parts = λ h n m q. let z : _≡_ {A = ℕ} 0 1 = cc in absurd (omega arith) }
 
-sees-found : (x : Read Entry) (b : List ℕ) (at : ℕ) (h : Head) (n m : ℕ) → x ≡ sightRead b at (Found h n m) → Stands b at h n m → Sees x b at (Found h n m)
+sees-found : (x : Read Entry) (b : List ℕ) (at : ℕ) (h : Head) (n m : ℕ) → x ≡ sightRead b at (Found h n m) → PartsInside b at h n m → Sees x b at (Found h n m)
 sees-found x b at h n m e s =
     record {
       same = e;
-      stands = λ h′ n′ m′ q.
+      parts = λ h′ n′ m′ q.
           let head : h ≡ h′ = cc in
           let name : n ≡ n′ = cc in
           let taken : m ≡ m′ = cc in rw (head, name, taken) at s;
@@ -143,7 +143,7 @@ module _ (f : List ℕ) (at left : ℕ) where
       → StepShows (namePlace 20 at (bodyIn 20 f)) (walkAnswer 20 f at left) f r
   step-refused r s (said, is) =
       let v : walkAnswer 20 f at left ≡ refused 18 0 = view-is 20 f at left _ (s .same) in
-      record { whole = is ∙ sym (ap (entryShown _) v); said = λ work. said f work ∙ sym v; inside = λ work. rw is tt }
+      record { shows = λ work. record { whole = is ∙ sym (ap (entryShown _) v); said = said f work ∙ sym v; inside = rw is tt } }
 
   pub place-stays : (less : ℕ) → Sees (walkRead 20 f at left) (bodyIn 20 f) at Nothing → less ≡ left - 1
       → placeAt at less ≡ placeAfter 20 f at left
@@ -153,27 +153,29 @@ module _ (f : List ℕ) (at left : ℕ) where
     pub place-moves : (end less : ℕ) → end ≡ at + h .length + m → less ≡ left - 1 → placeAt end less ≡ placeAfter 20 f at left
     place-moves end less e l = let sum : end ≡ at + (h .length + m) = omega arith in rw (place-is 20 f at left _ (s .same), sum, l)
 
-    pub found-stands : Stands (bodyIn 20 f) at h n m
-    found-stands = s .stands h n m refl
+    pub found-parts : PartsInside (bodyIn 20 f) at h n m
+    found-parts = s .parts h n m refl
 
     pub body-long : length (bodyIn 20 f) + 20 ≤ length f
-    body-long = let l = length-take (length f - 20) f in let t = found-stands in omega arith
+    body-long = let l = length-take (length f - 20) f in let t = found-parts in omega arith
 
     pub step-shows : (x : Fields) → ((name : List ℕ) → entryWith x name ≡ entryOf 20 (drop at (bodyIn 20 f)) (h .flags) (h .word) name)
         → StepShows (namePlace 20 at (bodyIn 20 f)) (walkAnswer 20 f at left) f (record { shown = S.InFile (at + h .length) n; fields = x })
     unfolding entrySaid nameIn entryOf
     step-shows x fields =
         let v = view-is 20 f at left _ (s .same) in
-        let t = found-stands in
+        let t = found-parts in
         let long = body-long in
         let within : at + h .length + n ≤ length f - 20 = omega arith in
         let bytes : List ℕ = take n (drop (at + h .length) (bodyIn 20 f)) in
         let name : partIn (at + h .length) n f ≡ bytes = part-in _ _ f (omega arith) ∙ sym (part-within (length f - 20) (at + h .length) n f within) in
         let size : length bytes ≡ n = length-take-le n (drop (at + h .length) (bodyIn 20 f)) (rw length-drop (omega arith)) in
         record {
-          whole = rw (v, size, ← (t .start)) (ap (λ (y : Fields). record { shown = S.InFile (at + h .length) n; fields = y }) (fields-are x bytes _ (fields bytes)));
-          said = λ work. ap inFile (fields (partIn (at + h .length) n f) ∙ rw name) ∙ sym v;
-          inside = λ work. omega arith;
+          shows = λ work. record {
+            whole = rw (v, size, ← (t .start)) (ap (λ (y : Fields). record { shown = S.InFile (at + h .length) n; fields = y }) (fields-are x bytes _ (fields bytes)));
+            said = ap inFile (fields (partIn (at + h .length) n f) ∙ rw name) ∙ sym v;
+            inside = omega arith;
+          };
         }
 
 -- the name that an answer points at is the one of what it shows
@@ -184,4 +186,4 @@ said-name x (S.InFile at n) f work = refl
 said-name x (S.InWorkspace n) f work = refl
 
 pub shown-name : (at : ℕ) (v : View Entry) (f : List ℕ) (r : EntryAnswer) → StepShows at v f r → nameIn (r .shown) f [] ≡ nameShown v
-shown-name at v f r h = said-name (r .fields) (r .shown) f [] ∙ ap nameShown (h .said [])
+shown-name at v f r h = said-name (r .fields) (r .shown) f [] ∙ ap nameShown (h .shows [] .said)

@@ -1,26 +1,21 @@
 -- Laws of the start of a walk.
-use mathlib.Core.Path.{_≡_, refl, ap, _∙_}
+use mathlib.Core.Path.{_≡_, ap, _∙_}
 use mathlib.Core.List.{List}
-use mathlib.Core.Bool.{Bool, true, false, cond}
 use Prim.Native.Nat.{ℕ}
 use borrow.Author.Tests.{ne-eqb}
-use Rattle.format.specs.Reading.{Read, bad}
+use Rattle.format.specs.Reading.{Read}
 use Rattle.format.specs.Reader.{Contents}
-use Rattle.answers.specs.Answers.{tooSmall}
+use Rattle.answers.specs.Answers.{inRoom}
 use Rattle.file_read.specs.declared.Parts.{Parts}
-use Rattle.file_read.specs.Contents.{inRoom, Contains}
+use Rattle.file_read.specs.Contents.{Contains}
 use Rattle.walk.specs.declared.Started.the-variants.{Refused, Ready}
 use Rattle.walk.specs.Walks.{startedOf, startAnswer}
 
 module _ (work : List ℕ) (x : Read Contents) where
-  started-by : (t : Bool) → cond t (Refused 19 0) (startedOf x) ≡ startedOf (cond t (bad 19 0) x)
-  started-by true = refl
-  started-by false = refl
-
   -- from the reading with a workspace that may be too small
   pub start-is : (y : Read Contents) → inRoom work x ≡ y → startAnswer work x ≡ startedOf y
-  unfolding startAnswer inRoom
-  start-is y e = started-by (tooSmall work) ∙ ap startedOf e
+  unfolding startAnswer
+  start-is y e = ap startedOf e
 
   module _ (b : List ℕ) (parts : Parts) (h : Contains (inRoom work x) b parts) where
     pub starts-four : parts .version ≡ 4 → startAnswer work x ≡ Refused 4 0

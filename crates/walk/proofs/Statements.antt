@@ -24,7 +24,7 @@ module _ (w : ℕ) (hash : List ℕ → List ℕ) (f : List ℕ) where
     -- over an accepted file of version 2 or 3, entries 0, 1, 2 and so on, with every field, then 18 for ever
     pub each : (c : Contents) (m : ℕ) → readFile w hash f ≡ good c m → eqb (c .version) 4 ≡ false
         → (k : ℕ) → shownAfter w f (length (c .records .entries)) k ≡ pick false (getElem? (c .records .entries) k)
-    -- so many steps show all entries, in order
+    -- as many steps as there are entries show all of them, in order
     pub all : (c : Contents) (m : ℕ) → readFile w hash f ≡ good c m → eqb (c .version) 4 ≡ false
         → walkOver w f (length (c .records .entries)) (firstPlace (length (c .records .entries))) ≡ map inFile (c .records .entries)
     -- where start says that n entries are before a walk, step k shows what entry k shows

@@ -102,7 +102,7 @@ module _ (w : ℕ) (f : List ℕ) (ok : walkable w f ≡ true) where
       next-entry n key at es m q λ e i fs j es-is reads is rest.
       rw (← es-is, after-more w f at (suc n) k _ (moves at n i e is)) (steps-show n (keyOf e) (at + i) fs j rest k)
 
-  -- step k stands at entry k
+  -- step k is at entry k
   more-taken : (k : ℕ) (key : Key) (at i : ℕ) (e : Entry) (es : List Entry) (j : ℕ) → readEntry w (be32 f 4) key at (drop at (bodyIn w f)) ≡ good e i
       → readEntries w (be32 f 4) k (keyOf e) (at + i) (drop (at + i) (bodyIn w f)) ≡ good es j
       → readEntries w (be32 f 4) (suc k) key at (drop at (bodyIn w f)) ≡ good (e ∷ es) (i + j)
@@ -120,7 +120,7 @@ module _ (w : ℕ) (f : List ℕ) (ok : walkable w f ≡ true) where
       let (fs, o, r, p) = steps-place n (keyOf e) (at + i) gs j rest k (omega arith) in
       (e ∷ fs, i + o, more-taken k key at i e fs o reads r, ap (λ (x : Place). placeAfterAll w f k x .at) (moves at n i e is) ∙ p ∙ omega arith)
 
-  -- so the name that it shows stands where entry k has it
+  -- so the name that it shows is where entry k has it
   pub steps-named : (n : ℕ) (es : List Entry) (m : ℕ) → readEntries w (be32 f 4) n start 12 (drop 12 (bodyIn w f)) ≡ good es m
       → (k : ℕ) → k ≤ n → namePlace w (placeAfterAll w f k (placeAt 12 n) .at) (bodyIn w f) ≡ entryNamePlace w k f
   unfolding entryNamePlace entryPlace

@@ -16,8 +16,8 @@ abbrev pub sightRead : List ℕ → ℕ → Sight → Read Entry
 sightRead b at Nothing = bad 18 0
 sightRead b at (Found h n m) = good (entryOf 20 (drop at b) (h .flags) (h .word) (take n (drop (at + h .length) b))) (h .length + m)
 
--- where the parts of the entry stand
-pub record Stands (b : List ℕ) (at : ℕ) (h : Head) (n m : ℕ) : Type 0 where
+-- where the parts of the entry are
+pub record PartsInside (b : List ℕ) (at : ℕ) (h : Head) (n m : ℕ) : Type 0 where
   pub fixed : at + 62 ≤ length b
   pub start : at + h .length ≡ namePlace 20 at b
   pub name : at + h .length + n ≤ length b
@@ -25,4 +25,4 @@ pub record Stands (b : List ℕ) (at : ℕ) (h : Head) (n m : ℕ) : Type 0 wher
 
 pub record Sees (x : Read Entry) (b : List ℕ) (at : ℕ) (r : Sight) : Type 0 where
   pub same : x ≡ sightRead b at r
-  pub stands : (h : Head) (n m : ℕ) → r ≡ Found h n m → Stands b at h n m
+  pub parts : (h : Head) (n m : ℕ) → r ≡ Found h n m → PartsInside b at h n m

@@ -1,5 +1,4 @@
 -- A walk over the entries of a file of version 2 or 3: its start, the next entry, the place after it. w is the width of an object name and of the checksum.
-use mathlib.Core.Path.{_≡_}
 use mathlib.Core.List.{List, [], _∷_}
 use mathlib.Core.Bool.{Bool, cond, _&&_, _||_}
 use Prim.Native.Nat.{ℕ, zero, suc, _+_, _-_}
@@ -12,7 +11,7 @@ use Rattle.format.specs.Reading.{Read, bad, good, need}
 use Rattle.format.specs.Reader.{Contents, readEntry}
 use Rattle.format.specs.Places.{bodyIn, taken}
 use Rattle.answers.specs.declared.EntryAnswer.{EntryAnswer}
-use Rattle.answers.specs.Answers.{View, refused, inFile, inWorkspace, tooSmall, entrySaid, entryShown, Inside}
+use Rattle.answers.specs.Answers.{View, refused, inFile, inWorkspace, inRoom, EntryShown}
 use Rattle.walk.specs.declared.Started.{Started}
 use Rattle.walk.specs.declared.Started.the-variants.{Refused, Ready}
 use Rattle.walk.specs.declared.Place.{Place}
@@ -24,7 +23,7 @@ startedOf (bad n p) = Refused n p
 startedOf (good c m) = cond (eqb (c .version) 4) (Refused 4 0) (Ready (length (c .records .entries)))
 
 unfoldable pub startAnswer : List ℕ → Read Contents → Started
-startAnswer work x = cond (tooSmall work) (Refused 19 0) (startedOf x)
+startAnswer work x = startedOf (inRoom work x)
 
 abbrev pub placeAt : ℕ → ℕ → Place
 placeAt at left = record { at = at; left = left }
@@ -82,9 +81,4 @@ walkOver w f (suc k) p = walkAnswer w f (p .at) (p .left) ∷ walkOver w f k (pl
 
 -- v, whose name is the part of the file at the place at
 pub record StepShows (at : ℕ) (v : View Entry) (f : List ℕ) (r : EntryAnswer) : Type 0 where
-  -- the answer, whole
-  pub whole : r ≡ entryShown at v
-  -- the bytes that it points at are the name
-  pub said : (work : List ℕ) → entrySaid r f work ≡ v
-  -- which lies in the file
-  pub inside : (work : List ℕ) → Inside (r .shown) f work
+  pub shows : (work : List ℕ) → EntryShown at v f work r

@@ -114,7 +114,7 @@ fn fewer(left: u32) -> u32
     0
 }
 
-// The next entry of a file at a place, where so many remain, and the place after it, with one fewer to come. Where there is none, the entry is 18 and the place stays.
+// The next entry of a file at a place, where left remain, and the place after it, with one fewer to come. Where there is none, the entry is 18 and the place stays.
 pub fn step_at(file: &[u8], at: usize, left: u32) -> Step
     ensures { λ r. ⌜ StepShows (namePlace 20 at (bodyIn 20 (now (file .entry)))) (walkAnswer 20 (now (file .entry)) at left) (now (file .entry)) (r .answer) × (r .next ≡ placeAfter 20 (now (file .entry)) at left) ⌝ }
 {
@@ -190,7 +190,7 @@ pub fn start(file: &[u8], work: &mut [u8]) -> Started
 
 // ---- the walk as one value
 
-// A walk before the first of so many entries.
+// A walk before the first entry; entries is the number of all.
 pub fn new<'a>(file: &'a [u8], entries: u32) -> Walk<'a>
     ensures { λ r. ⌜ (r .file ≡ file .entry) × (placeAt (r .at) (r .left) ≡ firstPlace entries) ⌝ }
 {

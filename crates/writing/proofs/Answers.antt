@@ -15,7 +15,7 @@ use Rattle.format.specs.Writer.{writeEntries, writeBody, writeFile}
 use Rattle.format.specs.Requests.{putRecord, removeRecord, anyWord, okAsked, versionFor, fitting, writing, rewriteRequest, putRequest, removeRequest}
 use Rattle.format_laws.proofs.Tests.{and-inv, by-test, by-cond}
 use Rattle.format_laws.proofs.Readings.{good-inv, need-inv}
-use Rattle.writing.specs.Sound.{SoundEntry, Sound, Writable}
+use Rattle.writing.specs.Sound.{SoundEntry, SoundRecords, Writable}
 use Rattle.writing.specs.OneFile.{OneFile}
 use Rattle.writing.proofs.File.{written-spelled, read-written}
 use Rattle.writing.proofs.Edits.{put-sound, remove-sound}
@@ -42,14 +42,14 @@ asked-no-word asked es test =
 -- ---- what is answered
 
 -- n bytes, the file of the version v and the records r, within an output of room bytes
-pub record Answered (w : ℕ) (hash : List ℕ → List ℕ) (v : ℕ) (r : Records) (room : ℕ) (bytes : List ℕ) (n : ℕ) : Type 0 where
+pub record FileAnswered (w : ℕ) (hash : List ℕ → List ℕ) (v : ℕ) (r : Records) (room : ℕ) (bytes : List ℕ) (n : ℕ) : Type 0 where
   pub writable : Writable w v r
   pub file : bytes ≡ writeFile w hash v r
   pub size : n ≡ length bytes
   pub short : n ≤ 16777216
   pub fits : n ≤ room
 
-module _ {w : ℕ} {hash : List ℕ → List ℕ} {v : ℕ} {r : Records} {room : ℕ} {bytes : List ℕ} {n : ℕ} (h : Answered w hash v r room bytes n) where
+module _ {w : ℕ} {hash : List ℕ → List ℕ} {v : ℕ} {r : Records} {room : ℕ} {bytes : List ℕ} {n : ℕ} (h : FileAnswered w hash v r room bytes n) where
   file-short : length (writeFile w hash v r) ≤ 16777216
   file-short = rw (← (h .file), ← (h .size)) (h .short)
 
@@ -69,8 +69,8 @@ module _ {w : ℕ} {hash : List ℕ → List ℕ} {v : ℕ} {r : Records} {room 
 -- ---- the requests
 
 module _ {w : ℕ} {hash : List ℕ → List ℕ} (asked room : ℕ) (bytes : List ℕ) (n : ℕ) where
-  writing-answers : (r : Records) → okAsked asked ≡ true → Sound w r → writing w hash asked room r ≡ good bytes n
-      → Answered w hash (versionFor asked (r .entries)) r room bytes n
+  writing-answers : (r : Records) → okAsked asked ≡ true → SoundRecords w r → writing w hash asked room r ≡ good bytes n
+      → FileAnswered w hash (versionFor asked (r .entries)) r room bytes n
   unfolding writing fitting
   writing-answers r ok sound q =
       need-inv _ _ _ _ _ _ q λ test q₁.
@@ -85,15 +85,15 @@ module _ {w : ℕ} {hash : List ℕ → List ℕ} (asked room : ℕ) (bytes : Li
         fits = leb-true _ _ fits;
       })
 
-  pub rewrite-answers : (r : Records) → Sound w r → rewriteRequest w hash asked room r ≡ good bytes n
-      → Answered w hash (versionFor asked (r .entries)) r room bytes n
+  pub rewrite-answers : (r : Records) → SoundRecords w r → rewriteRequest w hash asked room r ≡ good bytes n
+      → FileAnswered w hash (versionFor asked (r .entries)) r room bytes n
   unfolding rewriteRequest
   rewrite-answers r sound q = need-inv _ _ _ _ _ _ q λ ok q₁. writing-answers r ok sound q₁
 
   -- the request tests the entry's mode, stage and name
-  pub put-answers : (e : Entry) (r : Records) → Sound w r → length (e .numbers) ≡ 10 → fit32 (e .numbers) ≡ true → length (e .object) ≡ w
+  pub put-answers : (e : Entry) (r : Records) → SoundRecords w r → length (e .numbers) ≡ 10 → fit32 (e .numbers) ≡ true → length (e .object) ≡ w
       → putRequest w hash asked e room r ≡ good bytes n
-      → Answered w hash (versionFor asked (putRecord w e r .entries)) (putRecord w e r) room bytes n
+      → FileAnswered w hash (versionFor asked (putRecord w e r .entries)) (putRecord w e r) room bytes n
   unfolding putRequest
   put-answers e r sound ten fit object q =
       need-inv _ _ _ _ _ _ q λ ok q₁.
@@ -103,8 +103,8 @@ module _ {w : ℕ} {hash : List ℕ → List ℕ} (asked room : ℕ) (bytes : Li
       let own : SoundEntry w e = record { ten = ten; fit = fit; mode = mode; object = object; stage = ltb-true _ _ stage; name = name } in
       writing-answers (putRecord w e r) ok (put-sound e sound own) q₄
 
-  pub remove-answers : (k : Key) (r : Records) → Sound w r → removeRequest w hash asked k room r ≡ good bytes n
-      → Answered w hash (versionFor asked (removeRecord w k r .entries)) (removeRecord w k r) room bytes n
+  pub remove-answers : (k : Key) (r : Records) → SoundRecords w r → removeRequest w hash asked k room r ≡ good bytes n
+      → FileAnswered w hash (versionFor asked (removeRecord w k r .entries)) (removeRecord w k r) room bytes n
   unfolding removeRequest
   remove-answers k r sound q =
       need-inv _ _ _ _ _ _ q λ ok q₁. need-inv _ _ _ _ _ _ q₁ λ there q₂. writing-answers (removeRecord w k r) ok (remove-sound k sound) q₂

@@ -1,4 +1,4 @@
--- The counts of a cache tree hold on where entries of one name change and the nodes on the way to that name are made invalid.
+-- The counts of a cache tree hold on where entries of one name change and the nodes on the path to that name are made invalid.
 use mathlib.Core.Path.{_≡_, refl, sym}
 use mathlib.Core.List.{List, [], _∷_}
 use mathlib.Core.Bool.{true, false, _&&_}
@@ -6,7 +6,7 @@ use Prim.Native.Nat.{ℕ, _+_}
 use lib.ListN.{length, drop}
 use Rattle.format.specs.Records.{Forest, nil, tree, Tree}
 use Rattle.format.specs.Layout.{under, inside, okCount, okCounts, okTreeCounts}
-use Rattle.format.specs.Requests.{invalidNode, invalidWay, invalidTree}
+use Rattle.format.specs.Requests.{invalidNode, invalidPath, invalidTree}
 use Rattle.format_laws.proofs.Tests.{and-inv, and-both, by-test, by-cond}
 
 -- ---- two lists of names that differ in occurrences of s alone
@@ -41,14 +41,14 @@ inside-alike d within (alike-right h) = rw within (alike-right (inside-alike d w
 
 -- ---- the counts
 
-counts-kept : (w : ℕ) (s : List ℕ) (f : Forest) {ss ts : List (List ℕ)} → AlikeBut s ss ts → okCounts ss f ≡ true → okCounts ts (invalidWay w s f) ≡ true
-unfolding okCounts okCount invalidWay invalidNode
+counts-kept : (w : ℕ) (s : List ℕ) (f : Forest) {ss ts : List (List ℕ)} → AlikeBut s ss ts → okCounts ss f ≡ true → okCounts ts (invalidPath w s f) ≡ true
+unfolding okCounts okCount invalidPath invalidNode
 counts-kept w s nil alike h = refl
 counts-kept w s (tree n kids after) {ss} {ts} alike h =
     let d : List ℕ = n .name in
     let (own, rest) = and-inv (okCount (n .count) (inside d ss) kids) (okCounts (inside d ss) kids && okCounts ss after) h in
     let (below, beside) = and-inv (okCounts (inside d ss) kids) (okCounts ss after) rest in
-    let others : okCounts ts (invalidWay w s after) ≡ true = counts-kept w s after alike beside in
+    let others : okCounts ts (invalidPath w s after) ≡ true = counts-kept w s after alike beside in
     by-cond (λ g. okCounts ts g ≡ true) (under d s) _ _
     (λ e. and-both _ _ (counts-kept w (drop (length d + 1) s) kids (inside-alike d e alike) below) others)
     (λ e.

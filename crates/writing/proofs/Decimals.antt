@@ -92,7 +92,7 @@ digits-inv d s h f =
     let b = and-inv (leb d 57) _ (a .1) in
     f (leb-true 48 d (a .0)) (leb-true d 57 (b .0)) (b .1)
 
--- digits s after those of v are written as they stand
+-- digits s after those of v are written as they are
 digits-back : (f g v : ℕ) (s after : List ℕ) → 0 < v → digits s ≡ true → valueFrom v s < f → v < g → digitsOf f (valueFrom v s) after ≡ digitsOf g v (s ++ after)
 unfolding valueFrom
 digits-back f g v [] after pos h hf hg = same-digits f g v after hf hg

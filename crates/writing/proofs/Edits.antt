@@ -7,7 +7,7 @@ use Rattle.format.specs.Records.{Entry, Key, keyOf, Records}
 use Rattle.format.specs.Layout.{names}
 use Rattle.format.specs.Requests.{goesBefore, sameKey, putEntry, removeEntry, putRecord, removeRecord}
 use Rattle.format_laws.proofs.Tests.{by-cond}
-use Rattle.writing.specs.Sound.{SoundEntry, SoundEntries, entries-none, entries-next, Sound}
+use Rattle.writing.specs.Sound.{SoundEntry, SoundEntries, entries-none, entries-next, SoundRecords}
 use Rattle.format_laws.proofs.Keys.{before-trans, before-total, same-key, start-before}
 use Rattle.writing.proofs.Counts.{AlikeBut, alike-end, alike-same, alike-left, alike-right, alike-self}
 use Rattle.writing.proofs.Invalid.{cacheTree-kept}
@@ -66,7 +66,7 @@ names-removed k (x ∷ xs) =
 
 -- ---- all records
 
-pub put-sound : {w : ℕ} (e : Entry) {r : Records} → Sound w r → SoundEntry w e → Sound w (putRecord w e r)
+pub put-sound : {w : ℕ} (e : Entry) {r : Records} → SoundRecords w r → SoundEntry w e → SoundRecords w (putRecord w e r)
 unfolding putRecord
 put-sound e {r} h sound = record {
   entries = entries-put e sound (start-before (keyOf e) (sound .name)) (h .entries);
@@ -74,7 +74,7 @@ put-sound e {r} h sound = record {
   resolveUndo = h .resolveUndo;
 }
 
-pub remove-sound : {w : ℕ} (k : Key) {r : Records} → Sound w r → Sound w (removeRecord w k r)
+pub remove-sound : {w : ℕ} (k : Key) {r : Records} → SoundRecords w r → SoundRecords w (removeRecord w k r)
 unfolding removeRecord
 remove-sound k {r} h = record {
   entries = entries-removed k (h .entries);

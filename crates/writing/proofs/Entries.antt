@@ -1,4 +1,4 @@
--- Sound entries spell what is written of them, and entries that are spelled are sound.
+-- SoundRecords entries spell what is written of them, and entries that are spelled are sound.
 use mathlib.Core.Path.{_≡_, refl, sym, _∙_}
 use mathlib.Core.List.{List}
 use mathlib.Core.Bool.{Bool, true, false, _||_}

@@ -1,4 +1,4 @@
--- Sound records spell the file that is written of them, so it is read back as these records; and records that spell a file are sound.
+-- SoundRecords records spell the file that is written of them, so it is read back as these records; and records that spell a file are sound.
 use mathlib.Core.Path.{_≡_, refl, ap, _∙_}
 use mathlib.Core.List.{List, [], _∷_, _++_, append-assoc, append-nil}
 use mathlib.Core.Option.{Option, none, some}
@@ -12,7 +12,7 @@ use Rattle.format.specs.Reading.{good}
 use Rattle.format.specs.Reader.{Contents, readFile}
 use Rattle.format.specs.Writer.{writeEntries, writeTree, writeUndos, writeExtension, writeCacheTree, writeResolveUndo, writeExtensions, writeHeader, writeBody, writeFile}
 use Rattle.spelling.proofs.File.{spelled-read, read-spelled}
-use Rattle.writing.specs.Sound.{SoundTree, SoundUndos, Sound, Writable}
+use Rattle.writing.specs.Sound.{SoundTree, SoundUndos, SoundRecords, Writable}
 use Rattle.writing.proofs.Entries.{entries-written, entries-long, entries-sound}
 use Rattle.writing.proofs.Tree.{tree-written, tree-sound}
 use Rattle.writing.proofs.Undo.{undos-written, undos-sound}
@@ -140,7 +140,7 @@ module _ {w : ℕ} {ns : List (List ℕ)} where
       rw (← same) (undos-sound (h .says .1))
   undo-among (extensions-more {x = other s d} h rest) us e = undo-among rest us e
 
-pub spelled-sound : {w : ℕ} {hash : List ℕ → List ℕ} {r : Records} {f : List ℕ} → Spells w hash r f → Sound w r
+pub spelled-sound : {w : ℕ} {hash : List ℕ → List ℕ} {r : Records} {f : List ℕ} → Spells w hash r f → SoundRecords w r
 spelled-sound {r = r} h =
     let b = h .body-is in
     record {
@@ -151,5 +151,5 @@ spelled-sound {r = r} h =
 
 -- so are those of a file that was read
 pub read-sound : (w : ℕ) (hash : List ℕ → List ℕ) → ((b : List ℕ) → length (hash b) ≡ w) → (f : List ℕ) (c : Contents) (m : ℕ) → Bytes f
-    → readFile w hash f ≡ good c m → Sound w (c .records)
+    → readFile w hash f ≡ good c m → SoundRecords w (c .records)
 read-sound w hash width f c m bytes q = spelled-sound (read-spelled w hash width f c m bytes q)

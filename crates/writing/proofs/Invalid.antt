@@ -8,7 +8,7 @@ use lib.ListN.{length, drop}
 use Rattle.format.specs.Bytes.{eqList}
 use Rattle.format.specs.Records.{Node, Forest, nil, tree, Tree, width}
 use Rattle.format.specs.Layout.{has, distinct, under}
-use Rattle.format.specs.Requests.{invalidNode, invalidWay, invalidTree, invalidCacheTree}
+use Rattle.format.specs.Requests.{invalidNode, invalidPath, invalidTree, invalidCacheTree}
 use Rattle.format_laws.proofs.Tests.{by-cond}
 use Rattle.format_laws.proofs.Readings.{none-some}
 use Rattle.writing.specs.Sound.{SoundNode, SoundSiblings, siblings-none, siblings-next, SoundTree}
@@ -16,24 +16,24 @@ use Rattle.writing.proofs.Counts.{AlikeBut, tree-counts-kept}
 
 -- ---- what stays
 
-width-kept : (w : ℕ) (s : List ℕ) (f : Forest) → width (invalidWay w s f) ≡ width f
-unfolding width invalidWay
+width-kept : (w : ℕ) (s : List ℕ) (f : Forest) → width (invalidPath w s f) ≡ width f
+unfolding width invalidPath
 width-kept w s nil = refl
 width-kept w s (tree n kids after) =
     by-cond (λ g. width g ≡ suc (width after)) (under (n .name) s) _ _
     (λ e. ap suc (width-kept w s after))
     (λ e. ap suc (width-kept w s after))
 
-has-kept : (w : ℕ) (s x : List ℕ) (f : Forest) → has x (invalidWay w s f) ≡ has x f
-unfolding has invalidWay invalidNode
+has-kept : (w : ℕ) (s x : List ℕ) (f : Forest) → has x (invalidPath w s f) ≡ has x f
+unfolding has invalidPath invalidNode
 has-kept w s x nil = refl
 has-kept w s x (tree n kids after) =
     by-cond (λ g. has x g ≡ has x (tree n kids after)) (under (n .name) s) _ _
     (λ e. ap (cond (eqList x (n .name)) true) (has-kept w s x after))
     (λ e. ap (cond (eqList x (n .name)) true) (has-kept w s x after))
 
-distinct-kept : (w : ℕ) (s : List ℕ) (f : Forest) → distinct (invalidWay w s f) ≡ distinct f
-unfolding distinct invalidWay invalidNode
+distinct-kept : (w : ℕ) (s : List ℕ) (f : Forest) → distinct (invalidPath w s f) ≡ distinct f
+unfolding distinct invalidPath invalidNode
 distinct-kept w s nil = refl
 distinct-kept w s (tree n kids after) =
     by-cond (λ g. distinct g ≡ distinct (tree n kids after)) (under (n .name) s) _ _
@@ -44,8 +44,8 @@ node-invalid : {w : ℕ} {n : Node} {k : ℕ} (j : ℕ) → j ≡ k → SoundNod
 unfolding invalidNode
 node-invalid j same h = record { named = h .named; counted = refl; subtrees-fit = rw same (h .subtrees-fit) }
 
-siblings-kept : {w levels : ℕ} (s : List ℕ) {f : Forest} → SoundSiblings w levels f → SoundSiblings w levels (invalidWay w s f)
-unfolding invalidWay invalidNode
+siblings-kept : {w levels : ℕ} (s : List ℕ) {f : Forest} → SoundSiblings w levels f → SoundSiblings w levels (invalidPath w s f)
+unfolding invalidPath invalidNode
 siblings-kept s siblings-none = siblings-none
 siblings-kept {w} s (siblings-next {levels = levels} {n = n} {kids = kids} named h below beside) =
     by-cond (SoundSiblings w (suc levels)) (under (n .name) s) _ _

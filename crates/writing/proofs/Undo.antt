@@ -1,4 +1,4 @@
--- Sound resolve-undo records spell what is written of them, and those that are spelled are sound.
+-- SoundRecords resolve-undo records spell what is written of them, and those that are spelled are sound.
 use mathlib.Core.Path.{_≡_, refl}
 use mathlib.Core.List.{List, []}
 use mathlib.Core.Bool.{Bool, true, false, cond}

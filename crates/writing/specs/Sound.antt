@@ -45,7 +45,7 @@ pub record SoundNode (w : ℕ) (n : Node) (subtrees : ℕ) : Type 0 where
   pub counted : SoundCount w (n .count) (n .object)
   pub subtrees-fit : subtrees ≤ 2147483647
 
--- siblings with at most so many levels
+-- siblings with at most the given number of levels
 pub data SoundSiblings (w : ℕ) : ℕ → Forest → Type 0 where
   siblings-none : {levels : ℕ} → SoundSiblings w levels nil
   siblings-next :
@@ -84,13 +84,13 @@ pub data SoundUndos (w : ℕ) : List ℕ → List Undo → Type 0 where
 
 -- ---- all of them
 
-pub record Sound (w : ℕ) (r : Records) : Type 0 where
+pub record SoundRecords (w : ℕ) (r : Records) : Type 0 where
   pub entries : SoundEntries w start (r .entries)
   pub cacheTree : (t : Tree) → r .cacheTree ≡ some t → SoundTree w (names (r .entries)) t
   pub resolveUndo : (us : List Undo) → r .resolveUndo ≡ some us → SoundUndos w [] us
 
 -- records that can be written in the version v: version 2 has no extended word
 pub record Writable (w v : ℕ) (r : Records) : Type 0 where
-  pub sound : Sound w r
+  pub sound : SoundRecords w r
   pub two-to-four : (2 ≤ v) × (v ≤ 4)
   pub no-word : v ≡ 2 → anyWord (r .entries) ≡ false

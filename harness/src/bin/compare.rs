@@ -32,7 +32,7 @@ use std::time::Instant;
 
 /// The highest number of a refusal.
 const REFUSALS: usize = 21;
-/// A run of so many inputs or more must meet every refusal.
+/// A run of the given number of inputs or more must meet every refusal.
 const COVERING: u64 = 10_000;
 /// How many failures of a thread are told in full.
 const TOLD: u64 = 10;

@@ -9,7 +9,7 @@ use std::sync::Arc;
 /// The cases by groups, each of which takes much memory.
 pub const LARGE: [fn() -> Vec<Case>; 5] = [full, one_less, puts, from_version_4, others];
 
-/// A file of version 2 and so many bytes: the name of a node, which has no limit, fills it.
+/// A file of version 2 and the given number of bytes: the name of a node, which has no limit, fills it.
 fn filled(entries: Vec<Entry>, total: usize, valid: bool) -> Records {
     let counts = if valid {
         (entries.len() as i64, 0)

@@ -197,7 +197,7 @@ fn way_to(name: &[u8]) -> Vec<&[u8]> {
 
 /// Makes the nodes of these paths invalid.
 fn invalidate(nodes: &mut [Node], paths: &[&[u8]]) {
-    // What stands before the names of a node's subtrees, and how many of these are still to come.
+    // What is before the names of a node's subtrees, and how many of these are still to come.
     let mut open: Vec<(Vec<u8>, usize)> = Vec::new();
     for node in nodes {
         while matches!(open.last(), Some((_, 0))) {

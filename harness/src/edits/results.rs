@@ -163,7 +163,7 @@ pub fn numbers() -> Vec<Case> {
     cases
 }
 
-/// A name of 8,192 bytes, and one after it that takes so many bytes from its end.
+/// A name of 8,192 bytes, and one after it that takes the given number of bytes from its end.
 fn number(taken: usize, version: u32) -> Vec<Case> {
     let long = vec![b'p'; 8192];
     let (first, last) = (long.clone(), [&long[..8192 - taken], b"q"].concat());

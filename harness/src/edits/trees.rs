@@ -97,7 +97,7 @@ pub fn parts() -> Vec<Case> {
     cases
 }
 
-/// Nested directories of so many levels, with changes on several of them and below the last.
+/// Nested directories of the given number of levels, with changes on several of them and below the last.
 fn levels(levels: usize) -> Vec<Case> {
     let below = |depth: usize, name: &[u8]| [&b"d/".repeat(depth)[..], name].concat();
     let name = below(levels - 1, b"file");

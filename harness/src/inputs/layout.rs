@@ -5,7 +5,7 @@ use crate::index_file::{common, offset_code, padding};
 use crate::plain;
 use std::ops::Range;
 
-/// Which piece of an entry has its flags: ten numbers and an object name stand before.
+/// Which piece of an entry has its flags: ten numbers and an object name are before.
 const FLAGS: usize = 11;
 
 #[derive(Clone, Copy, Debug, PartialEq, Eq)]

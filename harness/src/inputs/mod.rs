@@ -76,9 +76,9 @@ const TURN: [(Kind, usize); 18] = [
 ];
 /// How many inputs have each kind in its share.
 const TURN_LENGTH: u64 = 64;
-/// One input of so many is at a limit of the sizes.
+/// One input of this number is at a limit of the sizes.
 const LIMIT_TURN: u64 = 4096;
-/// Small files of at most so many bytes are cut at every length, with and without a corrected checksum.
+/// Small files of at most the given number of bytes are cut at every length, with and without a corrected checksum.
 const CUTS: u64 = 256;
 
 pub struct Input {
@@ -128,7 +128,7 @@ pub fn stored(bytes: &[u8]) -> Input {
     named(Kind::Stored, names, bytes.to_vec())
 }
 
-/// The kind of a number, and how many of that kind stand before it.
+/// The kind of a number, and how many of that kind are before it.
 fn kind(number: u64) -> (Kind, u64) {
     if number % LIMIT_TURN == LIMIT_TURN - 1 {
         return (Kind::Limit, number / LIMIT_TURN);
@@ -236,7 +236,7 @@ fn named(kind: Kind, names: Vec<Vec<u8>>, bytes: Vec<u8>) -> Input {
 
 // ---- damaged files
 
-/// Mostly a small file, and one in so many that has the rarer parts.
+/// Mostly a small file, and now and then one that has the rarer parts.
 fn victim(random: &mut Random) -> Records {
     let kind = match random.below(16) {
         0 => Kind::Some,

@@ -76,7 +76,7 @@ pub fn component(random: &mut Random) -> Vec<u8> {
     }
 }
 
-/// A sound name of at most so many components.
+/// A sound name of at most the given number of components.
 pub fn sound(random: &mut Random, components: usize) -> Vec<u8> {
     let count = 1 + random.below(components);
     let parts: Vec<_> = (0..count).map(|_| component(random)).collect();

@@ -7,7 +7,7 @@ use std::collections::BTreeSet;
 
 /// The modes of entries and of resolve undo.
 pub const MODES: [u32; 4] = [0o100644, 0o100755, 0o120000, 0o160000];
-/// Where the mode stands among the ten numbers.
+/// Where the mode is among the ten numbers.
 pub const MODE: usize = 6;
 /// The most levels of a cache tree.
 pub const LEVELS: usize = 128;
@@ -127,13 +127,13 @@ enum Order {
 /// How a tree is drawn.
 struct Style {
     order: Order,
-    /// A node is made invalid once in so many times, and none where it is 0.
+    /// A node is made invalid once in the given number of times, and none where it is 0.
     invalid: usize,
     /// The most levels.
     levels: usize,
 }
 
-/// The nodes of a tree over the entries' names, which rise, of at most so many levels.
+/// The nodes of a tree over the entries' names, which rise, of at most the given number of levels.
 pub fn tree(random: &mut Random, entries: &[Entry], levels: usize) -> Vec<Node> {
     let style = Style {
         order: *random.pick(&[Order::Index, Order::Git, Order::Chance]),

@@ -6,7 +6,7 @@ use super::entries::Entries;
 use super::names::common;
 use super::tree::{order, Node, Tree, ROOT};
 
-/// A pass over the names in their order, in which the entries of a directory stand together.
+/// A pass over the names in their order, in which the entries of a directory are together.
 struct Pass<'t, 'a> {
     tree: &'t Tree<'a>,
     tallies: Vec<Tally>,
@@ -29,7 +29,7 @@ struct Tally {
     subtrees: usize,
 }
 
-/// A directory that the pass is in: its node, how long its path is, and how many names stand before it.
+/// A directory that the pass is in: its node, how long its path is, and how many names are before it.
 struct Directory {
     node: Option<usize>,
     length: usize,

@@ -7,13 +7,13 @@ use nerupazhil::raw::{Fields, DIGEST};
 use super::names::{nul, sound};
 use super::refusal::{self, Refusal};
 
-/// The bytes of the header: the first entry stands after them.
+/// The bytes of the header: the first entry is after them.
 pub const HEADER: usize = 12;
 
 /// Regular file, executable file, symbolic link, gitlink.
 pub const MODES: [u32; 4] = [0o100644, 0o100755, 0o120000, 0o160000];
 
-/// The largest number in the length field: it stands for all lengths from there on.
+/// The largest number in the length field: it means all lengths from there on.
 pub const LONG: usize = 4095;
 
 /// Flags.
@@ -25,7 +25,7 @@ pub const STAGE_SHIFT: u32 = 12;
 pub const SKIP_WORKTREE: u16 = 1 << 14;
 pub const INTENT_TO_ADD: u16 = 1 << 13;
 
-/// The bytes of an entry before the extended word and the name, and where some of them stand.
+/// The bytes of an entry before the extended word and the name, and where some of them are.
 const FIXED: usize = 62;
 const WORD: usize = 2;
 const MODE_AT: usize = 24;
@@ -42,7 +42,7 @@ pub struct Entries<'a> {
     pub end: usize,
 }
 
-/// Where an entry stands: its first byte, and what the file has of its name. In version 4 the name begins with the
+/// Where an entry is: its first byte, and what the file has of its name. In version 4 the name begins with the
 /// `kept` first bytes of the name before.
 pub struct Item {
     pub place: usize,
@@ -173,7 +173,7 @@ pub fn word(body: &[u8], at: usize) -> u16 {
     short(body, at + FIXED)
 }
 
-/// The bytes of an entry of version 2 or 3, whose name stands after so many bytes.
+/// The bytes of an entry of version 2 or 3, whose name is after the given number of bytes.
 pub fn padded(before: usize, length: usize) -> usize {
     (before + length) / 8 * 8 + 8
 }

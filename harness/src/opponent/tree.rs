@@ -20,7 +20,7 @@ pub struct Tree<'a> {
     pub nodes: Vec<Node>,
 }
 
-/// A node: where its name stands in the file, and its object name if it is valid.
+/// A node: where its name is in the file, and its object name if it is valid.
 pub struct Node {
     pub place: usize,
     pub length: usize,

@@ -12,7 +12,7 @@ pub struct Undo {
     pub records: u32,
 }
 
-/// A record: where its path and its object names stand in the file, and the modes, 0 for a missing stage.
+/// A record: where its path and its object names are in the file, and the modes, 0 for a missing stage.
 pub struct Record {
     pub place: usize,
     pub length: usize,

@@ -9,7 +9,7 @@ use nerupazhil::raw::{Fields, DIGEST, WORKSPACE};
 
 use super::{cases, extend, index, put, regular, seal, workspace, VECTORS};
 
-/// Makes the same call of both libraries. `work` and `out` are what is lent, an output of so many bytes.
+/// Makes the same call of both libraries. `work` and `out` are what is lent, an output of the given number of bytes.
 macro_rules! both {
     ($file:ident, $length:expr, |$work:ident, $out:ident| $call:ident($($value:expr),*)) => {
         same(

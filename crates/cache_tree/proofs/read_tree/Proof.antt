@@ -1,14 +1,13 @@
--- The proof that `read_tree` meets its contract.
-use mathlib.Core.Path.{refl, sym, _∙_}
-use native.Mathlib.Omega.{arith}
-use borrow.Author.Needs.{needs}
-use Rattle.cache_tree.proofs.Shape.{NodesAre, nodes-are, tree-no-nodes, tree-longer, tree-equal, tree-shaped}
 use Rattle.cache_tree.proofs.Faults.{answered}
+use Rattle.cache_tree.proofs.Shape.{NodesAre, nodes-are, tree-no-nodes, tree-longer, tree-shaped}
+use native.Mathlib.Omega.{arith}
+use mathlib.Core.Path.{sym, _∙_}
+use borrow.Author.Needs.{needs}
 use Rattle.cache_tree.proofs.read_tree.Statement.{statement}
 use Rattle.cache_tree.proofs.read_tree.Tie as tie
 
 nodes-of : (c : tie.After-known-told) → NodesAre (c .before .before .before .before .before .before .args .d .now) (c .before .read .given .0 .0) (c .before .read .given .0 .1 .0)
-nodes-of c = nodes-are _ _ _ (sym (c .before .read .given .1) ∙ c .before .before .before .read-nodes .ensures)
+nodes-of c = nodes-are _ _ _ (sym (c .before .read .given .1) ∙ c .before .before .before .read-nodes .ensures .0)
 
 read-nodes-requires : tie.Need-read-nodes-requires
 read-nodes-requires c κs = search needs
@@ -20,37 +19,14 @@ enum-told : tie.Need-enum-told
 enum-told c = search needs
 
 returns : tie.Need-returns
-returns c = (answered _ _ (tree-no-nodes _ (sym (c .enum-told .given .1) ∙ c .before .before .read-nodes .ensures)), refl)
+returns c = (answered _ _ (tree-no-nodes _ (sym (c .enum-told .given .1) ∙ c .before .before .read-nodes .ensures .0)), c .before .before .read-nodes .ensures .1)
 
 returns-2 : tie.Need-returns-2
-returns-2 c = (answered _ _ (tree-longer _ _ _ (nodes-of (c .before)) (c .if1 .taken)), refl)
-
-all-differ-requires : tie.Need-all-differ-requires
-all-differ-requires c κs = search needs
-
-same-length : tie.Need-same-length
-same-length c = search needs
+returns-2 c = (answered _ _ (tree-longer _ _ _ (nodes-of (c .before)) (c .if1 .taken)), c .before .before .before .before .read-nodes .ensures .1)
 
 returns-3 : tie.Need-returns-3
-returns-3 c = (answered _ _ (tree-shaped _ _ _ (nodes-of (c .before .before .before .before .before .before)) (omega arith) (sym (c .before .before .before .all-differ .ensures .0) ∙ c .if2 .taken)), c .before .before .before .all-differ .ensures .1)
-
-same-length-2 : tie.Need-same-length-2
-same-length-2 c = search needs
-
-returns-4 : tie.Need-returns-4
-returns-4 c = (answered _ _ (tree-equal _ _ _ (nodes-of (c .before .before .before .before .before .before)) (omega arith) (sym (c .before .before .before .all-differ .ensures .0) ∙ c .if2 .left)), c .before .before .before .all-differ .ensures .1)
+returns-3 c = (answered _ _ (tree-shaped _ _ _ (nodes-of (c .before)) (omega arith)), c .before .before .before .before .read-nodes .ensures .1)
 
 pub read-tree-spec : {M : Type 1} → statement M
 read-tree-spec =
-    tie.close
-    (tie.spec
-    read-nodes-requires
-    enum-known-read
-    enum-told
-    returns
-    returns-2
-    all-differ-requires
-    same-length
-    returns-3
-    same-length-2
-    returns-4)
+    tie.close (tie.spec read-nodes-requires enum-known-read enum-told returns returns-2 returns-3)

@@ -1,6 +1,7 @@
 -- The proof that `advance` meets its contract.
 use mathlib.Core.Path.{refl}
 use native.Mathlib.Omega.{arith}
+use Rattle.fields.proofs.Workspace.{frame-same}
 use Rattle.entries_directory.proofs.Ahead.{fits-end, step-end, step-bad, step-fits, step-on}
 use borrow.Author.Needs.{needs}
 use Rattle.entries_directory.proofs.advance.Statement.{statement}
@@ -10,8 +11,7 @@ returns : tie.Need-returns
 returns c = record {
   fits = fits-end _ _ (c .before .before .before .before .before .pre .0);
   fewer = omega arith;
-  long = refl;
-  past = refl;
+  frame = frame-same _;
   after = step-end _ _ _ _ _ _ refl (c .if1 .taken);
 }
 
@@ -37,8 +37,7 @@ returns-2 c =
     record {
       fits = fits-end _ _ (e .before .before .before .before .before .before .before .pre .0);
       fewer = omega arith;
-      long = t .long;
-      past = t .past;
+      frame = t .frame;
       after = λ x xs h. step-bad _ _ _ (e .before .before .before .before .before .before .before .args .s) _ (e .before .before .if1 .left) _ t x xs h;
     }
 
@@ -53,8 +52,7 @@ returns-3 c =
     record {
       fits = step-fits _ _ _ (e .before .before .before .before .before .before .before .args .s) _ (e .before .before .if1 .left) _ t (e .before .before .before .before .before .before .before .pre .0);
       fewer = omega arith;
-      long = t .long;
-      past = t .past;
+      frame = t .frame;
       after = step-on _ _ _ (e .before .before .before .before .before .before .before .args .s) _ (e .before .before .if1 .left) _ t;
     }
 

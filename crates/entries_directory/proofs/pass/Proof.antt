@@ -14,12 +14,12 @@ use Rattle.entries_directory.proofs.pass.Statement.{statement}
 use Rattle.entries_directory.proofs.pass.Tie as tie
 
 abbrev Inv-loop : tie.InvT-loop
-Inv-loop b v work₀ q front₀ count₀ work front count =
-    Going b work₀ front₀ work front count
-    × ((last : List ℕ) (xs : List (List ℕ)) (p : List ℕ) → After v b work₀ front₀ last xs → begins p last ≡ true → length p ≡ q → Passing v b work front p xs count)
+Inv-loop b v work₀ q front₀ work front =
+    Going b work₀ front₀ work front
+    × ((last : List ℕ) (xs : List (List ℕ)) (p : List ℕ) → After v b work₀ front₀ last xs → begins p last ≡ true → length p ≡ q → Passing v b work front p xs)
 
 abbrev μ-loop : tie.MeasureT-loop
-μ-loop b v work₀ q front₀ count₀ work front count = front .ahead
+μ-loop b v work₀ q front₀ work front = front .ahead
 
 advance-requires : tie.Need-advance-requires Inv-loop μ-loop
 advance-requires c κs = search needs
@@ -32,14 +32,6 @@ stays-requires c κs = search needs
 
 advance-requires-2 : tie.Need-advance-requires-2 Inv-loop μ-loop
 advance-requires-2 c κs = let h = c .before .before .before .loop .inv .0 in (h .fits, h .room)
-
-add-count : tie.Need-add-count Inv-loop μ-loop
-add-count c =
-    let a = c .before .before in
-    let l = a .before .before .before .before in
-    let st = l .before .before .before .before .before .before .before in
-    let on = sym (a .before .before .before .stays .ensures) ∙ a .before .before .if1 .taken in
-    omega (arith, l .loop .inv .0 .fewer, l .loop .inv .0 .few, stays-some (l .loop .front) (st .args .q) on)
 
 loop-less : tie.Need-loop-less Inv-loop μ-loop
 loop-less c =
@@ -56,8 +48,8 @@ loop-again c =
     let st = l .before .before .before .before .before .before .before in
     let t = a .advance2 .ensures in
     let on = sym (a .before .before .before .stays .ensures) ∙ a .before .before .if1 .taken in (
-      going-on _ _ _ _ _ _ _ _ _ (l .loop .inv .0) (stays-some (l .loop .front) (st .args .q) on) t,
-      λ last xs p h i e. pass-on _ _ p xs _ _ _ (l .loop .inv .1 last xs p h i e) _ _ (ap (λ (k : ℕ). ltb 0 (l .loop .front .ahead) && leb k (l .loop .front .common)) e ∙ on) t,
+      going-on _ _ _ _ _ _ _ _ (l .loop .inv .0) t,
+      λ last xs p h i e. pass-on _ _ p xs _ _ (l .loop .inv .1 last xs p h i e) _ _ (ap (λ (k : ℕ). ltb 0 (l .loop .front .ahead) && leb k (l .loop .front .common)) e ∙ on) t,
     )
 
 same-length : tie.Need-same-length Inv-loop μ-loop
@@ -70,10 +62,10 @@ returns c =
     let st = l .before .before .before .before .before .before .before in
     let off = sym (c .before .stays .ensures) ∙ c .if1 .left in
     record {
-      gone = going-end _ _ _ _ _ _ t (st .pre .2) _ _ _ (l .loop .inv .0);
+      gone = going-end _ _ _ _ _ _ t (st .pre .2) _ _ (l .loop .inv .0);
       passed = λ p x xs h i e.
           let g = l .loop .inv .1 x xs p (t .after x xs h) i e in
-          pass-end _ _ p xs _ _ _ g x i (ap (λ (k : ℕ). ltb 0 (l .loop .front .ahead) && leb k (l .loop .front .common)) e ∙ off);
+          pass-end _ _ p xs _ _ g x i (ap (λ (k : ℕ). ltb 0 (l .loop .front .ahead) && leb k (l .loop .front .common)) e ∙ off);
     }
 
 pub pass-spec : {M : Type 1} → statement M
@@ -86,7 +78,6 @@ pass-spec =
     loop-holds
     stays-requires
     advance-requires-2
-    add-count
     loop-less
     loop-again
     same-length

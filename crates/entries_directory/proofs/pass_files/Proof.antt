@@ -5,18 +5,18 @@ use Prim.Native.Nat.{ℕ}
 use native.Mathlib.Omega.{arith}
 use borrow.Author.Needs.{needs}
 use lib.ListN.{length}
-use Rattle.entries_directory.specs.Ahead.{After, File, FilesLeft}
+use Rattle.entries_directory.specs.Ahead.{After, File, FilesPassed}
 use Rattle.entries_directory.proofs.Ahead.{Going, going-start, going-on, going-end, files-start, files-on, stays-some}
 use Rattle.entries_directory.proofs.pass_files.Statement.{statement}
 use Rattle.entries_directory.proofs.pass_files.Tie as tie
 
 abbrev Inv-loop : tie.InvT-loop
-Inv-loop b v work₀ q front₀ count₀ work front count =
-    Going b work₀ front₀ work front count
-    × ((p x : List ℕ) (xs : List (List ℕ)) → After v b work₀ front₀ x xs → File p x → length p ≡ q → FilesLeft v b work front p (x ∷ xs) count)
+Inv-loop b v work₀ q front₀ work front =
+    Going b work₀ front₀ work front
+    × ((p x : List ℕ) (xs : List (List ℕ)) → After v b work₀ front₀ x xs → File p x → length p ≡ q → FilesPassed v b work front p (x ∷ xs))
 
 abbrev μ-loop : tie.MeasureT-loop
-μ-loop b v work₀ q front₀ count₀ work front count = front .ahead
+μ-loop b v work₀ q front₀ work front = front .ahead
 
 advance-requires : tie.Need-advance-requires Inv-loop μ-loop
 advance-requires c κs = search needs
@@ -33,14 +33,6 @@ is-file-requires c κs = let h = c .before .loop .inv .0 in (h .fits, h .room)
 advance-requires-2 : tie.Need-advance-requires-2 Inv-loop μ-loop
 advance-requires-2 c κs = let h = c .before .before .before .before .loop .inv .0 in (h .fits, h .room)
 
-add-count : tie.Need-add-count Inv-loop μ-loop
-add-count c =
-    let a = c .before .before in
-    let l = a .before .before .before .before .before in
-    let st = l .before .before .before .before .before .before .before in
-    let more = a .before .before .before .is-file .ensures (a .before .before .if1 .taken) in
-    omega (arith, l .loop .inv .0 .fewer, l .loop .inv .0 .few, stays-some (l .loop .front) (st .args .q) (more .stays))
-
 loop-less : tie.Need-loop-less Inv-loop μ-loop
 loop-less c =
     let a = c .before .before in
@@ -55,8 +47,8 @@ loop-again c =
     let l = a .before .before .before .before .before in
     let st = l .before .before .before .before .before .before .before in
     let more = a .before .before .before .is-file .ensures (a .before .before .if1 .taken) in (
-      going-on _ _ _ _ _ _ _ _ _ (l .loop .inv .0) (stays-some (l .loop .front) (st .args .q) (more .stays)) (a .advance2 .ensures),
-      λ p x xs h i e. files-on _ _ p _ _ _ _ (l .loop .inv .1 p x xs h i e) _ _ (rw e more) (a .advance2 .ensures),
+      going-on _ _ _ _ _ _ _ _ (l .loop .inv .0) (a .advance2 .ensures),
+      λ p x xs h i e. files-on _ _ p _ _ _ (l .loop .inv .1 p x xs h i e) _ _ (rw e more) (a .advance2 .ensures),
     )
 
 same-length : tie.Need-same-length Inv-loop μ-loop
@@ -68,7 +60,7 @@ returns c =
     let t = l .before .before .before .advance .ensures in
     let st = l .before .before .before .before .before .before .before in
     record {
-      gone = going-end _ _ _ _ _ _ t (st .pre .2) _ _ _ (l .loop .inv .0);
+      gone = going-end _ _ _ _ _ _ t (st .pre .2) _ _ (l .loop .inv .0);
       passed = λ p x xs h i e. l .loop .inv .1 p x xs (t .after x xs h) i e;
     }
 
@@ -82,7 +74,6 @@ pass-files-spec =
     loop-holds
     is-file-requires
     advance-requires-2
-    add-count
     loop-less
     loop-again
     same-length

@@ -1,8 +1,8 @@
 -- The proof that `put_kept` meets its contract.
 use native.Mathlib.Omega.{arith}
 use borrow.Author.Needs.{needs}
-use Rattle.entries_run.proofs.Steps.{inside-first}
-use Rattle.entries_edit.proofs.Edits.{readable-first, kept-laid}
+use Rattle.entries_run.proofs.Steps.{inside-first, readable-first}
+use Rattle.entries_edit.proofs.Edits.{kept-written}
 use Rattle.entries_edit.proofs.put_kept.Statement.{statement}
 use Rattle.entries_edit.proofs.put_kept.Tie as tie
 
@@ -25,7 +25,7 @@ returns : tie.Need-returns
 returns c =
     let put = c .before .before .before .before in
     let first = put .before .before .before in
-    kept-laid (rw (first .first .ensures) at (put .put-entries .ensures))
+    kept-written (rw (first .first .ensures) at (put .put-entries .ensures))
 
 pub put-kept-spec : {M : Type 1} → statement M
 put-kept-spec =

@@ -3,10 +3,11 @@ use mathlib.Core.Path.{_∙_}
 use Prim.Native.Nat.{_≤_}
 use native.Mathlib.Omega.{arith}
 use borrow.Author.Needs.{needs}
-use Rattle.entries_run.proofs.Steps.{inside-first}
+use Rattle.fields.proofs.Workspace.{frame-then}
+use Rattle.entries_run.proofs.Steps.{inside-first, readable-first}
 use Rattle.entries.specs.Record.{entryWith}
 use Rattle.entries_edit.proofs.Rests.{cursor-kept}
-use Rattle.entries_edit.proofs.Edits.{readable-first, readable-rest, put-word, with-laid}
+use Rattle.entries_edit.proofs.Edits.{readable-rest, put-word, with-written}
 use Rattle.entries_edit.proofs.put_with.Statement.{statement}
 use Rattle.entries_edit.proofs.put_with.Tie as tie
 
@@ -29,8 +30,8 @@ put-record-requires c κs =
     let start = put .before .before .before .before .before .before .before .before in
     let a = start .args in
     let front = put .put-entries .ensures in
-    let near = front .near in
-    let long = front .long in
+    let near = front .bounds .near in
+    let long = front .bounds .frame in
     let kept = cursor-kept _ (a .b .now) _ _ (a .name .now) (front .inside) (omega arith) (start .pre .3) (shared .common-at .ensures) in
     (omega arith, start .pre .2, kept)
 
@@ -43,8 +44,8 @@ put-others-requires c κs =
     let put = record-put .before .before .before .before .before .before .before .before .before in
     let start = put .before .before .before .before .before .before .before .before in
     let front = put .put-entries .ensures in
-    let near = front .near in
-    let long = front .long in
+    let near = front .bounds .near in
+    let long = front .bounds .frame in
     let one = record-put .put-record .ensures .near in
     let few : start .args .k ≤ start .args .count = omega (arith, start .pre .1) in
     let first = rw (put .before .before .before .first .ensures) at front in
@@ -54,14 +55,14 @@ same-length : tie.Need-same-length
 same-length c =
     let others = c .before .before .before .before .before .before .before .before in
     let put = others .before .before .before .before .before .before .before .before .before .before .before .before .before .before in
-    others .put-others .ensures .left .long ∙ put .put-entries .ensures .long
+    frame-then (put .put-entries .ensures .bounds .frame) (others .put-others .ensures .bounds .frame) .long
 
 same-length-2 : tie.Need-same-length-2
 same-length-2 c =
     let others = c .before .before .before .before .before .before .before .before in
     let record-put = others .before .before .before .before .before in
     let put = record-put .before .before .before .before .before .before .before .before .before in
-    others .put-others .ensures .left .out-long ∙ record-put .put-record .kept .0 ∙ put .put-entries .ensures .out-long
+    others .put-others .ensures .bounds .out-long ∙ record-put .put-record .kept .0 ∙ put .put-entries .ensures .bounds .out-long
 
 returns : tie.Need-returns
 returns c =
@@ -73,10 +74,10 @@ returns c =
     let start = first .before .before .before .before .before in
     let a = start .args in
     let front = rw (first .first .ensures) at (put .put-entries .ensures) in
-    let long = front .long in
+    let long = front .bounds .frame in
     let word = put-word (a .fields) (a .name .now) (put .put-entries .result .extended) (others .put-others .result .extended) in
     let x = record-put .put-record in
-    with-laid (a .count) (omega (arith, start .pre .1)) front (entryWith (a .fields) (a .name .now)) (a .there) (omega (arith, start .pre .0 .room))
+    with-written (a .count) (omega (arith, start .pre .1)) front (entryWith (a .fields) (a .name .now)) (a .there) (omega (arith, start .pre .0 .room))
     (shared .common-at .ensures) (x .ensures) (x .kept .0) (others .put-others .ensures) word
 
 pub put-with-spec : {M : Type 1} → statement M

@@ -3,8 +3,8 @@ use mathlib.Core.Path.{refl}
 use Prim.Native.Nat.{_≤_}
 use native.Mathlib.Omega.{arith}
 use borrow.Author.Needs.{needs}
-use Rattle.entries_run.proofs.Steps.{inside-first}
-use Rattle.entries_edit.proofs.Edits.{readable-first, readable-rest, without-laid}
+use Rattle.entries_run.proofs.Steps.{inside-first, readable-first}
+use Rattle.entries_edit.proofs.Edits.{readable-rest, without-written}
 use Rattle.entries_edit.proofs.put_without.Statement.{statement}
 use Rattle.entries_edit.proofs.put_without.Tie as tie
 
@@ -26,8 +26,8 @@ put-removed-requires c κs =
     let first = put .before .before .before in
     let start = first .before .before .before .before in
     let front = put .put-entries .ensures in
-    let near = front .near in
-    let long = front .long in
+    let near = front .bounds .near in
+    let long = front .bounds .frame in
     let few : start .args .k ≤ start .args .count = omega (arith, start .pre .1) in
     let rest = readable-rest (start .args .count) few (rw (first .first .ensures) at front) (start .pre .3) in
     (omega arith, front .inside, omega arith, omega (arith, start .pre .1), rest)
@@ -45,7 +45,7 @@ returns c =
     let first = put .before .before .before in
     let start = first .before .before .before .before in
     let front = rw (first .first .ensures) at (put .put-entries .ensures) in
-    without-laid (start .args .count) (omega (arith, start .pre .1)) front (removed .put-removed .ensures) refl
+    without-written (start .args .count) (omega (arith, start .pre .1)) front (removed .put-removed .ensures) refl
 
 pub put-without-spec : {M : Type 1} → statement M
 put-without-spec =

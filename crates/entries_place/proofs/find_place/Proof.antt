@@ -1,22 +1,18 @@
--- The proof that `find_place` meets its contract. The loop keeps that the entries before the cursor all stand before the name and stage.
-use mathlib.Core.Path.{_≡_, refl, _∙_}
+-- The proof that `find_place` meets its contract. The loop keeps that the entries before the cursor all are before the name and stage.
+use mathlib.Core.Path.{refl}
 use mathlib.Core.List.{List}
 use Prim.Native.Nat.{ℕ, _-_, _≤_}
 use native.Mathlib.Omega.{arith}
 use borrow.Author.Needs.{needs}
-use lib.ListN.{length, drop}
 use Rattle.entries_run.specs.declared.Next.{Next}
-use Rattle.entries_run.specs.Steps as Steps
-use Rattle.entries_run.specs.Steps.{Inside}
-use Rattle.entries_run.proofs.Steps.{inside-first}
-use Rattle.entries_place.proofs.Finding.{Passed, passed-first, passed-again, passed-more, passed-end, passed-bad, passed-stop}
+use Rattle.entries_run.specs.Steps.{EntryStepped, EntryPassed}
+use Rattle.entries_run.proofs.Steps.{readable-again, readable-never}
+use Rattle.entries_place.proofs.Finding.{Searching, search-first, search-left, search-more, search-end, search-stop}
 use Rattle.entries_place.proofs.find_place.Statement.{statement}
 use Rattle.entries_place.proofs.find_place.Tie as tie
 
 abbrev Inv-loop : tie.InvT-loop
-Inv-loop b v work₀ count name stage c₀ before₀ work c before =
-    Inside b c × (length work ≡ length work₀) × (drop 8192 work ≡ drop 8192 work₀) × (before ≤ count)
-    × Passed v b (record { name = name; stage = stage }) before work c
+Inv-loop b v work₀ count name stage c₀ before₀ work c before = Searching v b work₀ (record { name = name; stage = stage }) before work c × (before ≤ count)
 
 abbrev μ-loop : tie.MeasureT-loop
 μ-loop b v work₀ count name stage c₀ before₀ work c before = count - before
@@ -28,19 +24,17 @@ loop-holds : tie.Need-loop-holds Inv-loop μ-loop
 loop-holds c =
     let st = c .before .before .before .before in
     let a = st .args in
-    rw (c .first .ensures) (inside-first (a .b .now) (a .work .now) (st .pre .0), refl, refl, omega arith, passed-first (a .v) (a .b .now) _ (a .work .now))
+    rw (c .first .ensures) (search-first (a .v) (a .b .now) (a .work .now) _ (st .pre .0), omega arith)
 
 pass-entry-requires : tie.Need-pass-entry-requires Inv-loop μ-loop
-pass-entry-requires c κs = (c .before .before .loop .inv .0, omega arith)
+pass-entry-requires c κs = (c .before .before .loop .inv .0 .walking .inside, omega arith)
 
 -- the entries were read before
 again : (e : tie.After-pass-entry Inv-loop μ-loop) → let l = e .before .before .before in let a = l .before .before .before .before .before .args in
-    (work′ : List ℕ) (r : Next) → Steps.Passed (a .v) (a .b .now) (l .loop .work) (l .loop .c) work′ r → Steps.Stepped (a .v) (a .b .now) (l .loop .work) (l .loop .c) work′ r
+    (work′ : List ℕ) (r : Next) → EntryPassed (a .v) (a .b .now) (l .loop .work) (l .loop .c) work′ r → EntryStepped (a .v) (a .b .now) (l .loop .work) (l .loop .c) work′ r
 again e work′ r =
     let l = e .before .before .before in
-    let st = l .before .before .before .before .before in
-    let a = st .args in
-    passed-again (a .v) (a .b .now) _ _ (l .loop .work) (l .loop .c) (l .loop .inv .4) work′ (a .count) (e .before .before .loop-test .taken) (st .pre .1) r
+    readable-again (search-left (l .loop .inv .0) (l .loop .inv .1) (l .before .before .before .before .before .pre .1)) (omega (arith, e .before .before .loop-test .taken)) r
 
 enum-told : tie.Need-enum-told Inv-loop μ-loop
 enum-told c = search needs
@@ -52,10 +46,8 @@ returns : tie.Need-returns Inv-loop μ-loop
 returns c =
     let e = c .before .before .before .before in
     let l = e .before .before .before in
-    let a = l .before .before .before .before .before .args in
-    let i = l .loop .inv in
-    let t = rw (c .enum-told .given .1) at (again e _ _ (e .pass-entry .ensures)) in
-    passed-bad (a .v) (a .b .now) _ _ (l .loop .work) (l .loop .c) (i .4) _ (a .count) _ (t .long ∙ i .1) (t .past ∙ i .2) (e .before .before .loop-test .taken) _ t
+    let left = search-left (l .loop .inv .0) (l .loop .inv .1) (l .before .before .before .before .before .pre .1) in
+    readable-never left (omega (arith, e .before .before .loop-test .taken)) _ (rw (c .enum-told .given .1) at (e .pass-entry .ensures))
 
 enum-known-g : tie.Need-enum-known-g Inv-loop μ-loop
 enum-known-g c = search needs
@@ -66,13 +58,15 @@ order-at-requires c κs =
     let e = g .before .before .before .before in
     let l = e .before .before .before in
     let t = rw (g .g .given .1) at (again e _ _ (e .pass-entry .ensures)) in
-    (t .found _ refl .next, omega (arith, t .long, l .loop .inv .1, l .before .before .before .before .before .pre .0 .room))
+    (t .found _ refl .next, omega (arith, t .frame, l .loop .inv .0 .walking .frame, l .before .before .before .before .before .pre .0 .room))
 
 enum-told-2 : tie.Need-enum-told-2 Inv-loop μ-loop
 enum-told-2 c = search needs
 
 add-before : tie.Need-add-before Inv-loop μ-loop
-add-before c = omega arith
+add-before c =
+    let e = c .before .before .before .before .before .before .before .before .before .before in
+    omega (arith, e .before .before .loop-test .taken, e .before .before .before .before .before .before .before .before .fits)
 
 loop-less : tie.Need-loop-less Inv-loop μ-loop
 loop-less c = omega arith
@@ -82,16 +76,8 @@ loop-again c =
     let o = c .before .before in
     let g = o .before .before .before .before in
     let e = g .before .before .before .before in
-    let l = e .before .before .before in
-    let a = l .before .before .before .before .before .args in
-    let i = l .loop .inv in
-    let t = rw (g .g .given .1) at (again e _ _ (e .pass-entry .ensures)) in (
-      t .found _ refl .next,
-      t .long ∙ i .1,
-      t .past ∙ i .2,
-      omega arith,
-      passed-more (a .v) (a .b .now) _ _ (l .loop .work) (l .loop .c) (i .4) _ _ t _ (rw (c .enum-told2 .given .1) at (o .order-at .ensures)) refl,
-    )
+    let t = rw (g .g .given .1) at (again e _ _ (e .pass-entry .ensures)) in
+    (search-more (e .before .before .before .loop .inv .0) (e .before .before .loop-test .taken) t (rw (c .enum-told2 .given .1) at (o .order-at .ensures)) refl, omega arith)
 
 enum-told-3 : tie.Need-enum-told-3 Inv-loop μ-loop
 enum-told-3 c = search needs
@@ -104,12 +90,8 @@ returns-2 c =
     let o = c .before .before in
     let g = o .before .before .before .before in
     let e = g .before .before .before .before in
-    let l = e .before .before .before in
-    let a = l .before .before .before .before .before .args in
-    let i = l .loop .inv in
     let t = rw (g .g .given .1) at (again e _ _ (e .pass-entry .ensures)) in
-    passed-stop (a .v) (a .b .now) _ _ (l .loop .work) (l .loop .c) (i .4) _ (a .count) _ (t .long ∙ i .1) (t .past ∙ i .2) (e .before .before .loop-test .taken) _ t _
-    (rw (c .enum-told3 .given .1) at (o .order-at .ensures)) refl
+    search-stop (e .before .before .before .loop .inv .0) (e .before .before .loop-test .taken) t (rw (c .enum-told3 .given .1) at (o .order-at .ensures)) refl
 
 enum-told-4 : tie.Need-enum-told-4 Inv-loop μ-loop
 enum-told-4 c = search needs
@@ -122,22 +104,14 @@ returns-3 c =
     let o = c .before .before in
     let g = o .before .before .before .before in
     let e = g .before .before .before .before in
-    let l = e .before .before .before in
-    let a = l .before .before .before .before .before .args in
-    let i = l .loop .inv in
     let t = rw (g .g .given .1) at (again e _ _ (e .pass-entry .ensures)) in
-    passed-stop (a .v) (a .b .now) _ _ (l .loop .work) (l .loop .c) (i .4) _ (a .count) _ (t .long ∙ i .1) (t .past ∙ i .2) (e .before .before .loop-test .taken) _ t _
-    (rw (c .enum-told4 .given .1) at (o .order-at .ensures)) refl
+    search-stop (e .before .before .before .loop .inv .0) (e .before .before .loop-test .taken) t (rw (c .enum-told4 .given .1) at (o .order-at .ensures)) refl
 
 same-length-4 : tie.Need-same-length-4 Inv-loop μ-loop
-same-length-4 c = c .before .loop .inv .1
+same-length-4 c = c .before .loop .inv .0 .walking .frame .long
 
 returns-4 : tie.Need-returns-4 Inv-loop μ-loop
-returns-4 c =
-    let l = c .before in
-    let a = l .before .before .before .before .before .args in
-    let i = l .loop .inv in
-    passed-end (a .v) (a .b .now) _ _ (l .loop .work) (l .loop .c) (i .4) _ (a .count) _ (i .1) (i .2) (omega arith)
+returns-4 c = search-end (c .before .loop .inv .0) (omega arith)
 
 pub find-place-spec : {M : Type 1} → statement M
 find-place-spec =

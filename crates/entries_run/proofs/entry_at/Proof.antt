@@ -4,7 +4,7 @@ use borrow.Author.Needs.{needs}
 use borrow.Author.Tests.{ne-eqb}
 use Rattle.format_laws.proofs.Tests.{false-true}
 use Rattle.entries.specs.declared.Fixed.the-variants as F
-use Rattle.entries_run.specs.Steps.{cursorOf, Headed, HeadRead}
+use Rattle.entries_run.specs.Steps.{cursorOf, HeadAt, HeadRead}
 use Rattle.entries_run.proofs.Names.{nameAt-work, nameAt-plain}
 use Rattle.entries_run.proofs.Rests.{headed-as, tested, tested-by, step-refused, step-on, step-four, pass-refused, pass-on, pass-four}
 use Rattle.entries_run.proofs.entry_at.Statement.{statement}
@@ -20,7 +20,7 @@ read c = rw (c .f2 .given .1) at (c .before .before .head-at .ensures)
 there :
     (c : tie.After-f2) →
     let a = c .before .before .before .before .before .args in
-    Headed (a .b .now) (cursorOf (a .at) (a .start) (a .len) (a .stage)) (c .f2 .given .0 .0)
+    HeadAt (a .b .now) (cursorOf (a .at) (a .start) (a .len) (a .stage)) (c .f2 .given .0 .0)
 there c =
     let st = c .before .before .before .before .before in
     let t = read c in

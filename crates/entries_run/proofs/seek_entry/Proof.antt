@@ -1,19 +1,17 @@
 -- The proof that `seek_entry` meets its contract. The loop keeps that some entries lie before the cursor, which with those left are k.
-use mathlib.Core.Path.{_≡_, refl, _∙_}
+use mathlib.Core.Path.{_≡_}
 use mathlib.Core.List.{List, []}
 use Prim.Native.Nat.{_+_}
 use native.Mathlib.Omega.{arith}
 use borrow.Author.Needs.{needs}
-use lib.ListN.{length, drop, length-append}
+use lib.ListN.{length, length-append}
 use Rattle.format.specs.Records.{Entry}
-use Rattle.entries_run.specs.Steps.{Inside}
-use Rattle.entries_run.proofs.Steps.{inside-first, Walked, walked-first, walked-more, sought-bad, sought-good}
+use Rattle.entries_run.proofs.Steps.{Walking, walking-first, walking-more, sought-bad, sought-good}
 use Rattle.entries_run.proofs.seek_entry.Statement.{statement}
 use Rattle.entries_run.proofs.seek_entry.Tie as tie
 
 abbrev Inv-loop : tie.InvT-loop
-Inv-loop b v work₀ k c₀ left₀ work c left =
-    Inside b c × (length work ≡ length work₀) × (drop 8192 work ≡ drop 8192 work₀) × ((es : List Entry) × Walked v b es work c × (length es + left ≡ k))
+Inv-loop b v work₀ k c₀ left₀ work c left = (es : List Entry) × Walking v b work₀ es work c × (length es + left ≡ k)
 
 abbrev μ-loop : tie.MeasureT-loop
 μ-loop b v work₀ k c₀ left₀ work c left = left
@@ -25,10 +23,10 @@ loop-holds : tie.Need-loop-holds Inv-loop μ-loop
 loop-holds c =
     let st = c .before .before .before in
     let a = st .args in
-    rw (c .first .ensures) (inside-first (a .b .now) (a .work .now) (st .pre), refl, refl, ([], walked-first (a .v) (a .b .now) (a .work .now), omega arith))
+    rw (c .first .ensures) ([], walking-first (a .v) (a .b .now) (a .work .now) (st .pre), omega arith)
 
 next-entry-requires : tie.Need-next-entry-requires Inv-loop μ-loop
-next-entry-requires c κs = (c .before .before .loop .inv .0, omega arith)
+next-entry-requires c κs = (c .before .before .loop .inv .1 .inside, omega arith)
 
 enum-known-g : tie.Need-enum-known-g Inv-loop μ-loop
 enum-known-g c = search needs
@@ -39,11 +37,8 @@ same-length c = omega arith
 returns : tie.Need-returns Inv-loop μ-loop
 returns c =
     let e = c .before .before .before .before .before in
-    let l = e .before .before .before in
-    let a = l .before .before .before .before .args in
-    let t = rw (c .before .g .given .1) at (e .next-entry .ensures) in
-    let (es, walked, sum) = l .loop .inv .3 in
-    sought-bad (a .v) (a .b .now) (a .k) es (l .loop .work) (l .loop .c) walked _ _ (t .long ∙ l .loop .inv .1) (t .past ∙ l .loop .inv .2) _ _ (omega (arith, sum)) t
+    let (es, h, sum) = e .before .before .before .loop .inv in
+    sought-bad h (omega (arith, sum)) (rw (c .before .g .given .1) at (e .next-entry .ensures))
 
 enum-known-g-2 : tie.Need-enum-known-g-2 Inv-loop μ-loop
 enum-known-g-2 c = search needs
@@ -57,18 +52,11 @@ loop-less c = omega arith
 loop-again : tie.Need-loop-again Inv-loop μ-loop
 loop-again c =
     let e = c .before .before .before .before .before .before in
-    let l = e .before .before .before in
-    let a = l .before .before .before .before .args in
-    let t = rw (c .before .before .g2 .given .1) at (e .next-entry .ensures) in
-    let (es, walked, sum) = l .loop .inv .3 in (
-      t .found _ refl .next,
-      t .long ∙ l .loop .inv .1,
-      t .past ∙ l .loop .inv .2,
-      (_, walked-more (a .v) (a .b .now) es (l .loop .work) (l .loop .c) walked _ _ t, rw length-append (omega (arith, sum))),
-    )
+    let (es, h, sum) = e .before .before .before .loop .inv in
+    (_, walking-more h (rw (c .before .before .g2 .given .1) at (e .next-entry .ensures)), rw length-append (omega (arith, sum)))
 
 next-entry-requires-2 : tie.Need-next-entry-requires-2 Inv-loop μ-loop
-next-entry-requires-2 c κs = (c .before .before .loop .inv .0, omega arith)
+next-entry-requires-2 c κs = (c .before .before .loop .inv .1 .inside, omega arith)
 
 enum-known-last : tie.Need-enum-known-last Inv-loop μ-loop
 enum-known-last c = search needs
@@ -82,11 +70,8 @@ same-length-2 c = omega arith
 returns-2 : tie.Need-returns-2 Inv-loop μ-loop
 returns-2 c =
     let e = c .before .before .before .before .before in
-    let l = e .before .before .before in
-    let a = l .before .before .before .before .args in
-    let t = rw (c .before .last .given .1) at (e .next-entry2 .ensures) in
-    let (es, walked, sum) = l .loop .inv .3 in
-    sought-bad (a .v) (a .b .now) (a .k) es (l .loop .work) (l .loop .c) walked _ _ (t .long ∙ l .loop .inv .1) (t .past ∙ l .loop .inv .2) _ _ (omega (arith, sum)) t
+    let (es, h, sum) = e .before .before .before .loop .inv in
+    sought-bad h (omega (arith, sum)) (rw (c .before .last .given .1) at (e .next-entry2 .ensures))
 
 same-length-3 : tie.Need-same-length-3 Inv-loop μ-loop
 same-length-3 c = omega arith
@@ -94,11 +79,8 @@ same-length-3 c = omega arith
 returns-3 : tie.Need-returns-3 Inv-loop μ-loop
 returns-3 c =
     let e = c .before .before .before .before .before in
-    let l = e .before .before .before in
-    let a = l .before .before .before .before .args in
-    let t = rw (c .before .last2 .given .1) at (e .next-entry2 .ensures) in
-    let (es, walked, sum) = l .loop .inv .3 in
-    sought-good (a .v) (a .b .now) (a .k) es (l .loop .work) (l .loop .c) walked _ _ (t .long ∙ l .loop .inv .1) (t .past ∙ l .loop .inv .2) _ (omega (arith, sum, e .before .before .loop-test .left)) t
+    let (es, h, sum) = e .before .before .before .loop .inv in
+    sought-good h (omega (arith, sum, e .before .before .loop-test .left)) (rw (c .before .last2 .given .1) at (e .next-entry2 .ensures))
 
 pub seek-entry-spec : {M : Type 1} → statement M
 seek-entry-spec =

@@ -14,17 +14,8 @@ use Rattle.entries_write.proofs.put_read.Tie as tie
 stays-requires : tie.Need-stays-requires
 stays-requires c κs = search needs
 
-sub-put-bytes : tie.Need-sub-put-bytes
-sub-put-bytes c = search needs
-
-part-put-bytes-start : tie.Need-part-put-bytes-start
-part-put-bytes-start c = search needs
-
-part-put-bytes-end : tie.Need-part-put-bytes-end
-part-put-bytes-end c = search needs
-
-put-bytes-requires : tie.Need-put-bytes-requires
-put-bytes-requires c κs = search needs
+put-part-requires : tie.Need-put-part-requires
+put-part-requires c κs = search needs
 
 same-length : tie.Need-same-length
 same-length c = search needs
@@ -32,29 +23,20 @@ same-length c = search needs
 returns : tie.Need-returns
 returns c =
     let put = c .before .before in
-    let plain = put .before .before .before in
+    let plain = put .before .before in
     let same = plain .before in
     let known = same .before .before .before .before in
     let start = known .before in
     let a = start .args in
     let bytes : Bytes (a .b .now) = λ i. omega (arith, known .shared-slice-known .given i) in
     let (old, new) = and-inv (not (eqb (a .v) 4)) (not (eqb (a .version) 4)) (plain .if2 .taken) in
-    plain-copied bytes (start .pre .1) (sym (same .before .stays .ensures) ∙ same .if1 .taken) _ refl (start .pre .3) (not-true _ old) (not-true _ new) (put .put-bytes .ensures)
+    plain-copied bytes (start .pre .1) (sym (same .before .stays .ensures) ∙ same .if1 .taken) _ refl (start .pre .3) (not-true _ old) (not-true _ new) (put .put-part .ensures)
 
-add-end : tie.Need-add-end
-add-end c = search needs
+add-put-part : tie.Need-add-put-part
+add-put-part c = search needs
 
-sub-put-bytes-2 : tie.Need-sub-put-bytes-2
-sub-put-bytes-2 c = search needs
-
-part-put-bytes-start-2 : tie.Need-part-put-bytes-start-2
-part-put-bytes-start-2 c = search needs
-
-part-put-bytes-end-2 : tie.Need-part-put-bytes-end-2
-part-put-bytes-end-2 c = search needs
-
-put-bytes-requires-2 : tie.Need-put-bytes-requires-2
-put-bytes-requires-2 c κs = search needs
+put-part-requires-2 : tie.Need-put-part-requires-2
+put-part-requires-2 c κs = search needs
 
 name-at-requires : tie.Need-name-at-requires
 name-at-requires c κs = search needs
@@ -63,9 +45,9 @@ put-name-requires : tie.Need-put-name-requires
 put-name-requires c κs =
     let named = c .before in
     let put = named .before .before .before in
-    let start = put .before .before .before .before .before .before .before .before .before .before in
+    let start = put .before .before .before .before .before .before .before .before .before in
     let read = start .pre .1 in
-    (omega (arith, start .pre .0, head-end read (put .put-bytes2 .ensures), head-most read), head-most read, rw (named .name-at .ensures) (start .pre .3))
+    (omega (arith, start .pre .0, head-end read (put .put-part2 .ensures), head-most read), head-most read, rw (named .name-at .ensures) (start .pre .3))
 
 same-length-2 : tie.Need-same-length-2
 same-length-2 c = search needs
@@ -75,13 +57,13 @@ returns-2 c =
     let name = c .before .before in
     let named = name .before .before in
     let put = named .before .before .before in
-    let same = put .before .before .before .before .before in
+    let same = put .before .before .before .before in
     let known = same .before .before .before .before in
     let start = known .before in
     let a = start .args in
     let bytes : Bytes (a .b .now) = λ i. omega (arith, known .shared-slice-known .given i) in
     head-copied bytes (start .pre .1) (sym (same .before .stays .ensures) ∙ same .if1 .taken) _ (named .name-at .ensures)
-    (rw (named .name-at .ensures) (start .pre .3)) (put .put-bytes2 .ensures) (name .put-name .ensures)
+    (rw (named .name-at .ensures) (start .pre .3)) (put .put-part2 .ensures) (name .put-name .ensures)
 
 put-step-requires : tie.Need-put-step-requires
 put-step-requires c κs =
@@ -101,17 +83,11 @@ put-read-spec =
     tie.close
     (tie.spec
     stays-requires
-    sub-put-bytes
-    part-put-bytes-start
-    part-put-bytes-end
-    put-bytes-requires
+    put-part-requires
     same-length
     returns
-    add-end
-    sub-put-bytes-2
-    part-put-bytes-start-2
-    part-put-bytes-end-2
-    put-bytes-requires-2
+    add-put-part
+    put-part-requires-2
     name-at-requires
     put-name-requires
     same-length-2

@@ -6,20 +6,11 @@ use borrow.Author.Needs.{needs}
 use Rattle.entries_write.proofs.put_step.Statement.{statement}
 use Rattle.entries_write.proofs.put_step.Tie as tie
 
-add-fixed : tie.Need-add-fixed
-add-fixed c = search needs
+add-put-part : tie.Need-add-put-part
+add-put-part c = search needs
 
-sub-put-bytes : tie.Need-sub-put-bytes
-sub-put-bytes c = search needs
-
-part-put-bytes-start : tie.Need-part-put-bytes-start
-part-put-bytes-start c = search needs
-
-part-put-bytes-end : tie.Need-part-put-bytes-end
-part-put-bytes-end c = search needs
-
-put-bytes-requires : tie.Need-put-bytes-requires
-put-bytes-requires c κs = search needs
+put-part-requires : tie.Need-put-part-requires
+put-part-requires c κs = search needs
 
 mul-base : tie.Need-mul-base
 mul-base c = search needs
@@ -40,9 +31,9 @@ put-rest-requires : tie.Need-put-rest-requires
 put-rest-requires c κs =
     let named = c .before in
     let put = named .before .before .before in
-    let start = put .before .before .before .before .before .before in
+    let start = put .before .before .before .before .before in
     let a = start .args in
-    let end = fixed-end (a .b .now) _ _ (a .from) _ _ (start .pre .1) (put .put-bytes .ensures) in
+    let end = fixed-end (a .b .now) _ _ (a .from) _ _ (start .pre .1) (put .put-part .ensures) in
     (omega arith, omega arith, rw (named .name-at .ensures) (start .pre .5))
 
 same-length : tie.Need-same-length
@@ -53,7 +44,7 @@ returns c =
     let rest = c .before .before in
     let named = rest .before .before in
     let put = named .before .before .before in
-    let known = put .before .before .before .before .before in
+    let known = put .before .before .before .before in
     let start = known .before in
     let a = start .args in
     let bytes : Bytes (a .b .now) = λ i. omega (arith, known .shared-slice-known .given i) in
@@ -65,7 +56,7 @@ returns c =
     _
     _
     (start .pre .1)
-    (put .put-bytes .ensures)
+    (put .put-part .ensures)
     (a .v)
     (a .work .now)
     (a .flags)
@@ -86,11 +77,8 @@ pub put-step-spec : {M : Type 1} → statement M
 put-step-spec =
     tie.close
     (tie.spec
-    add-fixed
-    sub-put-bytes
-    part-put-bytes-start
-    part-put-bytes-end
-    put-bytes-requires
+    add-put-part
+    put-part-requires
     mul-base
     mul-base-2
     add-base

@@ -1,14 +1,14 @@
--- The proof that `add_tree` meets its contract.
-use mathlib.Core.Path.{refl, sym, _∙_}
-use native.Mathlib.Omega.{arith}
-use borrow.Author.Needs.{needs}
-use Rattle.extensions.proofs.Known.{known-seen}
 use Rattle.extensions.proofs.Trees.{tree-refused, tree-miscounted, tree-added}
+use Rattle.extensions.proofs.Known.{known-seen}
+use native.Mathlib.Omega.{arith}
+use mathlib.Core.Path.{sym, _∙_}
+use Rattle.fields.proofs.Workspace.{frame-same}
+use borrow.Author.Needs.{needs}
 use Rattle.extensions.proofs.add_tree.Statement.{statement}
 use Rattle.extensions.proofs.add_tree.Tie as tie
 
 returns : tie.Need-returns
-returns c = record { answered = λ es m q. known-seen _ _ _ _ (c .if1 .taken); inside = tt; long = refl; past = refl }
+returns c = record { answered = λ es m q. known-seen _ _ _ _ (c .if1 .taken); inside = tt; frame = frame-same _ }
 
 add-from : tie.Need-add-from
 add-from c = search needs
@@ -48,66 +48,50 @@ same-length c = search needs
 
 returns-2 : tie.Need-returns-2
 returns-2 c =
-    let k = c .before .before .before in
-    let r = k .before .before .before .before in
-    let g = r .read .given in
-    let m = r .before .before .before .before in
-    let e = m .before .before .before .before in
-    let st = e .before .before .before in
+    let k = c .before .before .before .counts-ok .ensures in
+    let st = c .before .before .before .before .before .before .before .before .before .before .before .before .before .before .before .before .before in
     let a = st .args in
     record {
       answered =
           λ es n q.
-          tree-added (a .b .now) (a .at) (a .end) (st .pre .0) (a .found) (e .if1 .left) _ _ _
-          (λ p. sym (g .1) ∙ m .read-tree .ensures .0 p)
-          (λ t i nodes differ. k .counts-ok .ensures .is es n t i q nodes differ)
+          tree-added (a .b .now) (a .at) (a .end) (st .pre .0) (a .found) (c .before .before .before .before .before .before .before .before .before .before .before .before .before .before .if1 .left) _ _ _
+          (λ p. sym (c .before .before .before .before .before .before .before .before .read .given .1) ∙ c .before .before .before .before .before .before .before .before .before .before .read-tree .ensures .0 p)
+          (λ t i nodes differ. k .is es n t i q nodes differ)
           (c .if2 .taken);
       inside = st .pre .0;
-      long = omega arith;
-      past = k .counts-ok .ensures .past ∙ m .read-tree .ensures .1;
+      frame = k .frame;
+    }
+
+returns-3 : tie.Need-returns-3
+returns-3 c =
+    let st = c .before .before .before .before .before .before .before .before .before in
+    let a = st .args in
+    record {
+      answered =
+          λ es n q.
+          tree-refused (a .b .now) (a .at) (a .end) (st .pre .0) (a .found) (c .before .before .before .before .before .before .if1 .left) _
+          (λ p. sym (c .enum-told .given .1) ∙ c .before .before .read-tree .ensures .0 p);
+      inside = tt;
+      frame = frame-same _;
     }
 
 same-length-2 : tie.Need-same-length-2
 same-length-2 c = search needs
 
-returns-3 : tie.Need-returns-3
-returns-3 c =
-    let m = c .before .before .before .before in
-    let e = m .before .before .before .before in
-    let st = e .before .before .before in
-    let a = st .args in
-    record {
-      answered =
-          λ es n q.
-          tree-refused (a .b .now) (a .at) (a .end) (st .pre .0) (a .found) (e .if1 .left) _
-          (λ p. sym (c .enum-told .given .1) ∙ m .read-tree .ensures .0 p);
-      inside = tt;
-      long = omega arith;
-      past = m .read-tree .ensures .1;
-    }
-
-same-length-3 : tie.Need-same-length-3
-same-length-3 c = search needs
-
 returns-4 : tie.Need-returns-4
 returns-4 c =
-    let k = c .before .before .before in
-    let r = k .before .before .before .before in
-    let g = r .read .given in
-    let m = r .before .before .before .before in
-    let e = m .before .before .before .before in
-    let st = e .before .before .before in
+    let k = c .before .before .before .counts-ok .ensures in
+    let st = c .before .before .before .before .before .before .before .before .before .before .before .before .before .before .before .before .before in
     let a = st .args in
     record {
       answered =
           λ es n q.
-          tree-miscounted (a .b .now) (a .at) (a .end) (st .pre .0) (a .found) (e .if1 .left) _ _ _
-          (λ p. sym (g .1) ∙ m .read-tree .ensures .0 p)
-          (λ t i nodes differ. k .counts-ok .ensures .is es n t i q nodes differ)
+          tree-miscounted (a .b .now) (a .at) (a .end) (st .pre .0) (a .found) (c .before .before .before .before .before .before .before .before .before .before .before .before .before .before .if1 .left) _ _ _
+          (λ p. sym (c .before .before .before .before .before .before .before .before .read .given .1) ∙ c .before .before .before .before .before .before .before .before .before .before .read-tree .ensures .0 p)
+          (λ t i nodes differ. k .is es n t i q nodes differ)
           (c .if2 .left);
       inside = tt;
-      long = omega arith;
-      past = k .counts-ok .ensures .past ∙ m .read-tree .ensures .1;
+      frame = k .frame;
     }
 
 pub add-tree-spec : {M : Type 1} → statement M
@@ -128,7 +112,6 @@ add-tree-spec =
     counts-ok-requires
     same-length
     returns-2
-    same-length-2
     returns-3
-    same-length-3
+    same-length-2
     returns-4)

@@ -3,6 +3,7 @@ use mathlib.Core.Path.{refl}
 use native.Mathlib.Omega.{arith}
 use borrow.Author.Needs.{needs}
 use Rattle.format.specs.Layout.{names}
+use Rattle.fields.proofs.Workspace.{frame-same}
 use Rattle.extensions.specs.Found.{seenOf}
 use Rattle.extensions.proofs.Known.{answered-as}
 use Rattle.extensions.proofs.read_extension.Statement.{statement}
@@ -38,7 +39,7 @@ returns c =
     let h = c .before .before .before in
     let a = h .before .before .before .args in
     let t = rw (c .before .head .given .1) at (h .read-head .ensures) in
-    record { answered = λ es m q. t .same (names es) (seenOf (a .found)); inside = tt; long = refl; past = refl }
+    record { answered = λ es m q. t .same (names es) (seenOf (a .found)); inside = tt; frame = frame-same _ }
 
 same-length : tie.Need-same-length
 same-length c = search needs
@@ -54,8 +55,7 @@ returns-2 c =
     record {
       answered = λ es m q. answered-as (a .b .now) (a .at) (a .found) (d .add-tree .result) (t .same (names es) (seenOf (a .found))) (r .answered es m q);
       inside = r .inside;
-      long = r .long;
-      past = r .past;
+      frame = r .frame;
     }
 
 returns-3 : tie.Need-returns-3
@@ -68,8 +68,7 @@ returns-3 c =
     record {
       answered = λ es m q. answered-as (a .b .now) (a .at) (a .found) (c .add-undo .result) (t .same (names es) (seenOf (a .found))) (r .0);
       inside = r .1;
-      long = refl;
-      past = refl;
+      frame = frame-same _;
     }
 
 returns-4 : tie.Need-returns-4
@@ -78,7 +77,7 @@ returns-4 c =
     let h = g .before .before in
     let a = h .before .before .before .args in
     let t = rw (g .head4 .given .1) at (h .read-head .ensures) in
-    record { answered = λ es m q. (_, t .same (names es) (seenOf (a .found)), refl); inside = t .inside; long = refl; past = refl }
+    record { answered = λ es m q. (_, t .same (names es) (seenOf (a .found)), refl); inside = t .inside; frame = frame-same _ }
 
 pub read-extension-spec : {M : Type 1} → statement M
 read-extension-spec =

@@ -1,4 +1,4 @@
--- The proof that `copy_to` meets its contract. After i turns the first i bytes of s stand in the workspace.
+-- The proof that `copy_to` meets its contract. After i turns the first i bytes of s are in the workspace.
 use mathlib.Core.Path.{_≡_, refl, _∙_}
 use Prim.Native.Nat.{_+_, _≤_, _<_, _-_, zero-le}
 use native.Mathlib.Omega.{arith}

@@ -1,6 +1,7 @@
 -- The proof that `read_body` meets its contract.
 use mathlib.Core.Path.{sym, _∙_}
 use native.Mathlib.Omega.{arith}
+use Rattle.fields.proofs.Workspace.{frame-then}
 use Rattle.file_read.proofs.Bodies.{body-no-entries, body-refused, body-accepted}
 use borrow.Author.Needs.{needs}
 use Rattle.file_read.proofs.read_body.Statement.{statement}
@@ -21,7 +22,7 @@ read-extensions-requires c κs =
     let q = w .before .before .before .before in
     let st = q .before .before .before .before in (
       rw (w .run2 .given .1) at (q .run-entries .ensures .inside),
-      record { least = st .pre .0 .least; most = st .pre .0 .most; room = omega (arith, st .pre .0 .room, q .run-entries .ensures .long) },
+      record { least = st .pre .0 .least; most = st .pre .0 .most; room = omega (arith, st .pre .0 .room, q .run-entries .ensures .frame) },
     )
 
 enum-known-read : tie.Need-enum-known-read
@@ -38,7 +39,7 @@ returns c =
     let q = c .before .before .before .before .before in
     let st = q .before .before .before .before in
     let a = st .args in
-    (body-no-entries (a .v) (a .b .now) (a .count) (st .pre .1) _ _ (sym (c .before .run .given .1) ∙ q .run-entries .ensures .same), q .run-entries .ensures .past)
+    (body-no-entries (a .v) (a .b .now) (a .count) (st .pre .1) _ _ (sym (c .before .run .given .1) ∙ q .run-entries .ensures .same), q .run-entries .ensures .frame)
 
 same-length-2 : tie.Need-same-length-2
 same-length-2 c = search needs
@@ -52,7 +53,7 @@ returns-2 c =
     let a = st .args in (
       body-refused (a .v) (a .b .now) (a .count) (st .pre .1) _ (sym (w .run2 .given .1) ∙ q .run-entries .ensures .same) _ _ _ _
           (rw (c .before .read .given .1) at (x .read-extensions .ensures)),
-      x .read-extensions .ensures .past ∙ q .run-entries .ensures .past,
+      frame-then (q .run-entries .ensures .frame) (x .read-extensions .ensures .frame),
     )
 
 same-length-3 : tie.Need-same-length-3
@@ -67,7 +68,7 @@ returns-3 c =
     let a = st .args in (
       body-accepted (a .v) (a .b .now) (a .count) (st .pre .1) _ (sym (w .run2 .given .1) ∙ q .run-entries .ensures .same) _ _ _
           (st .pre .0 .least) (st .pre .0 .most) (rw (c .before .read2 .given .1) at (x .read-extensions .ensures)),
-      x .read-extensions .ensures .past ∙ q .run-entries .ensures .past,
+      frame-then (q .run-entries .ensures .frame) (x .read-extensions .ensures .frame),
     )
 
 pub read-body-spec : {M : Type 1} → statement M

@@ -27,7 +27,7 @@ returns-2 c =
     let e = q .before .before in
     let a = e .before .before .before .args in (
       rw (in-room (a .work .now) (readFile 20 sha1 (a .file .now)) (e .if1 .left)) (q .read-whole .ensures .0),
-      cleared-by (a .work .now) _ _ (e .if1 .left) (m .clear-from .ensures) (q .read-whole .ensures .1),
+      cleared-by (a .work .now) _ _ (e .if1 .left) (q .read-whole .ensures .1) (m .clear-from .ensures),
     )
 
 pub read-cleared-spec : {M : Type 1} → statement M

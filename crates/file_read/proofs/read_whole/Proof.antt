@@ -1,7 +1,8 @@
 -- The proof that `read_whole` meets its contract.
-use mathlib.Core.Path.{refl, sym}
+use mathlib.Core.Path.{sym}
 use native.Mathlib.Omega.{arith}
 use lib.Seq.{length-take-le}
+use Rattle.fields.proofs.Workspace.{frame-same}
 use Rattle.file_read.specs.Header.{Opened}
 use Rattle.file_read.proofs.Room.{body-room}
 use borrow.Author.Needs.{needs}
@@ -34,7 +35,7 @@ read-body-requires c κs =
     (body-room (st .args .file .now) _ (h .long) (h .short) (st .pre), h .counted)
 
 returns : tie.Need-returns
-returns c = (rw (c .before .header .given .1) at (c .before .before .before .read-header .ensures), refl)
+returns c = (rw (c .before .header .given .1) at (c .before .before .before .read-header .ensures), frame-same _)
 
 same-length : tie.Need-same-length
 same-length c = search needs

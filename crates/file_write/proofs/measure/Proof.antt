@@ -21,8 +21,7 @@ returns c =
       size = λ x has there. q .wrote x has there .end ∙ omega arith;
       extended = q .extended;
       near = q .near;
-      long = q .long;
-      past = q .past;
+      frame = q .frame;
     }
 
 pub measure-spec : {M : Type 1} → statement M

@@ -4,7 +4,7 @@ use mathlib.Core.Bool.{false, _&&_}
 use native.Mathlib.Omega.{arith}
 use lib.Dec.{eqb}
 use Rattle.entries.specs.Record.{entryWith}
-use Rattle.file_write.specs.Results.{Measured, likeOf}
+use Rattle.file_write.specs.Results.{Measured, measuredVersion}
 use Rattle.file_write.proofs.Files.{file-worded, file-long-refused, file-small-refused, same-size, file-done}
 use borrow.Author.Needs.{needs}
 use Rattle.file_write.proofs.write.Statement.{statement}
@@ -14,9 +14,9 @@ use Rattle.file_write.proofs.write.Tie as tie
 measured :
     (c : tie.After-measure) →
     let a = c .before .before .before .before .before .before .before .args in
-    Measured (a .b .now) (a .parts) (a .work .now) (a .edit) (entryWith (a .fields) (a .name .now)) (likeOf (a .asked)) (c .measure .last .1 .1 .0)
+    Measured (a .b .now) (a .parts) (a .work .now) (a .edit) (entryWith (a .fields) (a .name .now)) (measuredVersion (a .asked)) (c .measure .last .1 .1 .0)
     (c .measure .result)
-measured c = rw (c .before .like .ensures) at (c .measure .ensures)
+measured c = rw (c .before .measured-version .ensures) at (c .measure .ensures)
 
 -- no entry needs a word that its version lacks
 free : (c : tie.Else1) → (eqb (c .before .before .before .before .before .before .before .before .before .before .before .args .asked) 2 && c .before .before .before .before .measure .result .extended) ≡ false
@@ -34,8 +34,8 @@ lengths c =
     same-size _ _ _ _ (st .args .asked) _ _ _ (measured m) _ (free f) (r .if2 .left) (v .before .if3 .left) _ (v .version-for .ensures) _ _ _ (c .put-body .ensures)
     (p .records) (p .has) (p .there)
 
-like-requires : tie.Need-like-requires
-like-requires c κs = search needs
+measured-version-requires : tie.Need-measured-version-requires
+measured-version-requires c κs = search needs
 
 measure-requires : tie.Need-measure-requires
 measure-requires c κs = search needs
@@ -79,7 +79,7 @@ put-body-requires c κs =
     let m = c .before .before .before .before .before .before .before .before .before .before .before in
     let p = m .before .before .before .before .before .before .before .pre in
     record {
-      room = record { least = p .room .least; most = p .room .most; room = omega (arith, measured m .long, p .room .room) };
+      room = record { least = p .room .least; most = p .room .most; room = omega (arith, measured m .frame, p .room .room) };
       few = p .few;
       reach = p .reach;
       stage = p .stage;
@@ -89,8 +89,8 @@ put-body-requires c κs =
       there = p .there;
     }
 
-seal-requires : tie.Need-seal-requires
-seal-requires c κs =
+append-checksum-requires : tie.Need-append-checksum-requires
+append-checksum-requires c κs =
     let l = c .before .before .before .before .before in
     let same = lengths l in
     (omega (arith, l .put-body .ensures .out-long), omega arith)
@@ -109,13 +109,13 @@ returns-4 c =
     let r = v .before .before .before in
     let f = r .before .before in
     file-done _ _ _ _ _ _ _ _ (measured (f .before .before .before .before)) _ (free f) (r .if2 .left) (v .before .if3 .left) _ (v .version-for .ensures) _ _ _ (l .put-body .ensures) _ _
-    (s .seal .ensures)
+    (s .append-checksum .ensures)
 
 pub write-spec : {M : Type 1} → statement M
 write-spec =
     tie.close
     (tie.spec
-    like-requires
+    measured-version-requires
     measure-requires
     is-barred-requires
     same-length
@@ -127,7 +127,7 @@ write-spec =
     returns-3
     version-for-requires
     put-body-requires
-    seal-requires
+    append-checksum-requires
     same-length-4
     same-length-5
     returns-4)

@@ -2,7 +2,8 @@
 use mathlib.Core.Path.{sym, _∙_}
 use Rattle.format.specs.Reader.{readFile}
 use Rattle.hash.specs.Sha1.{sha1}
-use Rattle.file_read.specs.Contents.{bodyOf, inRoom, Contains}
+use Rattle.answers.specs.Answers.{inRoom}
+use Rattle.file_read.specs.Contents.{bodyOf, Contains}
 use Rattle.index.proofs.Views.{check-is}
 use Rattle.index.proofs.Summaries.{check-says}
 use borrow.Author.Needs.{needs}

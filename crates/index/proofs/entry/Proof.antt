@@ -4,7 +4,8 @@ use native.Mathlib.Omega.{arith}
 use Rattle.format.specs.Reader.{readFile}
 use Rattle.format.specs.Places.{entryPlace, namePlace, entryNamePlace}
 use Rattle.hash.specs.Sha1.{sha1}
-use Rattle.file_read.specs.Contents.{bodyOf, inRoom, Contains}
+use Rattle.answers.specs.Answers.{inRoom}
+use Rattle.file_read.specs.Contents.{bodyOf, Contains}
 use Rattle.file_read.proofs.Room.{room-of}
 use Rattle.answers.proofs.Laws.{item-none}
 use Rattle.index.proofs.Views.{pick-none, entry-is, entry-refused}
@@ -81,7 +82,7 @@ returns-3 c =
     let same : namePlace 20 (entryPlace 20 (w .whole2 .given .0 .0 .version) (a .k) (bodyOf (a .file .now))) (bodyOf (a .file .now)) ≡ entryNamePlace 20 (a .k) (a .file .now) =
     name-place _ _ _ h (a .k) in
     rw (← same) (shown-again _ _ (a .file .now) (a .work .now) _ _ _ _ (entry-is _ (a .k) _ _ (h .read) ∙ rw (h .version))
-    (m .show-entry .ensures _ _ _ (h .entries) (t .if1 .left)) (q .read-cleared .ensures .1) room (omega arith))
+    (m .show-entry .ensures _ _ _ (h .entries) (t .if1 .left)) (q .read-cleared .ensures .1) room)
 
 pub entry-spec : {M : Type 1} → statement M
 entry-spec =

@@ -6,7 +6,7 @@ use lib.Seq.{length-take-le}
 use lib.Dec.{eqb}
 use borrow.Author.Tests.{eq-eqb, ne-eqb}
 use Rattle.format.specs.Places.{namePlace}
-use Rattle.entries_run.specs.Steps.{Placed}
+use Rattle.entries_run.specs.Steps.{EntryPlaced}
 use Rattle.file_read.specs.Contents.{bodyOf}
 use Rattle.file_read.proofs.Room.{cleared-by, file-long}
 use Rattle.index.proofs.Views.{pick-none, entry-refused}
@@ -15,10 +15,10 @@ use borrow.Author.Needs.{needs}
 use Rattle.index.proofs.show_entry.Statement.{statement}
 use Rattle.index.proofs.show_entry.Tie as tie
 
--- where the parts of the entry that was sought stand
+-- where the parts of the entry that was sought are
 placed :
     (c : tie.After-sought) →
-    Placed (bodyOf (c .before .before .before .before .before .before .before .before .before .args .file .now)) (c .sought .given .0 .0) (c .sought .given .0 .1 .0)
+    EntryPlaced (bodyOf (c .before .before .before .before .before .before .before .before .before .args .file .now)) (c .sought .given .0 .0) (c .sought .given .0 .1 .0)
 placed c = c .before .before .before .before .seek-entry .ensures .placed _ _ (c .sought .given .1)
 
 sub-n : tie.Need-sub-n
@@ -69,8 +69,7 @@ returns c =
     λ count es n e more.
     let found = rw (s .sought .given .1) at (q .seek-entry .ensures .entry count es n e more) in
     shown-work (a .v) (a .file .now) _ (s .sought .given .0 .0) (s .sought .given .0 .1 .0) _ found _ (t .before .fields-at .ensures) (a .work .now) _ _ (eq-eqb _ _ (t .if1 .taken)) (placed s .short)
-    (q .seek-entry .ensures .long) (st .pre .room)
-    (q .seek-entry .ensures .past) (m .clear-from .ensures)
+    (st .pre .room) (q .seek-entry .ensures .frame) (m .clear-from .ensures)
 
 clear-requires-2 : tie.Need-clear-requires-2
 clear-requires-2 c κs = search needs
@@ -88,7 +87,7 @@ returns-2 c =
     λ count es n e more.
     let none-found = rw (t .enum-told .given .1) at (q .seek-entry .ensures .entry count es n e more) in
     entry-refused 18 0 (a .file .now) _ _ (a .work .now) _ _ (pick-none (eqb (a .v) 4) _ none-found) (c .refused-entry .ensures)
-    (cleared-by (a .work .now) _ _ (st .pre .room) (m .clear .ensures) (q .seek-entry .ensures .past))
+    (cleared-by (a .work .now) _ _ (st .pre .room) (q .seek-entry .ensures .frame) (m .clear .ensures))
 
 same-length-3 : tie.Need-same-length-3
 same-length-3 c = search needs
@@ -104,7 +103,7 @@ returns-3 c =
     λ count es n e more.
     let found = rw (s .sought .given .1) at (q .seek-entry .ensures .entry count es n e more) in
     shown-file (a .v) (a .file .now) _ (s .sought .given .0 .0) (s .sought .given .0 .1 .0) _ found _ (t .before .fields-at .ensures) (a .work .now) _ _ (ne-eqb _ _ (t .if1 .left)) (placed s .name)
-    (cleared-by (a .work .now) _ _ (st .pre .room) (m .clear2 .ensures) (q .seek-entry .ensures .past))
+    (cleared-by (a .work .now) _ _ (st .pre .room) (q .seek-entry .ensures .frame) (m .clear2 .ensures))
     (q .seek-entry .ensures .name _ _ (s .sought .given .1) (ne-eqb _ _ (t .if1 .left))
     ∙ ap (λ (p : ℕ). namePlace 20 p (bodyOf (a .file .now))) (q .seek-entry .ensures .place _ _ (s .sought .given .1)))
 

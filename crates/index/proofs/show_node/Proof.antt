@@ -6,12 +6,12 @@ use native.Mathlib.Omega.{arith}
 use lib.ListN.{length}
 use Rattle.extensions.specs.Heads.{part}
 use Rattle.index.proofs.Views.{node-refused}
-use Rattle.index.proofs.Nodes.{Within, stands, within, no-node-there, node-there, node-parts, places, node-shows}
+use Rattle.index.proofs.Nodes.{Within, item-here, within, no-node-there, node-there, node-parts, places, node-shows}
 use borrow.Author.Needs.{needs}
 use Rattle.index.proofs.show_node.Statement.{statement}
 use Rattle.index.proofs.show_node.Tie as tie
 
--- where the data stand
+-- where the data are
 inside : (c : tie.Else1) → let a = c .before .before .before .args in Within (a .file .now) (a .tree)
 inside c =
     let st = c .before .before .before in
@@ -97,7 +97,7 @@ returns-2 c =
     let t = f .before .before in
     let a = t .before .before .before .args in
     λ o at is placed.
-    stands (a .k) (a .file .now) (a .tree) _ (f .find-node .ensures) o is (t .if1 .left) λ i v there h.
+    item-here (a .k) (a .file .now) (a .tree) _ (f .find-node .ensures) o is (t .if1 .left) λ i v there h.
     absurd (node-there _ _ i (h .taken) (h .reads) (sym (c .before .enum-told .given .1) ∙ q .read-node .ensures))
 
 returns-3 : tie.Need-returns-3
@@ -108,7 +108,7 @@ returns-3 c =
     let t = f .before .before in
     let a = t .before .before .before .args in
     λ o at is placed.
-    stands (a .k) (a .file .now) (a .tree) _ (f .find-node .ensures) o is (t .if1 .left) λ i v there h.
+    item-here (a .k) (a .file .now) (a .tree) _ (f .find-node .ensures) o is (t .if1 .left) λ i v there h.
     node-shows (a .k) (a .file .now) (a .tree) _ at _ i v h (placed there) _ (node-parts _ _ i (h .taken) (h .reads) _ (sym (s .read .given .1) ∙ q .read-node .ensures)) _
     (c .node-object .ensures)
 

@@ -1,12 +1,12 @@
 -- The proof that `show_record` meets its contract.
 use native.Mathlib.Omega.{arith}
 use Rattle.index.proofs.Views.{undo-refused}
-use Rattle.index.proofs.Records.{Within, stands, within, no-record-there, undo-shows}
+use Rattle.index.proofs.Records.{Within, record-here, within, no-record-there, undo-shows}
 use borrow.Author.Needs.{needs}
 use Rattle.index.proofs.show_record.Statement.{statement}
 use Rattle.index.proofs.show_record.Tie as tie
 
--- where the data stand
+-- where the data are
 inside : (c : tie.Else1) → let a = c .before .before .before .args in Within (a .file .now) (a .undo)
 inside c =
     let st = c .before .before .before in
@@ -54,7 +54,7 @@ returns-2 c =
     let t = f .before .before in
     let a = t .before .before .before .args in
     λ o at is placed.
-    stands (a .k) (a .file .now) (a .undo) _ (f .find-undo .ensures) o is (t .if1 .left) λ u v there h.
+    record-here (a .k) (a .file .now) (a .undo) _ (f .find-undo .ensures) o is (t .if1 .left) λ u v there h.
     undo-shows (a .k) (a .file .now) (a .undo) _ at _ u v h (placed there) _ (q .show-undo .ensures .0 0) (q .show-undo .ensures .1)
 
 pub show-record-spec : {M : Type 1} → statement M

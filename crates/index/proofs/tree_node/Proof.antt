@@ -1,7 +1,8 @@
 -- The proof that `tree_node` meets its contract.
 use Rattle.format.specs.Reader.{readFile}
 use Rattle.hash.specs.Sha1.{sha1}
-use Rattle.file_read.specs.Contents.{bodyOf, inRoom, Contains}
+use Rattle.answers.specs.Answers.{inRoom}
+use Rattle.file_read.specs.Contents.{bodyOf, Contains}
 use Rattle.index.proofs.Views.{node-is, node-refused}
 use Rattle.index.proofs.Places.{node-place}
 use borrow.Author.Needs.{needs}

@@ -1,7 +1,8 @@
 -- The proof that `undo_record` meets its contract.
 use Rattle.format.specs.Reader.{readFile}
 use Rattle.hash.specs.Sha1.{sha1}
-use Rattle.file_read.specs.Contents.{bodyOf, inRoom, Contains}
+use Rattle.answers.specs.Answers.{inRoom}
+use Rattle.file_read.specs.Contents.{bodyOf, Contains}
 use Rattle.index.proofs.Views.{undo-is, undo-refused}
 use Rattle.index.proofs.Places.{undo-place}
 use borrow.Author.Needs.{needs}

@@ -1,82 +1,43 @@
 -- The proof that `rewrite` meets its contract.
 use native.Mathlib.Omega.{arith}
-use lib.ListN.{length}
-use Rattle.format.specs.Bytes.{Bytes}
-use Rattle.format.specs.Reader.{readFile}
 use Rattle.hash.specs.Sha1.{sha1}
 use Rattle.hash.proofs.Bytes.{length-sha1}
-use Rattle.writing.specs.OneFile.{WritesBack}
 use Rattle.answers.specs.Writing.{rewriteAnswer}
-use Rattle.file_read.specs.Contents.{bodyOf, inRoom, Contains}
-use Rattle.index_write.proofs.Answers.{call-refused, call-opened, call-answered}
 use Rattle.demands.proofs.Written.{rewritten}
 use borrow.Author.Needs.{needs}
 use Rattle.index_write.proofs.rewrite.Statement.{statement}
 use Rattle.index_write.proofs.rewrite.Tie as tie
 
--- the file is accepted
-accepted :
-    (c : tie.After-whole2) →
-    let a = c .before .before .before .before .before .before .before .before .before .args in
-    Contains (inRoom (a .work .now) (readFile 20 sha1 (a .file .now))) (bodyOf (a .file .now)) (c .whole2 .given .0 .0)
-accepted c = rw (c .whole2 .given .1) at (c .before .before .before .before .read-cleared .ensures .0)
+slice-aggregate-save : tie.Need-slice-aggregate-save
+slice-aggregate-save c = search needs
 
--- what is written is the one file of the result's records
-back :
-    (c : tie.After-read-cleared) →
-    let a = c .before .before .before .before .before .args in
-    WritesBack 20 sha1 (a .file .now) (a .asked) (λ q. q) (rewriteAnswer 20 sha1 (a .work .now) (a .asked) (length (a .out .now)) (readFile 20 sha1 (a .file .now)))
-back c =
-    let known = c .before .before .before .before in
-    let a = known .before .args in
-    let bytes : Bytes (a .file .now) = λ i. omega (arith, known .shared-slice-known .given i) in
-    rewritten 20 sha1 (a .work .now) length-sha1 (a .file .now) (a .asked) _ bytes
+no-fields-requires : tie.Need-no-fields-requires
+no-fields-requires c κs = search needs
 
-read-cleared-requires : tie.Need-read-cleared-requires
-read-cleared-requires c κs = search needs
-
-enum-known-whole : tie.Need-enum-known-whole
-enum-known-whole c = search needs
-
-enum-known-whole-2 : tie.Need-enum-known-whole-2
-enum-known-whole-2 c = search needs
-
-rewrite-read-requires : tie.Need-rewrite-read-requires
-rewrite-read-requires c κs = let w = c .before .before .before in call-opened _ _ _ (w .before .before .before .before .read-cleared .ensures .1) _ (accepted w)
+save-requires : tie.Need-save-requires
+save-requires c κs = (omega arith, rw (c .no-fields .ensures) (omega arith))
 
 same-length : tie.Need-same-length
 same-length c = search needs
 
-returns : tie.Need-returns
-unfolding rewriteAnswer
-returns c =
-    let q = c .before .before .before .before .before in
-    record { writes = call-refused _ _ _ (q .read-cleared .ensures .1) _ _ _ _ (rw (c .before .whole .given .1) at (q .read-cleared .ensures .0)); back = back q }
-
 same-length-2 : tie.Need-same-length-2
 same-length-2 c = search needs
 
-same-length-3 : tie.Need-same-length-3
-same-length-3 c = search needs
-
-returns-2 : tie.Need-returns-2
+returns : tie.Need-returns
 unfolding rewriteAnswer
-returns-2 c =
+returns c =
     let r = c .before .before .before .before in
-    let w = r .before .before .before .before in
-    let q = w .before .before .before .before in
-    record { writes = call-answered _ _ _ (q .read-cleared .ensures .1) _ (accepted w) _ _ _ _ _ (r .rewrite-read .ensures); back = back q }
+    let k = r .before .before .before .before .before .before .before in
+    let a = k .before .args in
+    record { writes = r .save .ensures; back = rewritten 20 sha1 (a .work .now) length-sha1 (a .file .now) (a .asked) _ (λ i. omega (arith, k .shared-slice-known .given i)) }
 
 pub rewrite-spec : {M : Type 1} → statement M
 rewrite-spec =
     tie.close
     (tie.spec
-    read-cleared-requires
-    enum-known-whole
-    enum-known-whole-2
-    rewrite-read-requires
+    slice-aggregate-save
+    no-fields-requires
+    save-requires
     same-length
-    returns
     same-length-2
-    same-length-3
-    returns-2)
+    returns)

@@ -1,4 +1,4 @@
--- The proof that `show_undo` meets its contract: the record is read by itself, and its object names stand at its end.
+-- The proof that `show_undo` meets its contract: the record is read by itself, and its object names are at its end.
 use mathlib.Core.Path.{sym, _∙_}
 use Prim.Native.Nat.{_+_, _≤_, zero-le}
 use native.Mathlib.Omega.{arith}

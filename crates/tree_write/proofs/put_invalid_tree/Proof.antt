@@ -23,8 +23,8 @@ enum-known-read c = search needs
 put-invalid-requires : tie.Need-put-invalid-requires
 put-invalid-requires c κs = (c .before .before .before .before .before .before .before .before .pre, here-of (c .before))
 
-put-way-requires : tie.Need-put-way-requires
-put-way-requires c κs =
+put-path-requires : tie.Need-put-path-requires
+put-path-requires c κs =
     let put = c .before .before .before in
     let k = put .before .before in
     let p = k .before .before .before .before .before .before .before .pre in
@@ -42,11 +42,11 @@ same-length c = search needs
 
 returns-2 : tie.Need-returns-2
 returns-2 c =
-    let way = c .before .before in
-    let put = way .before .before .before .before in
+    let touched = c .before .before in
+    let put = touched .before .before .before .before in
     let k = put .before .before in
     let short = put .put-invalid .ensures .short in
-    let rest = way .put-way .ensures in
+    let rest = touched .put-path .ensures in
     let further = rest .short in
     record {
       wrote = λ t m q differ. whole-invalid _ t m q _ (here-of k) differ _ _ _ _ _ _ _ (put .put-invalid .ensures) rest;
@@ -61,7 +61,7 @@ put-invalid-tree-spec =
     enum-told
     enum-known-read
     put-invalid-requires
-    put-way-requires
+    put-path-requires
     returns
     same-length
     returns-2)

@@ -1,7 +1,6 @@
--- The proof that `put_trees` meets its contract. The loop keeps the trees that are still to write as one list of siblings; each node takes a byte
--- or more, so their number stays far below 2 ^ 64.
+-- The proof that `put_trees` meets its contract. The loop keeps the trees that are still to write as one list of siblings.
 use mathlib.Core.Path.{_≡_, refl, sym, _∙_}
-use Prim.Native.Nat.{ℕ, _+_, _*_, _-_, _≤_}
+use Prim.Native.Nat.{ℕ, _+_, _-_, _≤_}
 use native.Mathlib.Omega.{arith}
 use borrow.Author.Needs.{needs}
 use lib.ListN.{length, drop}
@@ -9,32 +8,32 @@ use Rattle.format.specs.Records.{Forest}
 use Rattle.format.specs.Writer.{writeForest}
 use Rattle.tree_nodes.specs.Flat.{treesLength, Reads}
 use Rattle.tree_nodes.proofs.Nodes.{node-is}
-use Rattle.tree_nodes.proofs.Flat.{trees-end, trees-more, trees-stop}
+use Rattle.tree_nodes.proofs.Flat.{FlatPass, flat-start, flat-more, flat-less, trees-end, trees-more, trees-stop}
 use Rattle.tree_write.specs.Written.{NodeHere}
-use Rattle.tree_write.proofs.Trees.{Left, left-start, left-end, left-stop, left-on}
+use Rattle.tree_write.proofs.Trees.{TreesToWrite, left-start, left-end, left-stop, left-on}
 use Rattle.tree_write.proofs.put_trees.Statement.{statement}
 use Rattle.tree_write.proofs.put_trees.Tie as tie
 
 abbrev Inv-loop : tie.InvT-loop
 Inv-loop d start n out₀ at place₀ end₀ pending₀ out place end pending =
-    (start ≤ place) × (place ≤ length d) × (pending ≤ n + (place - start) * 4294967296) × (end + start ≤ at + place) × (length out ≡ length out₀)
+    FlatPass d start n place pending × (end + start ≤ at + place) × (length out ≡ length out₀)
     × (start + treesLength n (drop start d) ≡ place + treesLength pending (drop place d))
-    × ((f : Forest) (m : ℕ) → Reads (drop start d) f n m → Left d out₀ at (writeForest f) place pending out end)
+    × ((f : Forest) (m : ℕ) → Reads (drop start d) f n m → TreesToWrite d out₀ at (writeForest f) place pending out end)
 
 abbrev μ-loop : tie.MeasureT-loop
 μ-loop d start n out₀ at place₀ end₀ pending₀ out place end pending = length d - place
 
 loop-holds : tie.Need-loop-holds Inv-loop μ-loop
-loop-holds c = (omega arith, c .before .before .pre .0 .inside, omega arith, omega arith, refl, refl, λ f m r. left-start _ _ _ _ _ f m r)
+loop-holds c = (flat-start _ _ _ (c .before .before .pre .0 .inside), omega arith, refl, refl, λ f m r. left-start _ _ _ _ _ f m r)
 
 read-node-requires : tie.Need-read-node-requires Inv-loop μ-loop
-read-node-requires c κs = search needs
+read-node-requires c κs = c .before .loop .inv .0 .inside
 
 enum-told : tie.Need-enum-told Inv-loop μ-loop
 enum-told c = search needs
 
 same-length : tie.Need-same-length Inv-loop μ-loop
-same-length c = c .before .before .before .before .loop .inv .4
+same-length c = c .before .before .before .before .loop .inv .2
 
 returns : tie.Need-returns Inv-loop μ-loop
 returns c =
@@ -42,8 +41,8 @@ returns c =
     let some = c .before .before .before .loop-test .taken in
     let none = sym (c .enum-told .given .1) ∙ c .before .before .read-node .ensures in
     record {
-      wrote = λ f m r. left-stop _ _ _ _ _ _ _ _ (l .loop .inv .6 f m r) some none;
-      ended = sym (l .loop .inv .5 ∙ trees-stop _ _ _ some (l .loop .inv .1) none);
+      wrote = λ f m r. left-stop _ _ _ _ _ _ _ _ (l .loop .inv .4 f m r) some none;
+      ended = sym (l .loop .inv .3 ∙ trees-stop _ _ _ some (l .loop .inv .0 .inside) none);
       within = omega arith;
       short = omega arith;
     }
@@ -57,7 +56,7 @@ node-of c = record { read = sym (c .before .read .given .1) ∙ c .before .befor
 put-node-requires : tie.Need-put-node-requires Inv-loop μ-loop
 put-node-requires c κs =
     let l = c .before .before .before .before .before .before in
-    (record { inside = l .loop .inv .1; few = omega arith; near = omega arith }, node-of (c .before))
+    (record { inside = l .loop .inv .0 .inside; few = omega arith; near = omega arith }, node-of (c .before))
 
 sub-pending : tie.Need-sub-pending Inv-loop μ-loop
 sub-pending c = omega arith
@@ -66,17 +65,13 @@ cast-pending : tie.Need-cast-pending Inv-loop μ-loop
 cast-pending c = omega (arith, c .struct-known .given)
 
 add-pending : tie.Need-add-pending Inv-loop μ-loop
-add-pending c = omega (arith, c .struct-known .given)
+add-pending c = let p = c .before .before .before .before .before .before .before .before .before .before .loop .inv .0 in omega (arith, p .few, p .inside, c .struct-known .given)
 
 loop-less : tie.Need-loop-less Inv-loop μ-loop
 loop-less c =
     let k = c .before .before .before .before .before in
     let l = k .before .before .before .before .before in
-    let is = node-is _ _ (l .loop .inv .1) _ (node-of k .read) in
-    let within = is .within in
-    let named = is .named in
-    let ended = is .ended in
-    omega arith
+    flat-less _ _ _ _ _ (l .loop .inv .0) _ (node-is _ _ (l .loop .inv .0 .inside) _ (node-of k .read))
 
 loop-again : tie.Need-loop-again Inv-loop μ-loop
 loop-again c =
@@ -84,33 +79,30 @@ loop-again c =
     let k = put .before .before in
     let l = k .before .before .before .before .before in
     let some = k .before .before .before .before .loop-test .taken in
-    let is = node-is _ _ (l .loop .inv .1) _ (node-of k .read) in
-    let within = is .within in
+    let is = node-is _ _ (l .loop .inv .0 .inside) _ (node-of k .read) in
     let named = is .named in
     let ended = is .ended in
     let short = put .put-node .ensures .short in
     let long = put .put-node .ensures .wrote (is .head) _ (is .reads) .long in (
+      flat-more _ _ _ _ _ (l .loop .inv .0) _ is (omega (arith, c .struct-known .given)),
       omega arith,
-      within,
-      omega (arith, c .struct-known .given),
-      omega arith,
-      long ∙ l .loop .inv .4,
-      l .loop .inv .5 ∙ trees-more _ _ _ some _ is,
-      λ f m r. left-on _ _ _ _ _ _ _ _ (l .loop .inv .6 f m r) some _ (node-of k) _ _ (put .put-node .ensures),
+      long ∙ l .loop .inv .2,
+      l .loop .inv .3 ∙ trees-more _ _ _ some _ is,
+      λ f m r. left-on _ _ _ _ _ _ _ _ (l .loop .inv .4 f m r) some _ (node-of k) _ _ (put .put-node .ensures),
     )
 
 same-length-2 : tie.Need-same-length-2 Inv-loop μ-loop
-same-length-2 c = c .before .loop .inv .4
+same-length-2 c = c .before .loop .inv .2
 
 returns-2 : tie.Need-returns-2 Inv-loop μ-loop
 returns-2 c =
     let l = c .before in
     let none = c .loop-test .left in
     record {
-      wrote = λ f m r. left-end _ _ _ _ _ _ _ _ (l .loop .inv .6 f m r) none;
-      ended = sym (l .loop .inv .5 ∙ trees-end _ _ _ none);
-      within = l .loop .inv .1;
-      short = l .loop .inv .3;
+      wrote = λ f m r. left-end _ _ _ _ _ _ _ _ (l .loop .inv .4 f m r) none;
+      ended = sym (l .loop .inv .3 ∙ trees-end _ _ _ none);
+      within = l .loop .inv .0 .inside;
+      short = l .loop .inv .1;
     }
 
 pub put-trees-spec : {M : Type 1} → statement M

@@ -2,7 +2,8 @@
 use mathlib.Core.Path.{sym}
 use Rattle.format.specs.Reader.{readFile}
 use Rattle.hash.specs.Sha1.{sha1}
-use Rattle.file_read.specs.Contents.{bodyOf, inRoom, Contains}
+use Rattle.answers.specs.Answers.{inRoom}
+use Rattle.file_read.specs.Contents.{bodyOf, Contains}
 use Rattle.walk.proofs.Starts.{start-is, starts-four, starts-ready}
 use borrow.Author.Needs.{needs}
 use Rattle.walk.proofs.start.Statement.{statement}

@@ -9,7 +9,7 @@ use Rattle.format.specs.Places.{bodyIn}
 use Rattle.walk.specs.declared.Sight.the-variants.{Found}
 use Rattle.walk.specs.Walks.{walkRead}
 use Rattle.walk.specs.Sights.{Sees}
-use Rattle.walk.proofs.Seeing.{found-stands, body-long, step-refused, step-shows, place-stays, place-moves}
+use Rattle.walk.proofs.Seeing.{found-parts, body-long, step-refused, step-shows, place-stays, place-moves}
 use Rattle.walk.proofs.step_at.Statement.{statement}
 use Rattle.walk.proofs.step_at.Tie as tie
 
@@ -42,14 +42,14 @@ sub-n c = omega (arith, body-long _ _ _ _ _ _ (seen (c .before)))
 add-name : tie.Need-add-name
 add-name c =
     let k = c .before .before in
-    let t = found-stands _ _ _ _ _ _ (seen k) in
+    let t = found-parts _ _ _ _ _ _ (seen k) in
     let l = body-long _ _ _ _ _ _ (seen k) in
     search needs
 
 add-end : tie.Need-add-end
 add-end c =
     let k = c .before .before in
-    let t = found-stands _ _ _ _ _ _ (seen k) in
+    let t = found-parts _ _ _ _ _ _ (seen k) in
     let l = body-long _ _ _ _ _ _ (seen k) in
     search needs
 
@@ -59,7 +59,7 @@ slice-aggregate-fields-at c =
     sym (length-take-le (length f - 20) f (omega arith))
 
 fields-at-requires : tie.Need-fields-at-requires
-fields-at-requires c κs = found-stands _ _ _ _ _ _ (seen (c .before .before .before)) .fixed
+fields-at-requires c κs = found-parts _ _ _ _ _ _ (seen (c .before .before .before)) .fixed
 
 returns : tie.Need-returns
 returns c =

@@ -21,7 +21,7 @@ pub struct Request {
 }
 
 impl Request {
-    /// The calls' request on a file whose tree has so many levels.
+    /// The calls' request on a file whose tree has the given number of levels.
     pub fn new(case: &Case, levels: usize) -> Result<Self, String> {
         let mut work = vec![0; ffi::WORKSPACE];
         let counts = ffi::check(&case.bytes, &mut work);

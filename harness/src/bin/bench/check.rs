@@ -92,7 +92,7 @@ fn measure(version: u32, most_bytes: usize) -> Result<Vec<Row>, String> {
     Ok(rows)
 }
 
-/// The median seconds of both checks, and of our SHA-1 and plain Rust's over what stands before the checksum.
+/// The median seconds of both checks, and of our SHA-1 and plain Rust's over what is before the checksum.
 fn medians(file: &[u8]) -> Result<[f64; 4], String> {
     let (body, _) = file.split_at(file.len() - ffi::DIGEST);
     let (mut work, mut simple_work) = (vec![0; ffi::WORKSPACE], vec![0; ffi::WORKSPACE]);

@@ -8,7 +8,7 @@ use harness::{ffi, timing};
 use std::cell::{Cell, RefCell};
 
 const ENTRIES: u32 = 100_000;
-/// Every so many entries of a walk are compared with those that entry k shows.
+/// Every entry whose number this divides is compared in a walk with those that entry k shows.
 const STRIDE: u32 = 1000;
 
 pub fn figures() -> Result<Part, String> {
@@ -117,7 +117,7 @@ fn walk_and_entries(file: &[u8]) -> Result<[f64; 3], String> {
     )
 }
 
-/// Walks to the end, and keeps every so many entries.
+/// Walks to the end, and keeps some of the entries.
 fn steps(file: &[u8], start: StartReply) -> Vec<(Name, Fields)> {
     let mut kept = Vec::new();
     let (mut at, mut left) = (start.at, start.left);

@@ -13,13 +13,13 @@ pub const TEXT: &str = "Check by the levels of the tree: on a plain file, with o
 pub const SHORT: usize = 1 << 16;
 /// The levels of the trees.
 pub const LEVELS: [usize; 8] = [1, 2, 4, 8, 16, 32, 64, hostile::LEVELS];
-/// Trees of at most so many levels are shallow.
+/// Trees of at most the given number of levels are shallow.
 pub const SHALLOW: usize = 16;
 /// How many KiB a call shall take at most, on any file and on one with a shallow tree.
 pub const AIM: f64 = 64.0;
 pub const SHALLOW_AIM: f64 = 32.0;
 
-/// Check's bytes of stack on a tree of so many levels: on a plain file, and on the file that takes most.
+/// Check's bytes of stack on a tree of the given number of levels: on a plain file, and on the file that takes most.
 pub struct Level {
     levels: usize,
     plain: usize,

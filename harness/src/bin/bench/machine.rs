@@ -49,7 +49,7 @@ fn linux() -> String {
     numbers.join(".")
 }
 
-/// What stands after the mark in the first line of a file that begins with a key, without quotes.
+/// What is after the mark in the first line of a file that begins with a key, without quotes.
 fn value(file: &str, key: &str, mark: char) -> Option<String> {
     let text = fs::read_to_string(file).ok()?;
     let line = text.lines().find(|line| line.starts_with(key))?;

@@ -13,7 +13,7 @@ pub const GREY: &str = "#666666";
 
 pub struct Panel {
     pub title: &'static str,
-    /// What stands below the axis that goes across, and how it is spaced.
+    /// What is below the axis that goes across, and how it is spaced.
     pub across: &'static str,
     pub spacing: Spacing,
     /// The unit of the values upwards.
@@ -23,7 +23,7 @@ pub struct Panel {
 }
 
 pub struct Line {
-    /// What stands at its end, before the last value.
+    /// What is at its end, before the last value.
     pub name: &'static str,
     pub legend: &'static str,
     pub colour: &'static str,

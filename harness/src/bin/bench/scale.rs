@@ -1,4 +1,4 @@
-//! Where values stand on an axis, and which of them are marked.
+//! Where values are on an axis, and which of them are marked.
 
 /// How an axis is spaced: evenly, or so that each doubling takes the same room.
 #[derive(Clone, Copy)]
@@ -7,7 +7,7 @@ pub enum Spacing {
     Doubling,
 }
 
-/// An axis: values from one end to the other, and where these ends stand in the drawing.
+/// An axis: values from one end to the other, and where these ends are in the drawing.
 pub struct Scale {
     pub spacing: Spacing,
     pub values: (f64, f64),

@@ -1,6 +1,6 @@
 //! A drawing in SVG.
 
-/// What a text stands before, around or after.
+/// What a text is before, around or after.
 #[derive(Clone, Copy)]
 pub enum Anchor {
     Start,

@@ -22,7 +22,7 @@ impl Table {
     }
 }
 
-/// The first column stands left, the others right.
+/// The first column is aligned left, the others right.
 impl fmt::Display for Table {
     fn fmt(&self, f: &mut fmt::Formatter) -> fmt::Result {
         let widths: Vec<usize> = (0..self.0[0].len()).map(|k| self.width(k)).collect();

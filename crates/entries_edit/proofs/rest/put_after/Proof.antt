@@ -1,12 +1,12 @@
 -- The proof that `put_after` meets its contract.
-use mathlib.Core.Bool.{false}
 use Prim.Native.Nat.{_<_}
 use native.Mathlib.Omega.{arith}
 use borrow.Author.Needs.{needs}
-use Rattle.entries_edit.proofs.Rests.{after-none, others-refused, after-kept, after-laid}
+use Rattle.entries_edit.proofs.Rests.{after-none, after-kept, after-written}
 use Rattle.entries_edit.proofs.rest.put_after.Statement.{statement}
 use Rattle.entries_edit.proofs.rest.put_after.Tie as tie
-use Rattle.entries_write.proofs.Stepping.{readable-again, readable-next, step-found, step-room}
+use Rattle.entries_run.proofs.Steps.{readable-again, readable-never, readable-next}
+use Rattle.entries_write.proofs.Stepping.{step-found, step-room}
 
 returns : tie.Need-returns
 returns c =
@@ -55,9 +55,7 @@ returns-2 : tie.Need-returns-2
 returns-2 c =
     let read = c .before .before .before .before in
     let start = read .before .before .before .before .before .before .before in
-    let a = start .args in
-    let t = rw (c .enum-told .given .1) at (readable-again (start .pre .4) (some read) _ (read .pass-entry .ensures)) in
-    others-refused (a .n) (a .version) (a .out .now) (a .at) (omega arith) t false (a .name .now)
+    readable-never (start .pre .4) (some read) _ (rw (c .enum-told .given .1) at (read .pass-entry .ensures))
 
 same-length-2 : tie.Need-same-length-2
 same-length-2 c = search needs
@@ -74,7 +72,7 @@ returns-3 c =
     let start = read .before .before .before .before .before .before .before in
     let a = start .args in
     let t = rw (known .g .given .1) at (readable-again (start .pre .4) (some read) _ (read .pass-entry .ensures)) in
-    after-laid (a .n) (a .version) (a .out .now) (a .at) (some read) t (a .name .now) (shared .common-at .ensures) (put .put-stepped .ensures)
+    after-written (a .n) (a .version) (a .out .now) (a .at) (some read) t (a .name .now) (shared .common-at .ensures) (put .put-stepped .ensures)
 
 pub put-after-spec : {M : Type 1} → statement M
 put-after-spec =

@@ -2,10 +2,11 @@
 use Prim.Native.Nat.{_<_}
 use native.Mathlib.Omega.{arith}
 use borrow.Author.Needs.{needs}
-use Rattle.entries_edit.proofs.Rests.{past-none, past-refused, past-kept, past-laid}
+use Rattle.entries_edit.proofs.Rests.{past-none, past-kept, past-written}
 use Rattle.entries_edit.proofs.rest.put_past.Statement.{statement}
 use Rattle.entries_edit.proofs.rest.put_past.Tie as tie
-use Rattle.entries_write.proofs.Stepping.{readable-again, readable-next, step-found, step-room}
+use Rattle.entries_run.proofs.Steps.{readable-again, readable-never, readable-next}
+use Rattle.entries_write.proofs.Stepping.{step-found, step-room}
 
 returns : tie.Need-returns
 returns c =
@@ -49,9 +50,7 @@ returns-2 : tie.Need-returns-2
 returns-2 c =
     let read = c .before .before .before .before in
     let start = read .before .before .before .before .before .before in
-    let a = start .args in
-    let t = rw (c .enum-told .given .1) at (readable-again (start .pre .5) (some read) _ (read .pass-entry .ensures)) in
-    past-refused (a .n) (a .version) (a .out .now) (a .at) (omega arith) t _ _
+    readable-never (start .pre .5) (some read) _ (rw (c .enum-told .given .1) at (read .pass-entry .ensures))
 
 same-length-2 : tie.Need-same-length-2
 same-length-2 c = search needs
@@ -68,7 +67,7 @@ returns-3 c =
     let start = read .before .before .before .before .before .before in
     let a = start .args in
     let t = rw (known .g .given .1) at (readable-again (start .pre .5) (some read) _ (read .pass-entry .ensures)) in
-    past-laid (a .n) (a .version) (a .out .now) (a .at) (some read) t (a .previous) (a .kept) (shared .least .ensures) (put .put-stepped .ensures)
+    past-written (a .n) (a .version) (a .out .now) (a .at) (some read) t (a .previous) (a .kept) (shared .least .ensures) (put .put-stepped .ensures)
 
 pub put-past-spec : {M : Type 1} → statement M
 put-past-spec =

@@ -1,10 +1,11 @@
 -- The proof that `put_removed` meets its contract.
 use native.Mathlib.Omega.{arith}
 use borrow.Author.Needs.{needs}
-use Rattle.entries_edit.proofs.Rests.{removed-refused, removed-laid}
+use Rattle.entries_edit.proofs.Rests.{removed-written}
 use Rattle.entries_edit.proofs.rest.put_removed.Statement.{statement}
 use Rattle.entries_edit.proofs.rest.put_removed.Tie as tie
-use Rattle.entries_write.proofs.Stepping.{readable-again, readable-next, step-found, step-room, step-common}
+use Rattle.entries_run.proofs.Steps.{readable-again, readable-never, readable-next}
+use Rattle.entries_write.proofs.Stepping.{step-found, step-room, step-common}
 
 pass-entry-requires : tie.Need-pass-entry-requires
 pass-entry-requires c κs = search needs
@@ -34,9 +35,7 @@ returns : tie.Need-returns
 returns c =
     let read = c .before .before .before .before in
     let start = read .before .before .before .before .before in
-    let a = start .args in
-    let t = rw (c .enum-told .given .1) at (readable-again (start .pre .4) (start .pre .3) _ (read .pass-entry .ensures)) in
-    removed-refused (a .n) (a .version) (a .out .now) (a .at) (omega arith) t
+    readable-never (start .pre .4) (start .pre .3) _ (rw (c .enum-told .given .1) at (read .pass-entry .ensures))
 
 same-length-2 : tie.Need-same-length-2
 same-length-2 c = search needs
@@ -52,7 +51,7 @@ returns-2 c =
     let start = read .before .before .before .before .before in
     let a = start .args in
     let t = rw (known .g .given .1) at (readable-again (start .pre .4) (start .pre .3) _ (read .pass-entry .ensures)) in
-    removed-laid (a .n) (a .version) (a .out .now) (a .at) (omega arith) t (start .pre .2) (start .pre .1) (put .put-past .ensures)
+    removed-written (a .n) (a .version) (a .out .now) (a .at) (omega arith) t (start .pre .2) (start .pre .1) (put .put-past .ensures)
 
 pub put-removed-spec : {M : Type 1} → statement M
 put-removed-spec =

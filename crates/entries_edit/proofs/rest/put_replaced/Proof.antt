@@ -1,11 +1,11 @@
 -- The proof that `put_replaced` meets its contract.
-use mathlib.Core.Bool.{true}
 use native.Mathlib.Omega.{arith}
 use borrow.Author.Needs.{needs}
-use Rattle.entries_edit.proofs.Rests.{others-refused, replaced-laid}
+use Rattle.entries_edit.proofs.Rests.{replaced-written}
 use Rattle.entries_edit.proofs.rest.put_replaced.Statement.{statement}
 use Rattle.entries_edit.proofs.rest.put_replaced.Tie as tie
-use Rattle.entries_write.proofs.Stepping.{readable-again, readable-next, step-found, step-room}
+use Rattle.entries_run.proofs.Steps.{readable-again, readable-never, readable-next}
+use Rattle.entries_write.proofs.Stepping.{step-found, step-room}
 
 pass-entry-requires : tie.Need-pass-entry-requires
 pass-entry-requires c κs = search needs
@@ -34,9 +34,7 @@ returns : tie.Need-returns
 returns c =
     let read = c .before .before .before .before in
     let start = read .before .before .before .before .before in
-    let a = start .args in
-    let t = rw (c .enum-told .given .1) at (readable-again (start .pre .4) (start .pre .3) _ (read .pass-entry .ensures)) in
-    others-refused (a .n) (a .version) (a .out .now) (a .at) (omega arith) t true
+    readable-never (start .pre .4) (start .pre .3) _ (rw (c .enum-told .given .1) at (read .pass-entry .ensures))
 
 same-length-2 : tie.Need-same-length-2
 same-length-2 c = search needs
@@ -52,7 +50,7 @@ returns-2 c =
     let start = read .before .before .before .before .before in
     let a = start .args in
     let t = rw (known .g .given .1) at (readable-again (start .pre .4) (start .pre .3) _ (read .pass-entry .ensures)) in
-    replaced-laid (a .n) (a .version) (a .out .now) (a .at) (omega arith) t (put .put-entries .ensures)
+    replaced-written (a .n) (a .version) (a .out .now) (a .at) (omega arith) t (put .put-entries .ensures)
 
 pub put-replaced-spec : {M : Type 1} → statement M
 put-replaced-spec =

@@ -1,7 +1,7 @@
 -- The proof that `put_stepped` meets its contract.
 use native.Mathlib.Omega.{arith}
 use borrow.Author.Needs.{needs}
-use Rattle.entries_edit.proofs.Rests.{step-laid}
+use Rattle.entries_edit.proofs.Rests.{step-written}
 use Rattle.entries_edit.proofs.rest.put_stepped.Statement.{statement}
 use Rattle.entries_edit.proofs.rest.put_stepped.Tie as tie
 
@@ -26,7 +26,7 @@ returns c =
     let one = rest .before .before .before .before .before in
     let start = one .before .before .before .before .before .before in
     let a = start .args in
-    step-laid (a .v) (a .b .now) (a .work .now) (a .from) (a .st) (one .put-step .ensures) (rest .put-entries .ensures) (c .either .ensures) (omega arith)
+    step-written (a .v) (a .b .now) (a .work .now) (a .from) (a .st) (one .put-step .ensures) (rest .put-entries .ensures) (c .either .ensures) (omega arith)
 
 pub put-stepped-spec : {M : Type 1} → statement M
 put-stepped-spec =

@@ -28,7 +28,7 @@ signed c = sym (c .before .before .before .same .ensures) ∙ not-false _ (c .if
 known : (c : tie.Else4) → isVersion (c .before .before .before .read32 .result) ≡ true
 known c = sym (c .before .before .version-ok .ensures) ∙ not-false _ (c .if4 .left)
 
--- the last 20 bytes are compared with the digest of what stands before them
+-- the last 20 bytes are compared with the digest of what is before them
 compared : (c : tie.After-same2) →
     let f = c .before .before .before .before .before .before .before .before .before .before .before .before .before .before .before .args .file .now in
     c .same2 .result ≡ eqList (drop (length f - 20) f) (sha1 (take (length f - 20) f))
@@ -98,16 +98,9 @@ returns-5 c =
 read32-requires-2 : tie.Need-read32-requires-2
 read32-requires-2 c κs = search needs
 
-slice-aggregate-seed-of : tie.Need-slice-aggregate-seed-of
-slice-aggregate-seed-of c = search needs
-
-seed-of-requires : tie.Need-seed-of-requires
-seed-of-requires c κs = search needs
-
 returns-6 : tie.Need-returns-6
 returns-6 c =
-    let k = c .before .before in
-    let d = k .before in
+    let d = c .before in
     let m = d .before .before .before .before .before .before in
     let f = m .before .before .before .before .before .before .before .before .before .before .args .file .now in
     let s = sized (m .before .before) in
@@ -117,7 +110,7 @@ returns-6 c =
       short = s .short;
       least = least;
       most = most;
-      counted = k .read322 .ensures ∙ sym (be32-take f (length f - 20) 8 (omega (arith, s)));
+      counted = c .read322 .ensures ∙ sym (be32-take f (length f - 20) 8 (omega (arith, s)));
       read = file-body 20 sha1 _ _ s (signed (m .before)) (known m) (sym (compared (d .before)) ∙ not-false _ (d .if5 .left));
     }
 
@@ -144,6 +137,4 @@ read-header-spec =
     same-requires-2
     returns-5
     read32-requires-2
-    slice-aggregate-seed-of
-    seed-of-requires
     returns-6)

@@ -34,7 +34,7 @@ put-cache-tree-requires c κs =
     let h = e .before .before .before .before .before in
     let st = h .before .before .before .before .before .before .before in
     let p = st .pre in
-    (p .room .most, omega (arith, e .put-edited .ensures .near, header-end h, p .few), (p .records .cacheTree, p .has .tree, p .has .differ))
+    (p .room .most, omega (arith, e .put-edited .ensures .bounds .near, header-end h, p .few), (p .records .cacheTree, p .has .tree, p .has .differ))
 
 put-resolve-undo-requires : tie.Need-put-resolve-undo-requires
 put-resolve-undo-requires c κs =
@@ -43,7 +43,7 @@ put-resolve-undo-requires c κs =
     let h = e .before .before .before .before .before in
     let st = h .before .before .before .before .before .before .before in
     let p = st .pre in
-    (p .room .most, omega (arith, t .put-cache-tree .ensures .1, e .put-edited .ensures .near, header-end h, p .few), (p .records .resolveUndo, p .has .undo))
+    (p .room .most, omega (arith, t .put-cache-tree .ensures .1, e .put-edited .ensures .bounds .near, header-end h, p .few), (p .records .resolveUndo, p .has .undo))
 
 same-length : tie.Need-same-length
 same-length c = search needs
@@ -64,14 +64,13 @@ returns c =
     record {
       wrote = λ r has there.
           let count = count-is x (a .edit) (a .parts) r (has .counted) (p .reach) (h .before .count-after .result) (h .before .count-after .ensures) in
-          body-wrote (a .version) (a .edit) x r _ _ _ _ _ _ _ _ _ _ count (h .put-header .ensures) (e .put-edited .ensures .edited-is _ _ (has .entries) there .0)
+          body-wrote (a .version) (a .edit) x r _ _ _ _ _ _ _ _ _ _ count (h .put-header .ensures) (e .put-edited .ensures .edited-is _ _ (has .entries) there .wrote)
           (rw (t .before .before .is-change .ensures) at (t .put-cache-tree .ensures .0 _ (has .tree) (has .differ)))
           (u .put-resolve-undo .ensures .0 _ (has .undo));
-      extended = λ r has there. e .put-edited .ensures .edited-is _ _ (has .entries) there .1 ∙ ap anyWord (sym (changed-entries (a .edit) x r));
-      near = omega (arith, u .put-resolve-undo .ensures .1, t .put-cache-tree .ensures .1, e .put-edited .ensures .near, header-end h, p .few);
-      long = e .put-edited .ensures .long;
-      past = e .put-edited .ensures .past;
-      out-long = u .put-resolve-undo .ensures .2 ∙ t .put-cache-tree .ensures .2 ∙ e .put-edited .ensures .out-long ∙ h .put-header .ensures .long;
+      extended = λ r has there. e .put-edited .ensures .edited-is _ _ (has .entries) there .extended ∙ ap anyWord (sym (changed-entries (a .edit) x r));
+      near = omega (arith, u .put-resolve-undo .ensures .1, t .put-cache-tree .ensures .1, e .put-edited .ensures .bounds .near, header-end h, p .few);
+      frame = e .put-edited .ensures .bounds .frame;
+      out-long = u .put-resolve-undo .ensures .2 ∙ t .put-cache-tree .ensures .2 ∙ e .put-edited .ensures .bounds .out-long ∙ h .put-header .ensures .long;
     }
 
 pub put-body-spec : {M : Type 1} → statement M

@@ -8,7 +8,7 @@ use borrow.Author.Needs.{needs}
 use Rattle.file_write.proofs.body.put_cache_tree.Statement.{statement}
 use Rattle.file_write.proofs.body.put_cache_tree.Tie as tie
 
--- where the data stand
+-- where the data are
 inside : (c : tie.Then1) → let a = c .before .before .before .before .args in Within (a .b .now) (a .tree .at) (a .tree .end)
 inside c =
     let st = c .before .before .before .before in
@@ -20,7 +20,7 @@ grown c =
     let t = c .before .before .before in
     let st = t .before .before .before .before in
     let a = st .args in
-    tree-grown (a .b .now) (a .name .now) (a .tree) (a .way) _ _ _ _ (st .pre .2 .0) (st .pre .2 .1) (st .pre .2 .2) (t .if1 .taken)
+    tree-grown (a .b .now) (a .name .now) (a .tree) (a .touched) _ _ _ _ (st .pre .2 .0) (st .pre .2 .1) (st .pre .2 .2) (t .if1 .taken)
     (c .put-tree .ensures .wrote) .0
 
 add-content : tie.Need-add-content
@@ -71,17 +71,17 @@ returns c =
     let a = st .args in
     let h = inside t in
     let l = part-length (a .b .now) (a .tree .at) (a .tree .end) (h .inside) in (
-      λ o is d. tree-wrote (a .b .now) (a .name .now) (a .tree) (a .way) _ _ _ (a .at) _ _ o is d (t .if1 .taken) (p .put-tree .ensures .wrote) (q .put-head .ensures),
+      λ o is d. tree-wrote (a .b .now) (a .name .now) (a .tree) (a .touched) _ _ _ (a .at) _ _ o is d (t .if1 .taken) (p .put-tree .ensures .wrote) (q .put-head .ensures),
       omega (arith, p .put-tree .ensures .short),
       q .put-head .ensures .long
-          ∙ tree-grown (a .b .now) (a .name .now) (a .tree) (a .way) _ _ _ _ (st .pre .2 .0) (st .pre .2 .1) (st .pre .2 .2) (t .if1 .taken)
+          ∙ tree-grown (a .b .now) (a .name .now) (a .tree) (a .touched) _ _ _ _ (st .pre .2 .0) (st .pre .2 .1) (st .pre .2 .2) (t .if1 .taken)
           (p .put-tree .ensures .wrote) .1,
     )
 
 returns-2 : tie.Need-returns-2
 returns-2 c =
     let a = c .before .before .before .before .args in
-    (λ o is d. no-tree-wrote (a .b .now) (a .name .now) (a .tree) (a .way) _ (a .at) o is (c .if1 .left), omega arith, refl)
+    (λ o is d. no-tree-wrote (a .b .now) (a .name .now) (a .tree) (a .touched) _ (a .at) o is (c .if1 .left), omega arith, refl)
 
 pub put-cache-tree-spec : {M : Type 1} → statement M
 put-cache-tree-spec =

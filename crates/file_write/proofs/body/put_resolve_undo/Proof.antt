@@ -9,7 +9,7 @@ use borrow.Author.Needs.{needs}
 use Rattle.file_write.proofs.body.put_resolve_undo.Statement.{statement}
 use Rattle.file_write.proofs.body.put_resolve_undo.Tie as tie
 
--- where the data stand
+-- where the data are
 inside : (c : tie.Then1) → let a = c .before .before .before .args in Within (a .b .now) (a .undo .at) (a .undo .end)
 inside c = let st = c .before .before .before in undo-within (st .args .b .now) (st .args .undo) (st .pre .2 .0) (st .pre .2 .1) (c .if1 .taken)
 
@@ -28,17 +28,11 @@ cast-put-head c = let h = inside (c .before .before) in omega arith
 put-head-requires : tie.Need-put-head-requires
 put-head-requires c κs = search needs
 
-sub-put-bytes : tie.Need-sub-put-bytes
-sub-put-bytes c = inside (c .before .before .before .before .before .before) .order
-
-part-put-bytes-start : tie.Need-part-put-bytes-start
-part-put-bytes-start c = let h = inside (c .before .before .before .before .before .before) in omega arith
-
-part-put-bytes-end : tie.Need-part-put-bytes-end
-part-put-bytes-end c = inside (c .before .before .before .before .before .before) .inside
-
-put-bytes-requires : tie.Need-put-bytes-requires
-put-bytes-requires c κs = let q = c .before .before .before .before in omega (arith, headed q)
+put-part-requires : tie.Need-put-part-requires
+put-part-requires c κs =
+    let q = c .before .before .before in
+    let h = inside (q .before .before .before) in
+    (omega (arith, headed q), h .order, h .inside)
 
 same-length : tie.Need-same-length
 same-length c = search needs
@@ -46,14 +40,14 @@ same-length c = search needs
 returns : tie.Need-returns
 returns c =
     let q = c .before .before in
-    let p = q .before .before .before .before .before in
+    let p = q .before .before .before .before in
     let t = p .before .before .before in
     let a = t .before .before .before .args in
     let h = inside t in
     let l = part-length (a .b .now) (a .undo .at) (a .undo .end) (h .inside) in (
-      λ o is. undo-wrote (a .b .now) (a .undo) _ _ _ (a .at) _ _ o is (t .if1 .taken) (p .put-head .ensures) (q .put-bytes .ensures),
-      omega (arith, q .put-bytes .ensures .end, headed p),
-      q .put-bytes .ensures .long ∙ p .put-head .ensures .long,
+      λ o is. undo-wrote (a .b .now) (a .undo) _ _ _ (a .at) _ _ o is (t .if1 .taken) (p .put-head .ensures) (q .put-part .ensures),
+      omega (arith, q .put-part .ensures .end, headed p),
+      q .put-part .ensures .long ∙ p .put-head .ensures .long,
     )
 
 returns-2 : tie.Need-returns-2
@@ -69,10 +63,7 @@ put-resolve-undo-spec =
     sub-put-head
     cast-put-head
     put-head-requires
-    sub-put-bytes
-    part-put-bytes-start
-    part-put-bytes-end
-    put-bytes-requires
+    put-part-requires
     same-length
     returns
     returns-2)

@@ -1,9 +1,10 @@
 -- The proof that `counts_ok` meets its contract.
-use mathlib.Core.Path.{refl, sym, _∙_}
+use mathlib.Core.Path.{sym, _∙_}
 use mathlib.Core.List.{[]}
 use native.Mathlib.Omega.{arith}
+use Rattle.fields.proofs.Workspace.{frame-same}
 use Rattle.tree_nodes.proofs.Nodes.{node-is}
-use Rattle.tree_check.proofs.Wholes.{told-none, told-untidy, told-tidy}
+use Rattle.tree_check.proofs.Wholes.{answer-none, answer-inconsistent, answer-consistent}
 use borrow.Author.Needs.{needs}
 use Rattle.tree_check.proofs.counts.counts_ok.Statement.{statement}
 use Rattle.tree_check.proofs.counts.counts_ok.Tie as tie
@@ -31,26 +32,24 @@ enum-known-found c = search needs
 
 walk-root-requires : tie.Need-walk-root-requires
 walk-root-requires c κs =
-    let k = c .before .before .before .before .before in
+    let k = c .before .before .before .before .before .before in
     let st = k .before .before .before .before .before .before .before in
     let is = node-is (st .args .d .now) 0 (omega arith) _ (sym (k .before .read .given .1) ∙ k .before .before .before .read-node .ensures) in
-    (is .within, st .pre .0, record { least = st .pre .1 .least; most = st .pre .1 .most; room = st .pre .1 .room })
+    (is .within, st .pre .0, record { least = st .pre .1 .least; most = st .pre .1 .most; room = st .pre .1 .room }, st .pre .2)
 
 returns : tie.Need-returns
 returns c = record {
-  long = refl;
-  past = refl;
-  is = λ es m t n q₁ q₂ differ. told-none _ t n q₂ differ [] (sym (c .enum-told .given .1) ∙ c .before .before .read-node .ensures);
+  frame = frame-same _;
+  is = λ es m t n q₁ q₂ differ. answer-none _ t n q₂ differ [] (sym (c .enum-told .given .1) ∙ c .before .before .read-node .ensures);
 }
 
 returns-2 : tie.Need-returns-2
 returns-2 c =
     let k = c .before .before .before in
     record {
-      long = refl;
-      past = refl;
+      frame = frame-same _;
       is = λ es m t n q₁ q₂ differ.
-          told-untidy _ t n q₂ differ _ _ (sym (k .before .read .given .1) ∙ k .before .before .before .read-node .ensures) _ (c .before .before .survey-trees .ensures) (c .enum-told2 .given .1);
+          answer-inconsistent _ t n q₂ differ _ _ (sym (k .before .read .given .1) ∙ k .before .before .before .read-node .ensures) _ (c .before .before .survey-trees .ensures) (c .enum-told2 .given .1);
     }
 
 same-length : tie.Need-same-length
@@ -58,13 +57,12 @@ same-length c = search needs
 
 returns-3 : tie.Need-returns-3
 returns-3 c =
-    let k = c .before .before .before .before .before .before .before .before in
+    let k = c .before .before .before .before .before .before .before .before .before in
     let w = c .before .before .walk-root .ensures in
     record {
-      long = w .long;
-      past = w .past;
+      frame = w .frame;
       is = λ es m t n q₁ q₂ differ.
-          told-tidy _ t n q₂ differ _ _ (sym (k .before .read .given .1) ∙ k .before .before .before .read-node .ensures) _ (c .before .before .before .before .before .before .before .survey-trees .ensures) _ (c .before .before .before .before .before .found .given .1) _ (w .is es m q₁);
+          answer-consistent _ t n q₂ differ _ _ (sym (k .before .read .given .1) ∙ k .before .before .before .read-node .ensures) _ (c .before .before .before .before .before .before .before .before .survey-trees .ensures) _ (c .before .before .before .before .before .before .found .given .1) _ (w .is es m q₁);
     }
 
 pub counts-ok-spec : {M : Type 1} → statement M

@@ -1,4 +1,4 @@
--- The proof that `climb` meets its contract. The loop keeps where the way up ends.
+-- The proof that `climb` meets its contract. The loop keeps where the climb ends.
 use mathlib.Core.Path.{_≡_, refl, sym, _∙_}
 use Prim.Native.Nat.{suc, _<_}
 use native.Mathlib.Omega.{arith}

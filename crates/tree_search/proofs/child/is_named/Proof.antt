@@ -2,7 +2,7 @@
 use mathlib.Core.Path.{ap, _∙_}
 use borrow.Author.Needs.{needs}
 use Rattle.format.specs.Bytes.{eqList}
-use Rattle.tree_search.proofs.Siblings.{name-is}
+use Rattle.tree_nodes.proofs.Trees.{name-is}
 use Rattle.tree_search.proofs.child.is_named.Statement.{statement}
 use Rattle.tree_search.proofs.child.is_named.Tie as tie
 

@@ -1,4 +1,4 @@
--- The proof that `scan` meets its contract. The loop keeps that the name is none of those passed, and that the last siblings stand from the place on.
+-- The proof that `scan` meets its contract. The loop keeps that the name is none of those passed, and that the last siblings are from the place on.
 use mathlib.Core.Path.{sym, _∙_}
 use borrow.Author.Needs.{needs}
 use Rattle.tree_search.proofs.Telling.{Scanning, scan-start, scan-on, scan-here, scan-end}

@@ -1,7 +1,7 @@
 -- The proof that `key_at` meets its contract.
 use mathlib.Core.Path.{ap, _∙_}
-use Rattle.tree_search.specs.Keys.{keyOf}
-use Rattle.tree_search.proofs.Siblings.{name-is}
+use Rattle.tree_table.specs.Keys.{keyIn}
+use Rattle.tree_nodes.proofs.Trees.{name-is}
 use borrow.Author.Needs.{needs}
 use Rattle.tree_search.proofs.table.key_at.Statement.{statement}
 use Rattle.tree_search.proofs.table.key_at.Tie as tie
@@ -22,7 +22,7 @@ key-of-requires : tie.Need-key-of-requires
 key-of-requires c κs = search needs
 
 returns : tie.Need-returns
-returns c = c .key-of .ensures ∙ ap (keyOf _) (name-is _ _ _ (c .before .before .find .ensures .0))
+returns c = c .key-of .ensures .0 ∙ ap (keyIn _) (name-is _ _ _ (c .before .before .find .ensures .0))
 
 pub key-at-spec : {M : Type 1} → statement M
 key-at-spec =

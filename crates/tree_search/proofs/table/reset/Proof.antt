@@ -1,20 +1,17 @@
 -- The proof that `reset` meets its contract.
-use Rattle.tree_search.proofs.Notes.{known-reset}
+use mathlib.Core.Path.{_∙_}
 use borrow.Author.Needs.{needs}
+use Rattle.tree_search.proofs.Tables.{reset-known, reset-vacant}
 use Rattle.tree_search.proofs.table.reset.Statement.{statement}
 use Rattle.tree_search.proofs.table.reset.Tie as tie
 
-element-write-t : tie.Need-element-write-t
-element-write-t c = search needs
-
-element-write-t-2 : tie.Need-element-write-t-2
-element-write-t-2 c = search needs
-
-element-write-t-3 : tie.Need-element-write-t-3
-element-write-t-3 c = search needs
+clear-requires : tie.Need-clear-requires
+clear-requires c κs = search needs
 
 returns : tie.Need-returns
-returns c = λ d. known-reset d (c .args .t .now) (c .args .m) (c .pre)
+returns c =
+    let long = c .clear .ensures .0 ∙ c .before .before .pre in
+    (λ d. reset-known _ (c .clear .ensures .1) long d, λ region. reset-vacant _ (c .clear .ensures .1) long region)
 
 pub reset-spec : {M : Type 1} → statement M
-reset-spec = tie.close (tie.spec element-write-t element-write-t-2 element-write-t-3 returns)
+reset-spec = tie.close (tie.spec clear-requires returns)

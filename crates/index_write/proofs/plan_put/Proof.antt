@@ -1,0 +1,52 @@
+-- The proof that `plan_put` meets its contract.
+use mathlib.Core.Path.{sym}
+use Prim.Native.Nat.{_-_}
+use native.Mathlib.Omega.{arith}
+use lib.ListN.{length}
+use lib.Seq.{length-take-le}
+use Rattle.fields.proofs.Workspace.{frame-same}
+use Rattle.file_read.proofs.Room.{file-long}
+use Rattle.index_write.proofs.Plans.{plan-unsound, plan-put}
+use borrow.Author.Needs.{needs}
+use Rattle.index_write.proofs.plan_put.Statement.{statement}
+use Rattle.index_write.proofs.plan_put.Tie as tie
+
+record-number-requires : tie.Need-record-number-requires
+record-number-requires c κs = search needs
+
+returns : tie.Need-returns
+returns c =
+    let st = c .before .before .before .before .before in
+    record { frame = frame-same _; is = plan-unsound _ _ _ (st .pre) _ _ _ (c .before .record-number .ensures) (c .if1 .taken) }
+
+sub-n : tie.Need-sub-n
+sub-n c = let st = c .before .before .before .before .before in omega (arith, file-long (st .args .file .now) (st .pre .contains .least))
+
+slice-aggregate-find-place : tie.Need-slice-aggregate-find-place
+slice-aggregate-find-place c = let a = c .before .before .before .before .before .before .args in sym (length-take-le (length (a .file .now) - 20) (a .file .now) (omega arith))
+
+find-place-requires : tie.Need-find-place-requires
+find-place-requires c κs = search needs
+
+same-length : tie.Need-same-length
+same-length c = search needs
+
+returns-2 : tie.Need-returns-2
+returns-2 c =
+    let p = c .before .before in
+    let e = p .before .before .before in
+    let st = e .before .before .before .before .before in
+    let r = p .find-place .ensures in
+    record { frame = r .frame; is = plan-put _ _ _ (st .pre) _ _ _ _ r (omega (arith, e .before .record-number .ensures, e .if1 .left)) }
+
+pub plan-put-spec : {M : Type 1} → statement M
+plan-put-spec =
+    tie.close
+    (tie.spec
+    record-number-requires
+    returns
+    sub-n
+    slice-aggregate-find-place
+    find-place-requires
+    same-length
+    returns-2)

@@ -1,0 +1,99 @@
+//! Every call in threads with as little stack as the header promises: on trees of every depth, and on shallow ones.
+
+#![deny(warnings)]
+
+use harness::hostile::{self, Case};
+use harness::{ffi, index_file};
+use std::thread;
+
+/// KiB of a thread that runs every call on every file.
+const ANY: usize = 64;
+
+/// KiB of a thread that does where the cache tree has at most SHALLOW levels.
+const FEW: usize = 32;
+const SHALLOW: usize = 16;
+
+/// Bytes of files that can be made as long as wanted.
+const SHORT: usize = 100_000;
+
+/// The fields of a new entry, and the name of one to remove: the file's first, where it has one.
+struct Request {
+    fields: ffi::Fields,
+    first: Vec<u8>,
+}
+
+impl Request {
+    fn of(file: &[u8], work: &mut [u8]) -> Self {
+        let entry = ffi::entry(file, work, 0);
+        let buffer = if entry.name.buffer == 2 { work } else { file };
+        let mut fields = entry.fields;
+        fields.mode = 0o100644;
+        Self {
+            fields,
+            first: buffer[entry.name.offset..][..entry.name.length].to_vec(),
+        }
+    }
+}
+
+/// The refusals of all calls.
+fn calls(file: &[u8], request: &Request, work: &mut [u8], out: &mut [u8]) -> [u32; 12] {
+    let Request { fields, first } = request;
+    let mut refusals = [0; 12];
+    refusals[0] = ffi::check(file, work).refusal;
+    refusals[1] = ffi::entry(file, work, 0).refusal;
+    refusals[2] = ffi::tree_node(file, work, 0).refusal;
+    refusals[3] = ffi::undo_record(file, work, 0).refusal;
+    refusals[4] = ffi::walk_start(file, work).refusal;
+    refusals[5] = ffi::walk_next(file, 12, 1).refusal;
+    for (i, asked) in [(6, 2), (9, 4)] {
+        refusals[i] = ffi::rewrite(file, work, out, asked).refusal;
+        refusals[i + 1] = ffi::put(file, work, out, asked, b"new", *fields).refusal;
+        refusals[i + 2] = ffi::remove(file, work, out, asked, first, 0).refusal;
+    }
+    refusals
+}
+
+fn run(kib: usize, case: Case) {
+    let (name, file) = (case.name, case.bytes);
+    let mut work = vec![0; ffi::WORKSPACE];
+    let mut out = vec![0; index_file::LARGEST];
+    let request = Request::of(&file, &mut work);
+    let want = calls(&file, &request, &mut work, &mut out);
+    assert_eq!(want[0], case.refusal, "{name}");
+    let builder = thread::Builder::new()
+        .name(name.clone())
+        .stack_size(kib << 10);
+    let thread = builder.spawn(move || calls(&file, &request, &mut work, &mut out));
+    assert_eq!(thread.unwrap().join().unwrap(), want, "{name}");
+}
+
+#[test]
+fn every_call_runs_on_shallow_trees_with_little_stack() {
+    for levels in [1, 2, 4, SHALLOW] {
+        for case in hostile::deep_cases(levels, SHORT) {
+            run(FEW, case);
+        }
+        for case in hostile::search_cases(levels) {
+            run(FEW, case);
+        }
+    }
+    for case in hostile::short_cases() {
+        run(FEW, case);
+    }
+    for case in hostile::long_name_cases(SHORT) {
+        run(FEW, case);
+    }
+    run(FEW, hostile::undo_case(SHORT));
+}
+
+#[test]
+fn every_call_runs_on_deep_trees_with_little_stack() {
+    for levels in [64, 128] {
+        for case in hostile::deep_cases(levels, SHORT) {
+            run(ANY, case);
+        }
+        for case in hostile::search_cases(levels) {
+            run(ANY, case);
+        }
+    }
+}
