@@ -123,8 +123,8 @@ def hand_written(report: Report) -> None:
     for word, length, expected in ((0, 1, 64), (0, 2, 72), (0, 9, 72), (0, 10, 80), (1, 1, 72), (1, 8, 80)):
         name = b"n" * length
         report.same(f"entry length {length} {word}", expected, entry_length(name, bool(word)))
-        with_checksum = with_checksum(layout.compose(3, [layout.Record(name, zero_word=bool(word))]).body)
-        report.same(f"entry end {length} {word}", 12 + expected, index_reader.check(with_checksum)[3])
+        file = layout.with_checksum(layout.compose(3, [layout.Record(name, zero_word=bool(word))]).body)
+        report.same(f"entry end {length} {word}", 12 + expected, index_reader.check(file)[3])
     for code, value in ((b"\x7f", 127), (b"\x80\x00", 128), (b"\xbf\x00", 8192)):
         report.same(f"N, written {value}", code, layout.compose_number(value))
         report.same(f"N, read {value}", (9000 - value, len(code)), index_reader.read_keep(code, 0, 0, 9000))

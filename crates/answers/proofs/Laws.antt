@@ -1,4 +1,4 @@
--- Laws of the workspace, of names that answers point at, and of the fields of an entry.
+-- Laws of the workspace, of names that answers point at, and of items.
 use mathlib.Core.Path.{_≡_, refl, sym, _∙_}
 use mathlib.Core.List.{List, [], _∷_, _++_}
 use mathlib.Core.Bool.{true, false}
@@ -96,18 +96,10 @@ holding-name name file work =
     let fits : 0 + length name ≤ length (name ++ rest) = simp length-append (omega arith) in
     part-in 0 (length name) (name ++ rest) fits ∙ take-at name rest (length name) refl
 
--- ---- the fields of an entry
-
--- ---- items and refusals
+-- ---- items
 
 -- a list has no item past its end
 pub item-none : {A : Type 0} (l : List A) (k : ℕ) → length l ≤ k → getElem? l k ≡ none
 item-none [] k h = refl
 item-none (a ∷ l) zero h = absurd (omega arith)
 item-none (a ∷ l) (suc k) h = item-none l k (omega arith)
-
--- of one view there is one refusal
-pub same-refusal : {A : Type 0} {B : Type 0} (g : ℕ → ℕ → B) (v : View A) (n p i j : ℕ) (r : B) → v ≡ refused n p → r ≡ g n p → v ≡ refused i j → r ≡ g i j
-same-refusal g v n p i j r e q f =
-    let a : n ≡ i = cc in
-    let b : p ≡ j = cc in q ∙ rw (a, b)
