@@ -30,8 +30,9 @@
  *   - no other thread changes a buffer during a call
  *   - `out` of nerupazhil_sha1 is not NULL and has 20 bytes
  *   - a bool is 0 or 1: C and C++ see to that, unless its byte is set by memcpy or through a cast
- *   - there is enough stack: in tests, a thread with 64 KiB runs every call on every file, and one with 32 KiB on files
- *     whose cache tree has at most 16 levels, the root included (Linux on x86-64; a thread's start takes 5 KiB of these)
+ *   - there is enough stack: in tests, a thread with 64 KiB runs every call on the files that take most of those tried,
+ *     and one with 32 KiB on those whose cache tree has at most 16 levels, the root included (Linux on x86-64; a
+ *     thread's start takes 5 KiB of these)
  */
 #ifndef NERUPAZHIL_H
 #define NERUPAZHIL_H

@@ -57,9 +57,9 @@
 //! right buffers and shows the right parts is tested. Only [`calls`] has unsafe code. A reply that pointed outside of a
 //! buffer would be a panic.
 //!
-//! No proof speaks of stack. In tests, a thread with 64 KiB runs every function of [`calls`] on every file, and one with
-//! 32 KiB on files whose cache tree has at most 16 levels, the root included. [`Index`] has its workspace of 8 KiB on the
-//! stack too: 72 and 40 KiB.
+//! No proof speaks of stack. In tests, a thread with 64 KiB runs the functions of [`calls`] on the files that were found
+//! to take most, and one with 32 KiB on those whose cache tree has at most 16 levels, the root included. [`Index`] has
+//! its workspace of 8 KiB on the stack too, so it takes at least as much more; that is not tested.
 //!
 //! # Building
 //!
