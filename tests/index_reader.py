@@ -1,7 +1,7 @@
 """An independent reading of a Git index, after the requirements of the index code (document 01).
 
 It shares nothing with the proved library: the tests hold the library's answers against it. It is written for
-clarity, one rule after the other in the order in which the rules are judged.
+clarity, one rule after the other in the order in which the rules are tested.
 
     check(data)    ('accepted', version, entries, end, nodes or None, records or None)
                    or ('refused', number, place)
@@ -284,13 +284,13 @@ class Cursor:
 
 
 def read_tree(data: bytes, place: int, names: list) -> list:
-    """Reads the nodes (15), then judges their counts against the names of the entries (16)."""
+    """Reads the nodes (15), then tests their counts against the names of the entries (16)."""
     cursor = Cursor(data, Refused(15, place))
     found = []
     read_node(cursor, 1, found)
     if found[0].name != b"" or not cursor.finished():
         raise Refused(15, place)
-    judge_counts(found, names, Refused(16, place))
+    check_counts(found, names, Refused(16, place))
     return found
 
 
@@ -330,7 +330,7 @@ def decimal(text: bytes, least: int, most: int, refusal: Refused) -> int:
     return value
 
 
-def judge_counts(found: list, names: list, refusal: Refused) -> None:
+def check_counts(found: list, names: list, refusal: Refused) -> None:
     """Judges the counts of all nodes. The names are in order: those below a directory stand together."""
 
     def test_counts(k: int, prefix: bytes) -> int:

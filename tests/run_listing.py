@@ -154,7 +154,7 @@ def slow_input(program: Program, data: bytes, piece: int) -> bytes:
             child.stdin.flush()
             time.sleep(0.002)
     except BrokenPipeError:
-        pass  # the program may stop reading; what it prints is judged
+        pass  # the program may stop reading; what it prints is tested
     try:
         out, err = child.communicate(timeout=SECONDS)
     except subprocess.TimeoutExpired:

@@ -199,10 +199,10 @@ def stand_ins(report: Report) -> None:
             with open(path, "w", encoding="utf-8") as stream:
                 stream.write(f"#!/bin/sh\n{command}\n")
             os.chmod(path, 0o755)
-            judge(report, name, ["run_listing.py", path, "--only", group], good)
-        judge(report, "missing program", ["run_listing.py", os.path.join(folder, "missing")], False)
-        judge(report, "missing program, Git", ["git_files.py", os.path.join(folder, "missing")], False)
-        judge(report, "one answer, Git", ["git_files.py", os.path.join(folder, "one-answer")], False)
+            expect_result(report, name, ["run_listing.py", path, "--only", group], good)
+        expect_result(report, "missing program", ["run_listing.py", os.path.join(folder, "missing")], False)
+        expect_result(report, "missing program, Git", ["git_files.py", os.path.join(folder, "missing")], False)
+        expect_result(report, "one answer, Git", ["git_files.py", os.path.join(folder, "one-answer")], False)
     finally:
         shutil.rmtree(folder)
 
@@ -224,8 +224,8 @@ def edit_stand_ins(report: Report) -> None:
     )
     try:
         for name, code in wrong:
-            judge(report, f"{name}, edits", ["git_edits.py", script(folder, code), "--only", "links"], False)
-        judge(report, "missing program, edits", ["git_edits.py", os.path.join(folder, "missing")], False)
+            expect_result(report, f"{name}, edits", ["git_edits.py", script(folder, code), "--only", "links"], False)
+        expect_result(report, "missing program, edits", ["git_edits.py", os.path.join(folder, "missing")], False)
         for name, tail, good in ends:
             session, counted = edit_requests.Session(script(folder, ECHO + tail)), Report()
             report.same(f"{name}: answer", ("done", b"file"), session(edit_requests.Request("remove", b"file", 0, 9)))
@@ -245,7 +245,7 @@ def script(folder: str, code: str) -> str:
     return path
 
 
-def judge(report: Report, name: str, arguments: list, good: bool) -> None:
+def expect_result(report: Report, name: str, arguments: list, good: bool) -> None:
     command = [sys.executable, "-B", os.path.join(HERE, arguments[0]), *arguments[1:]]
     done = subprocess.run(command, stdin=subprocess.DEVNULL, capture_output=True, text=True, check=False)
     last = done.stdout.splitlines()[-1] if done.stdout else ""

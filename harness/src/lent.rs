@@ -53,10 +53,10 @@ struct Pages {
     first: *mut u8,
     length: usize,
     /// The pages that cannot be written at present.
-    sealed: Option<(usize, usize)>,
+    read_only: Option<(usize, usize)>,
 }
 
-/// So many bytes, rounded up to whole pages.
+/// Bytes, rounded up to whole pages.
 fn whole_pages(bytes: usize) -> usize {
     (bytes + PAGE - 1) / PAGE * PAGE
 }
@@ -71,7 +71,7 @@ impl Pages {
         let mut pages = Self {
             first: address.cast::<u8>().wrapping_add(PAGE),
             length,
-            sealed: None,
+            read_only: None,
         };
         pages.protect(0, length, PROT_READ | PROT_WRITE);
         pages
@@ -85,16 +85,16 @@ impl Pages {
     }
 
     /// Makes the pages of some bytes ones that cannot be written.
-    fn seal(&mut self, bytes: *mut u8, length: usize) {
+    fn make_read_only(&mut self, bytes: *mut u8, length: usize) {
         let start = bytes as usize - self.first as usize;
         let end = whole_pages(start + length);
         let start = start / PAGE * PAGE;
         self.protect(start, end, PROT_READ);
-        self.sealed = Some((start, end));
+        self.read_only = Some((start, end));
     }
 
-    fn unseal(&mut self) {
-        if let Some((start, end)) = self.sealed.take() {
+    fn make_writable(&mut self) {
+        if let Some((start, end)) = self.read_only.take() {
             self.protect(start, end, PROT_READ | PROT_WRITE);
         }
     }
@@ -151,7 +151,7 @@ impl Lent {
         self.lend(content.len(), edge);
         self.bytes_mut().copy_from_slice(content);
         if let Memory::Pages(pages) = &mut self.memory {
-            pages.seal(self.first, self.length);
+            pages.make_read_only(self.first, self.length);
         }
     }
 
@@ -221,7 +221,7 @@ impl Lent {
                 bytes.as_mut_ptr()
             }
             Memory::Pages(pages) => {
-                pages.unseal();
+                pages.make_writable();
                 let room = pages.length - GUARD;
                 assert!(length <= room, "{length} bytes are too many");
                 match edge {

@@ -21,7 +21,7 @@ fn workspace() -> Vec<u8> {
 }
 
 /// A file of these bytes before the checksum.
-fn seal(body: &[u8]) -> Vec<u8> {
+fn with_checksum(body: &[u8]) -> Vec<u8> {
     [body, &sha1(body)].concat()
 }
 
@@ -29,7 +29,7 @@ fn seal(body: &[u8]) -> Vec<u8> {
 fn extend(file: &[u8], signature: &[u8; 4], data: &[u8]) -> Vec<u8> {
     let size = (data.len() as u32).to_be_bytes();
     let body = &file[..file.len() - DIGEST];
-    seal(&[body, signature, &size, data].concat())
+    with_checksum(&[body, signature, &size, data].concat())
 }
 
 /// The fields of a regular file.

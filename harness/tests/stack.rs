@@ -3,7 +3,8 @@
 #![deny(warnings)]
 
 use harness::hostile::{self, Case};
-use harness::{ffi, index_file};
+use harness::{ffi, index_file, plain};
+use nerupazhil::{Index, Refusal, Version};
 use std::thread;
 
 /// KiB of a thread that runs every call on every file.
@@ -13,13 +14,17 @@ const ANY: usize = 64;
 const FEW: usize = 32;
 const SHALLOW: usize = 16;
 
+/// KiB more for the functions of Index, which have their workspace on the stack.
+const MORE: usize = 16;
+
 /// Bytes of files that can be made as long as wanted.
 const SHORT: usize = 100_000;
 
-/// The fields of a new entry, and the name of one to remove: the file's first, where it has one.
+/// The fields of a new entry, the name of one to remove (the file's first, where it has one), and the file's digest.
 struct Request {
     fields: ffi::Fields,
     first: Vec<u8>,
+    digest: [u8; 20],
 }
 
 impl Request {
@@ -31,13 +36,19 @@ impl Request {
         Self {
             fields,
             first: buffer[entry.name.offset..][..entry.name.length].to_vec(),
+            digest: plain::sha1(file),
         }
     }
 }
 
-/// The refusals of all calls.
+/// The refusals of all calls that have one; the digest is compared here.
 fn calls(file: &[u8], request: &Request, work: &mut [u8], out: &mut [u8]) -> [u32; 12] {
-    let Request { fields, first } = request;
+    let Request {
+        fields,
+        first,
+        digest,
+    } = request;
+    assert_eq!(&ffi::sha1(file), digest);
     let mut refusals = [0; 12];
     refusals[0] = ffi::check(file, work).refusal;
     refusals[1] = ffi::entry(file, work, 0).refusal;
@@ -53,18 +64,50 @@ fn calls(file: &[u8], request: &Request, work: &mut [u8], out: &mut [u8]) -> [u3
     refusals
 }
 
+/// The refusals of Index: of the file, or of a rewrite, a put and a removal in version 4.
+fn of_index(file: &[u8], request: &Request) -> Vec<u32> {
+    let Request { fields, first, .. } = request;
+    let index = match Index::read(file) {
+        Ok(index) => index,
+        Err(refusal) => return vec![refusal.number()],
+    };
+    let files = [
+        index.rewritten(Version::V4),
+        index.with(b"new", fields, Version::V4),
+        index.without(first, 0, Version::V4),
+    ];
+    files
+        .map(|file| file.map_or_else(Refusal::number, |_| 0))
+        .to_vec()
+}
+
+/// What a function answers in a thread with a small stack.
+fn in_thread<T: Send>(kib: usize, function: impl FnOnce() -> T + Send) -> T {
+    thread::scope(|scope| {
+        let builder = thread::Builder::new().stack_size(kib << 10);
+        builder
+            .spawn_scoped(scope, function)
+            .unwrap()
+            .join()
+            .unwrap()
+    })
+}
+
 fn run(kib: usize, case: Case) {
     let (name, file) = (case.name, case.bytes);
     let mut work = vec![0; ffi::WORKSPACE];
     let mut out = vec![0; index_file::LARGEST];
     let request = Request::of(&file, &mut work);
-    let want = calls(&file, &request, &mut work, &mut out);
-    assert_eq!(want[0], case.refusal, "{name}");
-    let builder = thread::Builder::new()
-        .name(name.clone())
-        .stack_size(kib << 10);
-    let thread = builder.spawn(move || calls(&file, &request, &mut work, &mut out));
-    assert_eq!(thread.unwrap().join().unwrap(), want, "{name}");
+    let refusals = calls(&file, &request, &mut work, &mut out);
+    assert_eq!(refusals[0], case.refusal, "{name}");
+    let again = in_thread(kib, || calls(&file, &request, &mut work, &mut out));
+    assert_eq!(again, refusals, "{name}");
+    let expected = match case.refusal {
+        0 => &refusals[9..],
+        _ => &refusals[..1],
+    };
+    let shown = in_thread(kib + MORE, || of_index(&file, &request));
+    assert_eq!(shown, expected, "{name}");
 }
 
 #[test]

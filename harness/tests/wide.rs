@@ -100,7 +100,7 @@ fn file(random: &mut Random, version: u32, nodes: &[Directory]) -> Vec<u8> {
 }
 
 #[test]
-fn wide_directories_are_judged_as_simply() {
+fn wide_directories_get_the_simple_answers() {
     let mut refusals = [0; 17];
     for number in 0..600 {
         let mut random = Random::of(11, number);

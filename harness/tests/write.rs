@@ -36,7 +36,7 @@ fn written(file: &[u8], call: Call, room: usize) -> Result<Vec<u8>, u32> {
 }
 
 /// A file of these parts before the checksum.
-fn sealed(parts: &[&[u8]]) -> Vec<u8> {
+fn with_checksum(parts: &[&[u8]]) -> Vec<u8> {
     let body = parts.concat();
     let digest = sha1(&body);
     [&body[..], &digest].concat()
@@ -64,7 +64,7 @@ fn example() -> Vec<u8> {
     let root = [&b"\x003 1\n"[..], &[0x33; 20]].concat();
     let a = [&b"a\x002 0\n"[..], &[0x34; 20]].concat();
     let tree = [&b"TREE\0\0\0\x33"[..], &root, &a].concat();
-    sealed(&[HEAD, &row(b"a-b"), &row(b"a/b"), &row(b"a/c"), &tree])
+    with_checksum(&[HEAD, &row(b"a-b"), &row(b"a/b"), &row(b"a/c"), &tree])
 }
 
 fn regular() -> ffi::Fields {
@@ -85,7 +85,7 @@ fn a_plain_file_is_rewritten_as_it_is() {
 fn a_put_of_the_record_that_is_there() {
     let put = || Call::Put(0, b"a/c".to_vec(), regular());
     let tree = b"TREE\0\0\0\x0d\x00-1 1\na\x00-1 0\n";
-    let after = sealed(&[HEAD, &row(b"a-b"), &row(b"a/b"), &row(b"a/c"), tree]);
+    let after = with_checksum(&[HEAD, &row(b"a-b"), &row(b"a/b"), &row(b"a/c"), tree]);
     assert_eq!(written(&example(), put(), after.len() - 1), Err(20));
     assert_eq!(written(&example(), put(), after.len()), Ok(after));
 }
@@ -94,7 +94,7 @@ fn a_put_of_the_record_that_is_there() {
 fn a_remove_beside_a_directory() {
     let head = b"DIRC\0\0\0\x02\0\0\0\x02";
     let tree = [&b"TREE\0\0\0\x20\x00-1 1\na\x002 0\n"[..], &[0x34; 20]].concat();
-    let after = sealed(&[head, &row(b"a/b"), &row(b"a/c"), &tree]);
+    let after = with_checksum(&[head, &row(b"a/b"), &row(b"a/c"), &tree]);
     let remove = Call::Remove(2, b"a-b".to_vec(), 0);
     assert_eq!(written(&example(), remove, after.len()), Ok(after));
 }
@@ -109,8 +109,8 @@ fn a_put_that_needs_the_extended_word() {
         ..ffi::Fields::default()
     };
     let put = |asked| Call::Put(asked, b"a/c".to_vec(), fields);
-    let file = sealed(&[b"DIRC\0\0\0\x02\0\0\0\x02", &row(b"a-b"), &row(b"a/b")]);
-    let after = sealed(&[
+    let file = with_checksum(&[b"DIRC\0\0\0\x02\0\0\0\x02", &row(b"a-b"), &row(b"a/b")]);
+    let after = with_checksum(&[
         b"DIRC\0\0\0\x04\0\0\0\x03",
         &fixed([0x81, 0xa4], 0x11, b"\0\x03\0a-b\0"),
         &fixed([0x81, 0xa4], 0x11, b"\0\x03\x02/b\0"),

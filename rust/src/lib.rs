@@ -59,7 +59,7 @@
 //!
 //! No proof speaks of stack. In tests, a thread with 64 KiB runs the functions of [`calls`] on the files that were found
 //! to take most, and one with 32 KiB on those whose cache tree has at most 16 levels, the root included. [`Index`] has
-//! its workspace of 8 KiB on the stack too, so it takes at least as much more; that is not tested.
+//! its workspace of 8 KiB on the stack too: it is run on the same files in threads with 16 KiB more.
 //!
 //! # Building
 //!

@@ -2,7 +2,7 @@
 
 mod common;
 
-use common::{accepted, number, sealed, stored, vectors, Records};
+use common::{accepted, number, stored, vectors, with_checksum, Records};
 use nerupazhil::{
     calls, check, entry, mode, sha1, tree_node, undo_record, walk, Index, Stage, EMPTY, WORKSPACE,
 };
@@ -118,7 +118,7 @@ fn resolve_undo_records_are_shown() {
     file.extend(b"REUC\0\0\0\x3dplan\x00100644\x000\x00100644\0");
     file.extend([0x11; 20]);
     file.extend([0x33; 20]);
-    let file = sealed(file);
+    let file = with_checksum(file);
     let record = undo_record(&file, &mut [0; WORKSPACE], 0).unwrap();
     let stage = |byte| Stage {
         mode: mode::REGULAR,

@@ -55,7 +55,7 @@ fn has_name(d: &[u8], a: usize, b: usize, k: u32) -> bool
 }
 
 // The key of the name at a place, which ends at nul.
-fn key_at(d: &[u8], y: usize, nul: usize, t: &Table) -> u32
+pub fn key_at(d: &[u8], y: usize, nul: usize, t: &Table) -> u32
     requires { ⌜ EndsAt (now d) y nul ⌝ }
     ensures { λ r. ⌜ r ≡ keyIn (now (t .entry)) (nameOf (drop y (now (d .entry)))) ⌝ }
 {

@@ -21,10 +21,10 @@ use Rattle.entries_run.specs.declared.Step.{Step}
 use Rattle.entries_run.specs.declared.Next.the-variants as N
 use Rattle.entries_run.specs.Steps.{nameAt, EntryPassed, runFrom}
 use Rattle.entries_run.proofs.Steps.{entries-good, entries-again, entries-never, run-none}
-use Rattle.entries_directory.specs.Names.{notAbove, sortedFrom, begins, leads, beyond}
-use Rattle.entries_directory.proofs.Order.{begins-common}
-use Rattle.entries_directory.proofs.Directory.{begins-split}
-use Rattle.entries_directory.proofs.Runs.{beyond-step, beyond-end}
+use Rattle.directories.specs.Names.{notAbove, sortedFrom, begins, leads, beyond}
+use Rattle.directories.proofs.Order.{begins-common}
+use Rattle.directories.proofs.Prefixes.{begins-split}
+use Rattle.directories.proofs.Runs.{beyond-step, beyond-end}
 use Rattle.entries_directory.specs.declared.Front.{Front}
 use Rattle.entries_directory.specs.Ahead.{FrontFits, Ahead, After, after-none, after-some, FrontAdvanced, DirectoryPassed, FrontMoved, File, MoreFiles, Files, files-none, files-more, FilesPassed}
 

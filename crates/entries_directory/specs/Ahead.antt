@@ -11,7 +11,7 @@ use Rattle.format.specs.Records.{Entry}
 use Rattle.format.specs.Layout.{names}
 use Rattle.fields.specs.Workspace.{Frame}
 use Rattle.entries_run.specs.Steps.{nameAt, Inside, RunRead}
-use Rattle.entries_directory.specs.Names.{sortedFrom, begins, beyond}
+use Rattle.directories.specs.Names.{sortedFrom, begins, beyond}
 use Rattle.entries_directory.specs.declared.Front.{Front}
 
 -- the cursor is in the body, the name before it has the bytes in common, and what is ahead can be counted

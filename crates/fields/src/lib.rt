@@ -197,7 +197,7 @@ fn component_ok(c: &[u8]) -> bool
     true
 }
 
-// Whether s is a name. One bad component ends the look at the whole name.
+// Whether s is a name. at is where the component begins that the byte at e belongs to.
 pub fn name_ok(s: &[u8]) -> bool
     ensures { λ r. ⌜ r ≡ Names.okName (now (s .entry)) ⌝ }
 {
@@ -205,27 +205,21 @@ pub fn name_ok(s: &[u8]) -> bool
         return false;
     }
     let mut at = 0;
-    'components: loop {
-        let mut e = at;
-        while e < s.len() {
-            if s[e] == 0 {
-                break 'components;
-            }
-            if s[e] == 47 {
-                break;
-            }
-            e += 1;
+    let mut e = 0;
+    while e < s.len() {
+        if s[e] == 0 {
+            return false;
         }
-        if component_ok(&s[at..e]) {
-            if e == s.len() {
-                return true;
+        if s[e] == 47 {
+            if component_ok(&s[at..e]) {
+                at = e + 1;
+            } else {
+                return false;
             }
-            at = e + 1;
-        } else {
-            break 'components;
         }
+        e += 1;
     }
-    false
+    component_ok(&s[at..e])
 }
 
 // Where the look at a name begins whose first kept bytes begin a sound one: after the last "/" among the last five of these, else at the first

@@ -52,6 +52,10 @@ pub then-inv : (a b : Bool) → cond a b false ≡ true → (a ≡ true) × (b �
 then-inv true b e = (refl, e)
 then-inv false b e = false-true e
 
+-- equal heads
+pub head-inv : (x y : ℕ) (b : Bool) → cond (eqb x y) b false ≡ true → (x ≡ y) × (b ≡ true)
+head-inv x y b e = let i = then-inv (eqb x y) b e in (eqb-true x y (i .0), i .1)
+
 pub else-inv : (a b : Bool) → cond a false b ≡ true → (a ≡ false) × (b ≡ true)
 else-inv true b e = false-true e
 else-inv false b e = (refl, e)

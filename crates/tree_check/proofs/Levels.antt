@@ -17,7 +17,7 @@ use Rattle.tree_nodes.specs.Flat.{Reads}
 use Rattle.tree_nodes.proofs.Flat.{Levels, levels-none, levels-more}
 use Rattle.tree_counts.specs.Counts.{says, weight, child, countsHold, matched, SoundForest}
 use Rattle.tree_counts.specs.Runs.{NamesPassed}
-use Rattle.entries_directory.specs.Names.{sortedFrom, begins, enter}
+use Rattle.directories.specs.Names.{sortedFrom, begins, enter}
 use Rattle.tree_check.specs.declared.walk.Directory.{Directory}
 
 -- ---- the levels of a tree

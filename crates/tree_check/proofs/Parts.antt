@@ -15,8 +15,8 @@ use Rattle.tree_nodes.specs.Answers.{nodeAt}
 use Rattle.tree_nodes.specs.Flat.{Reads}
 use Rattle.entries_run.specs.Steps.{nameAt}
 use Rattle.tree_counts.specs.Counts.{SoundForest}
-use Rattle.entries_directory.specs.Names.{enter}
-use Rattle.entries_directory.proofs.Directory.{component-lacks, component-under}
+use Rattle.directories.specs.Names.{enter}
+use Rattle.directories.proofs.Prefixes.{component-lacks, component-under}
 use Rattle.entries_directory.specs.declared.Front.{Front}
 use Rattle.tree_check.specs.declared.look.Look.{Look}
 use Rattle.tree_check.specs.declared.look.Look.the-variants as L

@@ -11,12 +11,12 @@ use Rattle.format.specs.Records.{Forest, Tree}
 use Rattle.format.specs.Layout.{under, isValid}
 use Rattle.format_laws.proofs.Tests.{by-test, and-inv}
 use Rattle.tree_counts.specs.Counts.{says, weight, child, reached, countsHold, matched, SoundForest}
-use Rattle.entries_directory.specs.Names.{sortedFrom, begins, every, span, beyond, within, enter, runIn}
+use Rattle.directories.specs.Names.{sortedFrom, begins, every, span, beyond, within, enter, runIn}
 use Rattle.tree_counts.specs.Runs.{NamesPassed}
-use Rattle.entries_directory.proofs.Names.{under-slash}
+use Rattle.directories.proofs.Names.{under-slash}
 use Rattle.tree_counts.proofs.Siblings.{file-unreached}
 use Rattle.tree_counts.proofs.Walk.{child-free, counts-hold-pass, matched-pass, counts-hold-file, matched-file}
-use Rattle.entries_directory.proofs.Runs.{enter-begins, runIn-every}
+use Rattle.directories.proofs.Runs.{enter-begins, runIn-every}
 use Rattle.tree_counts.proofs.Runs.{passed-name, passed-run, counts-hold-run, matched-run}
 use Rattle.entries_directory.specs.declared.Front.{Front}
 use Rattle.entries_directory.specs.Ahead.{DirectoryPassed, Files, files-none, files-more, FilesPassed}

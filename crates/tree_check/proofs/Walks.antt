@@ -21,12 +21,12 @@ use Rattle.tree_counts.specs.Runs.{NamesPassed}
 use Rattle.tree_counts.proofs.Walk.{child-sound, counts-hold-start, matched-start}
 use Rattle.tree_counts.proofs.Runs.{passed-start, passed-end}
 use Rattle.entries_run.proofs.Steps.{entries-length}
-use Rattle.entries_directory.specs.Names.{sortedFrom, begins, leads, span, beyond, within, enter}
+use Rattle.directories.specs.Names.{sortedFrom, begins, leads, span, beyond, within, enter}
 use Rattle.entries_directory.specs.declared.Front.{Front}
 use Rattle.entries_directory.specs.Ahead.{Ahead, After, after-none, after-some, DirectoryPassed}
 use Rattle.entries_directory.proofs.Ahead.{stays-is, stays-in}
-use Rattle.entries_directory.proofs.Directory.{first-least}
-use Rattle.entries_directory.proofs.Runs.{within-top}
+use Rattle.directories.proofs.Prefixes.{first-least}
+use Rattle.directories.proofs.Runs.{within-top}
 use Rattle.tree_search.specs.Siblings.{FoundAt}
 use Rattle.tree_check.specs.declared.look.Look.the-variants as L
 use Rattle.tree_check.specs.declared.walk.Directory.{Directory}

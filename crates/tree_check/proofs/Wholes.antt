@@ -25,7 +25,7 @@ use Rattle.tree_counts.specs.Counts.{says, validBelow, positive, countsHold, ma
 use Rattle.tree_counts.proofs.Readings.{nodes-plain}
 use Rattle.tree_counts.proofs.Counts.{counts-tested}
 use Rattle.tree_counts.proofs.Walk.{counts-hold-start, matched-start}
-use Rattle.entries_directory.proofs.Directory.{entries-sorted}
+use Rattle.directories.proofs.Prefixes.{entries-sorted}
 use Rattle.entries_directory.specs.declared.Front.{Front}
 use Rattle.tree_check.specs.declared.survey.Survey.{Survey}
 use Rattle.tree_check.specs.declared.survey.Survey.the-variants as S

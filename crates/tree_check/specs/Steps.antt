@@ -16,7 +16,7 @@ use Rattle.tree_nodes.specs.Answers.{nodeAt}
 use Rattle.tree_nodes.specs.Flat.{Reads}
 use Rattle.entries_run.specs.Steps.{nameAt}
 use Rattle.tree_counts.specs.Counts.{countsHold, matched, SoundForest}
-use Rattle.entries_directory.specs.Names.{begins}
+use Rattle.directories.specs.Names.{begins}
 use Rattle.tree_counts.specs.Runs.{NamesPassed}
 use Rattle.entries_directory.specs.declared.Front.{Front}
 use Rattle.tree_check.specs.declared.look.Look.the-variants as L

@@ -12,12 +12,12 @@ use Rattle.format.specs.Layout.{has, under, isValid}
 use Rattle.format_laws.proofs.Tests.{clash, by-test, and-inv}
 use Rattle.format_laws.proofs.Lists.{eqList-true}
 use Rattle.tree_counts.specs.Counts.{says, weight, child, reached, countsHold, matched, SoundForest}
-use Rattle.entries_directory.specs.Names.{sortedFrom, begins, leads, trails, every, beyond, within, enter, runIn}
+use Rattle.directories.specs.Names.{sortedFrom, begins, leads, trails, every, beyond, within, enter, runIn}
 use Rattle.tree_counts.specs.Runs.{Run, Boundary, NamesPassed}
-use Rattle.entries_directory.proofs.Names.{under-one}
+use Rattle.directories.proofs.Names.{under-one}
 use Rattle.tree_counts.proofs.Walk.{inside-length, has-reached, child-some, counts-hold-found, matched-found}
-use Rattle.entries_directory.proofs.Order.{under-convex, done-clear}
-use Rattle.entries_directory.proofs.Runs.{beyond-leads, within-end, within-step, beyond-step, within-sorted, runIn-every, runIn-inside, within-run, beyond-run, within-leads, beyond-end, runIn-some}
+use Rattle.directories.proofs.Order.{under-convex, done-clear}
+use Rattle.directories.proofs.Runs.{beyond-leads, within-end, within-step, beyond-step, within-sorted, runIn-every, runIn-inside, within-run, beyond-run, within-leads, beyond-end, runIn-some}
 
 -- ---- a run
 

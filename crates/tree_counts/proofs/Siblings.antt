@@ -12,7 +12,7 @@ use Rattle.format.specs.Layout.{okNodeName, has, distinct, under}
 use Rattle.format_laws.proofs.Tests.{clash, by-test, and-inv, and-inv₃}
 use Rattle.tree_counts.specs.Counts.{plain, reached, SoundForest}
 use Rattle.tree_counts.proofs.Tests.{or-false-inv}
-use Rattle.entries_directory.proofs.Names.{under-slash, under-one}
+use Rattle.directories.proofs.Names.{under-slash, under-one}
 
 -- what holds of a list of siblings holds of its parts
 module _ (n : Node) (kids after : Forest) (h : SoundForest (tree n kids after)) where

@@ -7,7 +7,7 @@ use lib.ListN.{length}
 use Rattle.format.specs.Bytes.{lacks}
 use Rattle.format.specs.Records.{Forest}
 use Rattle.format.specs.Layout.{has, under}
-use Rattle.entries_directory.specs.Names.{begins, leads, trails, every, never, beyond, within}
+use Rattle.directories.specs.Names.{begins, leads, trails, every, never, beyond, within}
 
 -- of the names in a directory, done have been passed, and run are those that follow under the component c
 pub record Run (c : List ℕ) (done run : List (List ℕ)) : Type 0 where

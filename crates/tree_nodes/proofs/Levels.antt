@@ -158,11 +158,11 @@ pending-all : (s : List ℕ) (is : List Item) → Pending s [] is → length is 
 pending-all s _ pending-none = refl
 
 -- where the climb has ended and not all is passed
-settled-next : (s : List ℕ) (n : ℕ) (st : List ℕ) (is : List Item) → climbed (n ∷ st) ≡ n ∷ st → Pending s (n ∷ st) is → 0 < length is → Next s n st is
+climbed-next : (s : List ℕ) (n : ℕ) (st : List ℕ) (is : List Item) → climbed (n ∷ st) ≡ n ∷ st → Pending s (n ∷ st) is → 0 < length is → Next s n st is
 unfolding climbed
-settled-next s zero [] is settled p some = let none = pending-all s is (pending-up s [] is 0 refl p) in absurd (omega arith)
-settled-next s zero (m ∷ st) is settled p some = let l = climb-length (m ∷ st) in absurd (omega (arith, ap length settled))
-settled-next s (suc n) st is settled p some = pending-next s st is (suc n) (omega arith) p
+climbed-next s zero [] is is-climbed p some = let none = pending-all s is (pending-up s [] is 0 refl p) in absurd (omega arith)
+climbed-next s zero (m ∷ st) is is-climbed p some = let l = climb-length (m ∷ st) in absurd (omega (arith, ap length is-climbed))
+climbed-next s (suc n) st is is-climbed p some = pending-next s st is (suc n) (omega arith) p
 
 -- ---- the loop
 
@@ -170,7 +170,7 @@ settled-next s (suc n) st is settled p some = pending-next s st is (suc n) (omeg
 record Remains (d : List ℕ) (k : ℕ) (t : Tree) (place left : ℕ) (st : List ℕ) : Type 0 where
   rest : List Item
   pending : Pending (drop place d) st rest
-  settled : climbed st ≡ st
+  is-climbed : climbed st ≡ st
   more : left < length rest
   same : (z : Item) → getD (treeItems t) k z ≡ getD rest left z
 
@@ -187,7 +187,7 @@ passing-start d k st one =
           record {
             rest = treeItems t;
             pending = rw one (pending-list (r .reads) (r .levels) refl pending-none (tree-items t ∙ sym (append-nil (items 1 (tree (t .root) (t .subtrees) nil)))));
-            settled = rw one;
+            is-climbed = rw one;
             more = few;
             same = λ z. refl;
           };
@@ -199,7 +199,7 @@ rest-item is i rest z (suc left) e some = let one : suc left - 1 ≡ left = omeg
 
 module _ (d : List ℕ) (k : ℕ) (t : Tree) (place left n : ℕ) (st : List ℕ) (h : Remains d k t place left (n ∷ st)) where
   remains-next : Next (drop place d) n st (h .rest)
-  remains-next = settled-next (drop place d) n st (h .rest) (h .settled) (h .pending) (omega (arith, h .more))
+  remains-next = climbed-next (drop place d) n st (h .rest) (h .is-climbed) (h .pending) (omega (arith, h .more))
 
   remains-more : 0 < left → (node : Code.Node) → NodeIs d place node
       → (st′ : List ℕ) → ((0 < node .subtrees → length st < 127) → st′ ≡ passed (node .subtrees) (n ∷ st)) → Remains d k t (node .next) (left - 1) st′
@@ -217,7 +217,7 @@ module _ (d : List ℕ) (k : ℕ) (t : Tree) (place left n : ℕ) (st : List ℕ
       record {
         rest = x .rest;
         pending = rw here (pending-climbed _ _ _ after);
-        settled = rw here (climb-climbed (node .subtrees ∷ (n - 1) ∷ st));
+        is-climbed = rw here (climb-climbed (node .subtrees ∷ (n - 1) ∷ st));
         more = omega (arith, h .more, ap length (x .split));
         same = λ z. h .same z ∙ rest-item (h .rest) (x .item) (x .rest) z left (x .split) some;
       }

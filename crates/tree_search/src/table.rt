@@ -2,8 +2,8 @@
 use crate::child::Answer;
 use crate::child::Child;
 use crate::child::is_named;
-use fields::find;
-use tree_nodes::passes::after_tree;
+use cache_tree::differ::key_at;
+use tree_nodes::passes::sibling_at;
 use tree_table::Table;
 use tree_table::clear;
 use tree_table::has_seed;
@@ -16,9 +16,8 @@ use tree_table::slot_of;
 ghost use mathlib.Core.Path.{_≡_};
 ghost use mathlib.Core.List.{List};
 ghost use Prim.Native.Nat.{ℕ, _≤_, _<_};
-ghost use lib.ListN.{length, drop};
-ghost use Rattle.tree_nodes.specs.Flat.{nameOf};
-ghost use Rattle.tree_table.specs.Keys.{keyIn};
+ghost use lib.ListN.{length};
+ghost use Rattle.tree_nodes.specs.Flat.{EndsAt};
 ghost use Rattle.tree_search.specs.Siblings.{AnswerHolds};
 ghost use Rattle.tree_search.specs.Table.{Known, Vacant, withPlace, firstSlot, slotsOf, listOf};
 ghost use Rattle.tree_search.specs.declared.table.Region.{Region};
@@ -129,21 +128,12 @@ pub fn put_key(region: Region, key: u32, t: &mut Table) -> u32
     1
 }
 
-// The key of the node at a place.
-fn key_at(d: &[u8], place: usize, t: &Table) -> u32
-    requires { ⌜ place ≤ length (now d) ⌝ }
-    ensures { λ r. ⌜ r ≡ keyIn (now (t .entry)) (nameOf (drop place (now (d .entry)))) ⌝ }
-{
-    let nul = find(d, place, 0);
-    key_of(&d[place..nul], t)
-}
-
-// The sibling at a place is put down, if its key is in the table.
-fn put_place(d: &[u8], place: usize, region: Region, t: &mut Table)
-    requires { ⌜ (place ≤ length (now d)) × (length (now d) ≤ 16777216) ⌝ }
+// The sibling at a place, whose name ends at nul, is put down, if its key is in the table.
+fn put_place(d: &[u8], place: usize, nul: usize, region: Region, t: &mut Table)
+    requires { ⌜ EndsAt (now d) place nul × (place ≤ length (now d)) × (length (now d) ≤ 16777216) ⌝ }
     ensures { λ _. ⌜ now (t .exit) ≡ withPlace (firstSlot region) (slotsOf region) (now (d .entry)) place (now (t .entry)) ⌝ }
 {
-    let key = key_at(d, place, t);
+    let key = key_at(d, place, nul, t);
     let slots = slots_of(region);
     let i = slot_of(t, first_slot(region), slots, key);
     if t[i] != key {
@@ -166,8 +156,9 @@ pub fn put_places(d: &[u8], at: usize, k: u32, region: Region, t: &mut Table)
     let mut place = at;
     let mut left = k;
     while 0 < left {
-        put_place(d, place, region, t);
-        place = after_tree(d, place);
+        let sibling = sibling_at(d, place);
+        put_place(d, place, sibling.nul, region, t);
+        place = sibling.next;
         left -= 1;
     }
     set_list(t, list_of(region), at, k);

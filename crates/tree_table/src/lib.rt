@@ -7,7 +7,7 @@ ghost use Prim.Native.Nat.{ℕ, _+_, _*_, _%_, _≤_, _<_};
 ghost use lib.ListN.{length, getD, set};
 ghost use Rattle.tree_table.specs.Keys.{stepKey, lastKey, keyIn, stepOf, nextSlot, slotIn, SeedOnly, isOf};
 
-// How many numbers the array of a table has. A contract cannot name a constant of the code, so contracts say 4150.
+// How many numbers the array of a table has. A contract cannot name a constant of the code, so contracts say 3126.
 pub const NUMBERS: usize = 3126;
 
 // While a tree is read: KEYS slots. While entries are walked over: two smaller tables and rows of cursors in their stead (tree_search says where). After

@@ -57,9 +57,9 @@ module _ (w : ℕ) (name : List ℕ) where
     unfolding invalidPath
     tree-passes e = rw e
 
-    pub way-passes : under (n .name) name ≡ false
+    pub path-passes : under (n .name) name ≡ false
         → writeForest (invalidPath w name (tree n kids after)) ++ writeForest trees
         ≡ writeForest (tree n kids nil) ++ (writeForest (invalidPath w name after) ++ writeForest trees)
-    way-passes e =
+    path-passes e =
         rw (tree-passes e, write-tree n kids (invalidPath w name after), write-tree n kids nil, write-nil, append-nil (writeForest kids))
         (simp append-assoc)

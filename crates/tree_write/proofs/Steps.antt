@@ -30,7 +30,7 @@ use Rattle.tree_write.specs.Written.{NodeHere, madeInvalid, NodeWritten,
 use Rattle.tree_write.specs.Steps.{ToWrite, Part, Stepped}
 use Rattle.tree_write.proofs.Nodes.{head-is}
 use Rattle.tree_write.proofs.Trees.{write-nil}
-use Rattle.tree_write.proofs.Paths.{path-enters, way-passes, path-none}
+use Rattle.tree_write.proofs.Paths.{path-enters, path-passes, path-none}
 
 -- ---- where siblings end
 
@@ -135,7 +135,7 @@ module _ (d name : List ℕ) (w : PathPlace) (s : List ℕ) (x : ToWrite d name 
             record {
               part = writeForest (tree n (first-of .kids) nil);
               rest = writeForest (invalidPath 20 (drop (w .from) name) (first-of .after)) ++ writeForest (x .trees);
-              whole = text-is ∙ way-passes 20 (drop (w .from) name) n (first-of .kids) (first-of .after) (x .trees) out-dir;
+              whole = text-is ∙ path-passes 20 (drop (w .from) name) n (first-of .kids) (first-of .after) (x .trees) out-dir;
               wrote = written .wrote (tree n (first-of .kids) nil) _ (reads-more (first-of .node) (first-of .reads-kids) reads-none);
               left = record {
                 siblings = first-of .after;
@@ -164,9 +164,9 @@ module _ (d name : List ℕ) (w : PathPlace) (s : List ℕ) (x : ToWrite d name 
 
 -- ---- all siblings
 
-pub way-start : (d name : List ℕ) (place at k : ℕ) (f : Forest) (m : ℕ) → SoundForest f → Reads (drop place d) f k m
+pub path-start : (d name : List ℕ) (place at k : ℕ) (f : Forest) (m : ℕ) → SoundForest f → Reads (drop place d) f k m
     → ToWrite d name (record { place = place; at = at; left = k; later = 0; from = 0 }) (writeForest (invalidPath 20 name f))
-way-start d name place at k f m sound r = record {
+path-start d name place at k f m sound r = record {
   siblings = f;
   taken = m;
   trees = nil;

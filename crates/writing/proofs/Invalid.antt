@@ -1,4 +1,4 @@
--- A cache tree stays sound where entries of one name change and the way to that name is made invalid.
+-- A cache tree stays sound where entries of one name change and the path to that name is made invalid.
 use mathlib.Core.Path.{_≡_, refl, ap, _∙_}
 use mathlib.Core.List.{List}
 use mathlib.Core.Bool.{true, cond}

@@ -65,7 +65,7 @@ pub const GROUPS: [(&str, fn() -> Vec<Case>); 10] = [
     ("number", results::numbers),
     ("word", results::words),
     ("extension", results::extensions),
-    ("tree", trees::ways),
+    ("tree", trees::whole),
     ("part of a tree", trees::parts),
     ("order", refusals::orders),
     ("refusal", refusals::limits),
@@ -104,7 +104,7 @@ fn refused(name: &str, file: &Arc<Vec<u8>>, call: Call, number: u32) -> Case {
     }
 }
 
-// ---- judging a library
+// ---- testing a library
 
 impl Case {
     /// The lengths of outputs to try, and the answers: exactly long enough, longer, and one byte short.

@@ -155,12 +155,12 @@ pub fn rewriting(before: &Records) -> Change {
 }
 
 pub fn putting(before: &Records, entry: &Entry) -> Change {
-    putting_on(before, entry, &way_to(&entry.name))
+    putting_on(before, entry, &directories_above(&entry.name))
 }
 
 /// A put; the caller tells the paths of the nodes that become invalid.
-pub fn putting_on(before: &Records, entry: &Entry, way: &[&[u8]]) -> Change {
-    let mut change = removing_on(before, &entry.name, entry.stage.into(), way);
+pub fn putting_on(before: &Records, entry: &Entry, directories: &[&[u8]]) -> Change {
+    let mut change = removing_on(before, &entry.name, entry.stage.into(), directories);
     let key = (&entry.name, entry.stage);
     let entries = &mut change.after.entries;
     let place = entries.partition_point(|other| (&other.name, other.stage) < key);
@@ -171,17 +171,17 @@ pub fn putting_on(before: &Records, entry: &Entry, way: &[&[u8]]) -> Change {
 
 /// The entry of this name and stage goes, if it is there.
 pub fn removing(before: &Records, name: &[u8], stage: u32) -> Change {
-    removing_on(before, name, stage, &way_to(name))
+    removing_on(before, name, stage, &directories_above(name))
 }
 
-pub fn removing_on(before: &Records, name: &[u8], stage: u32, way: &[&[u8]]) -> Change {
+pub fn removing_on(before: &Records, name: &[u8], stage: u32, directories: &[&[u8]]) -> Change {
     let mut after = before.clone();
     after
         .entries
         .retain(|other| (&other.name[..], u32::from(other.stage)) != (name, stage));
     for extension in &mut after.extensions {
         if let Extension::Tree(nodes) = extension {
-            invalidate(nodes, way);
+            invalidate(nodes, directories);
         }
     }
     let edit = Edit::Remove(name.to_vec(), stage);
@@ -189,7 +189,7 @@ pub fn removing_on(before: &Records, name: &[u8], stage: u32, way: &[&[u8]]) -> 
 }
 
 /// The paths of the directories above a name, the root's being empty.
-fn way_to(name: &[u8]) -> Vec<&[u8]> {
+fn directories_above(name: &[u8]) -> Vec<&[u8]> {
     let slashes = (0..name.len()).filter(|&at| name[at] == b'/');
     let below = slashes.map(|at| &name[..at]);
     [&b""[..]].into_iter().chain(below).collect()

@@ -16,7 +16,7 @@ const NAMES: [&[u8]; 7] = [
     b"file",
 ];
 /// Names, and the nodes that a change of them makes invalid.
-const WAYS: [(&[u8], &[&[u8]]); 17] = [
+const INVALIDATED: [(&[u8], &[&[u8]]); 17] = [
     (b"a/c", &[b"", b"a"]),
     (b"a/d/e", &[b"", b"a", b"a/d"]),
     (b"a/d/f", &[b"", b"a", b"a/d"]),
@@ -37,7 +37,7 @@ const WAYS: [(&[u8], &[&[u8]]); 17] = [
 ];
 
 /// Whole trees, in three orders of siblings.
-pub fn ways() -> Vec<Case> {
+pub fn whole() -> Vec<Case> {
     let orders: [fn(&mut [Tree]); 3] = [
         |below| below.sort_by_key(|tree| [&tree.name[..], b"/"].concat()),
         |below| below.sort_by_key(|tree| (tree.name.len(), tree.name.clone())),
@@ -51,7 +51,7 @@ pub fn ways() -> Vec<Case> {
             let empty = [b"0", &b".git"[..]].map(|name| Tree::new(name, 0, &[]));
             tree.below.push(Tree::new(b"z", 0, &empty));
             arrange(&mut tree, order);
-            cases.extend(all_ways(version, &tree));
+            cases.extend(changes_of(version, &tree));
         }
     }
     cases
@@ -64,31 +64,31 @@ fn arrange(tree: &mut Tree, order: fn(&mut [Tree])) {
     }
 }
 
-fn all_ways(version: u32, tree: &Tree) -> Vec<Case> {
+fn changes_of(version: u32, tree: &Tree) -> Vec<Case> {
     let mut before = of_names(version, &NAMES, false);
     before.extensions.push(tree.extension());
     let mut changes = vec![rewriting(&before)];
-    for (name, way) in WAYS {
-        changes.push(putting_on(&before, &entry(name, 0), way));
+    for (name, directories) in INVALIDATED {
+        changes.push(putting_on(&before, &entry(name, 0), directories));
         if NAMES.contains(&name) {
-            changes.push(removing_on(&before, name, 0, way));
+            changes.push(removing_on(&before, name, 0, directories));
         }
     }
-    in_versions("way", &before, &changes, &[version])
+    in_versions("whole tree", &before, &changes, &[version])
 }
 
 /// Trees that lack nodes, and trees of many levels.
 pub fn parts() -> Vec<Case> {
-    // Without the node of a directory on the way, those below it are not on the way.
+    // Without the node of a directory on the path, those below it are not on the path.
     let a = Tree::new(b"a", -(1 << 31), &[Tree::new(b"d", 0, &[])]);
     let b = Tree::new(b"b", -2, &[a]);
     let part = Tree::new(b"", -7, &[b, Tree::new(b"d", 0, &[])]);
     let mut before = of_names(2, &NAMES, false);
     before.extensions.push(part.extension());
-    let whole_way: [&[u8]; 4] = [b"", b"b", b"b/a", b"b/a/d"];
+    let directories: [&[u8]; 4] = [b"", b"b", b"b/a", b"b/a/d"];
     let changes = [
         rewriting(&before),
-        putting_on(&before, &entry(b"b/a/d/e", 0), &whole_way),
+        putting_on(&before, &entry(b"b/a/d/e", 0), &directories),
         removing_on(&before, b"b/d/a/d/e", 0, &[b"", b"b"]),
         removing_on(&before, b"a/d/e", 0, &[b""]),
     ];

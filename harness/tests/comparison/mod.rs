@@ -7,7 +7,7 @@ use harness::index_file::{letters, node, File, LARGEST, OBJECT};
 use harness::{ffi, opponent};
 use nerupazhil::raw::{Fields, DIGEST, WORKSPACE};
 
-use super::{cases, extend, index, put, regular, seal, workspace, VECTORS};
+use super::{cases, extend, index, put, regular, with_checksum, workspace, VECTORS};
 
 /// Makes the same call of both libraries. `work` and `out` are what is lent, an output of the given number of bytes.
 macro_rules! both {
@@ -190,8 +190,8 @@ fn all_cuts_of_small_files() {
         for length in 0..file.len() {
             let cut = &file[..length];
             both!(cut, 0, |work, _out| check(cut, work));
-            let sealed = seal(cut);
-            all_calls(&sealed);
+            let file = with_checksum(cut);
+            all_calls(&file);
         }
     }
 }
@@ -234,7 +234,7 @@ fn one_byte_changed(file: &[u8], place: usize) {
     let turned = (0..8).map(|bit| old ^ 1 << bit);
     for (i, value) in turned.chain(*b"\0\n -./01AZa\xff").enumerate() {
         body[place] = value;
-        let changed = &seal(&body)[..];
+        let changed = &with_checksum(&body)[..];
         both!(changed, 0, |work, _out| check(changed, work));
         if i == 0 && place % 4 == 0 {
             all_calls(changed);

@@ -138,11 +138,11 @@ pub fn laid_out(version: u32, names: &[Vec<u8>]) -> Vec<u8> {
         }
         previous = name;
     }
-    sealed(file)
+    with_checksum(file)
 }
 
 /// The file with its checksum.
-pub fn sealed(mut file: Vec<u8>) -> Vec<u8> {
+pub fn with_checksum(mut file: Vec<u8>) -> Vec<u8> {
     let digest = sha1(&file);
     file.extend(digest);
     file

@@ -7,7 +7,7 @@ use native.Mathlib.Omega.{arith}
 use borrow.Author.Needs.{needs}
 use lib.ListN.{length}
 use lib.Dec.{leb, ltb}
-use Rattle.entries_directory.specs.Names.{begins}
+use Rattle.directories.specs.Names.{begins}
 use Rattle.entries_directory.specs.Ahead.{After}
 use Rattle.entries_directory.proofs.Ahead.{Going, going-start, going-on, going-end, Passing, pass-start, pass-on, pass-end, stays-some}
 use Rattle.entries_directory.proofs.pass.Statement.{statement}

@@ -9,7 +9,7 @@ use Rattle.format.specs.Requests.{invalidPath}
 use Rattle.tree_counts.specs.Counts.{SoundForest}
 use Rattle.tree_nodes.specs.Flat.{Reads}
 use Rattle.tree_write.specs.Steps.{StepBounds}
-use Rattle.tree_write.proofs.Steps.{way-start, path-end, Going, going-start, going-on}
+use Rattle.tree_write.proofs.Steps.{path-start, path-end, Going, going-start, going-on}
 use Rattle.tree_write.proofs.put_path.Statement.{statement}
 use Rattle.tree_write.proofs.put_path.Tie as tie
 
@@ -26,7 +26,7 @@ loop-holds c = (
   record { room = c .before .before .before .pre; named = omega arith; few = omega arith },
   omega arith,
   refl,
-  λ f m sound r. going-start _ _ _ _ _ (way-start _ _ _ _ _ f m sound r),
+  λ f m sound r. going-start _ _ _ _ _ (path-start _ _ _ _ _ f m sound r),
 )
 
 step-requires : tie.Need-step-requires Inv-loop μ-loop

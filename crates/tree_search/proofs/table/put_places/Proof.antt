@@ -30,8 +30,8 @@ loop-holds c =
 put-place-requires : tie.Need-put-place-requires Inv-loop μ-loop
 put-place-requires c κs = search needs
 
-after-tree-requires : tie.Need-after-tree-requires Inv-loop μ-loop
-after-tree-requires c κs = search needs
+sibling-at-requires : tie.Need-sibling-at-requires Inv-loop μ-loop
+sibling-at-requires c κs = search needs
 
 sub-left : tie.Need-sub-left Inv-loop μ-loop
 sub-left c = search needs
@@ -42,7 +42,7 @@ loop-less c = search needs
 loop-again : tie.Need-loop-again Inv-loop μ-loop
 loop-again c =
     let l = c .before .before .before in
-    rw (c .before .put-place .ensures) (filling-on _ _ _ _ _ _ _ (l .before .loop .inv) (l .loop-test .taken) _ (c .after-tree .ensures .0) (c .after-tree .ensures .1))
+    rw (c .put-place .ensures) (filling-on _ _ _ _ _ _ _ (l .before .loop .inv) (l .loop-test .taken) _ (c .before .before .sibling-at .ensures .after) (c .before .before .sibling-at .ensures .within))
 
 list-of-requires : tie.Need-list-of-requires Inv-loop μ-loop
 list-of-requires c κs = search needs
@@ -66,8 +66,8 @@ put-places-spec =
     add-clear
     clear-requires
     loop-holds
+    sibling-at-requires
     put-place-requires
-    after-tree-requires
     sub-left
     loop-less
     loop-again

@@ -11,10 +11,9 @@ use Rattle.format.specs.declared.Order.{Order}
 use Rattle.format.specs.declared.Order.the-variants.{Below, Same, Above}
 use Rattle.format.specs.Names.{compare, common}
 use Rattle.format.specs.Layout.{under}
-use Rattle.format_laws.proofs.Tests.{false-true, clash, by-test, and-inv, eqb-swap}
+use Rattle.format_laws.proofs.Tests.{false-true, clash, by-test, and-inv, eqb-swap, head-inv}
 use Rattle.format_laws.proofs.Orders.{through, names-through}
-use Rattle.entries_directory.specs.Names.{notAbove, sortedFrom, begins, trails, never}
-use Rattle.entries_directory.proofs.Tests.{head-inv}
+use Rattle.directories.specs.Names.{notAbove, sortedFrom, begins, trails, never}
 
 -- ---- the order of names
 

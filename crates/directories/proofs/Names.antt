@@ -7,8 +7,7 @@ use lib.Dec.{eqb}
 use borrow.Author.Tests.{eqb-true, eq-eqb}
 use Rattle.format.specs.Bytes.{eqList, lacks}
 use Rattle.format.specs.Layout.{under}
-use Rattle.format_laws.proofs.Tests.{false-true, clash, by-test, else-inv}
-use Rattle.entries_directory.proofs.Tests.{head-inv}
+use Rattle.format_laws.proofs.Tests.{false-true, clash, by-test, else-inv, head-inv}
 
 -- a name under a directory has a "/"
 pub under-slash : (d s : List ℕ) → under d s ≡ true → lacks 47 s ≡ false

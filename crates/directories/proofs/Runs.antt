@@ -9,9 +9,9 @@ use lib.Seq.{drop-drop}
 use Rattle.format.specs.Names.{compare}
 use Rattle.format.specs.Layout.{under, inside}
 use Rattle.format_laws.proofs.Tests.{by-test, and-inv}
-use Rattle.entries_directory.specs.Names.{notAbove, sortedFrom, begins, leads, every, span, beyond, within, enter, runIn}
-use Rattle.entries_directory.proofs.Order.{under-begins}
-use Rattle.entries_directory.proofs.Directory.{begins-append, compare-cut, first-least}
+use Rattle.directories.specs.Names.{notAbove, sortedFrom, begins, leads, every, span, beyond, within, enter, runIn}
+use Rattle.directories.proofs.Order.{under-begins}
+use Rattle.directories.proofs.Prefixes.{begins-append, compare-cut, first-least}
 
 module _ (p : List ℕ → Bool) where
   pub beyond-leads : (ss : List (List ℕ)) → leads p (beyond p ss) ≡ false

@@ -12,11 +12,10 @@ use Rattle.format.specs.Bytes.{before, lacks}
 use Rattle.format.specs.Names.{compare, rises}
 use Rattle.format.specs.Records.{Entry, Key}
 use Rattle.format.specs.Layout.{under, Entries, entries-end, entries-more, names}
-use Rattle.format_laws.proofs.Tests.{false-true, by-test}
+use Rattle.format_laws.proofs.Tests.{false-true, by-test, head-inv}
 use Rattle.format_laws.proofs.Texts.{lacks-before}
 use Rattle.format_laws.proofs.Names.{compare-append}
-use Rattle.entries_directory.specs.Names.{notAbove, sortedFrom, begins}
-use Rattle.entries_directory.proofs.Tests.{head-inv}
+use Rattle.directories.specs.Names.{notAbove, sortedFrom, begins}
 
 -- ---- the first component
 

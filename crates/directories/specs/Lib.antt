@@ -1,0 +1,2 @@
+-- Definitions that other crates cite.
+pub mod Names
