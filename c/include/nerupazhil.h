@@ -2,16 +2,26 @@
  * Nerupazhil for C and C++: Git's index file, checked, read and written by functions that are proved.
  * Link with libnerupazhil.a, which needs memcpy and memset and nothing else. c/examples has two programs.
  *
+ * The boundary. Only integers and pointers to bytes and to numbers of one width cross it, and no struct goes by value:
+ * these prototypes are right under every C calling convention with 64-bit pointers. A struct below is laid over an array
+ * of numbers; its size and the place of each member are asserted. Bindings from Swift, Kotlin or Dart can lend plain
+ * arrays: of uint64_t for a reply, of uint32_t for the fields of an entry, of uint8_t for bytes.
+ *
+ * Kind. Which function gives the object names of a repository: NERUPAZHIL_SHA1. Any other number is refused with 29.
+ *
  * Slices. A buffer is a pointer and its number of bytes. NULL with length 0 is an empty slice.
  *   file    the whole index, as its bytes are on the disk
  *   work    a workspace, at least NERUPAZHIL_WORKSPACE bytes; what is in it before a call is of no importance
  *   out     where a call that writes puts the new index; NERUPAZHIL_FILE bytes are always enough
  *   name    the name of an entry, 1 to NERUPAZHIL_NAME bytes, no NUL at its end
  *
- * Replies. Each call but nerupazhil_sha1 answers a struct by value. `refusal` is 0 of a success; else it is a number of
- * enum nerupazhil_refusal and `place` says where: the first byte of the entry, extension or checksum in the file, or 0.
- * All members that do not apply are 0 or false. Bytes between the members are left open: don't compare replies with
- * memcmp.
+ * Replies. Each call but nerupazhil_sha1 writes all of its `reply`, whatever was there. `refusal` is 0 of a success; else
+ * it is a number of enum nerupazhil_refusal and `place` says where: the first byte of the entry, extension or checksum
+ * in the file, or 0. All members that do not apply are 0; on a refusal that is all but these two, `fields` and object
+ * names included. A member that says yes or no is 1 or 0.
+ *
+ * Object names. NERUPAZHIL_OBJECT bytes are lent for each. A SHA-1 name is the first 20 of them, and the last 12 are
+ * zero; in a record that is given to nerupazhil_put these 12 are not read.
  *
  * Workspace. On refusal 19 nothing is written. On every other answer the first NERUPAZHIL_WORKSPACE bytes are zero,
  * but for the name of an entry of version 4, which nerupazhil_entry leaves at the start, with zeros after it. Bytes
@@ -26,18 +36,21 @@
  *
  * What no proof covers, since only the caller can see to it:
  *   - a length is not more than the bytes that are there, and these are not freed
- *   - workspace and output overlap nothing else that is passed; file and name may overlap each other
+ *   - workspace, output, reply, fields and object names that are written overlap nothing else that is passed; what is
+ *     only read may overlap
  *   - no other thread changes a buffer during a call
- *   - `out` of nerupazhil_sha1 is not NULL and has 20 bytes
- *   - a bool is 0 or 1: C and C++ see to that, unless its byte is set by memcpy or through a cast
+ *   - a reply, fields and an object name are not NULL, aligned as their type, and as long as it says
  *   - there is enough stack: in tests, a thread with 64 KiB runs every call on the files that take most of those tried,
  *     and one with 32 KiB on those whose cache tree has at most 16 levels, the root included (Linux on x86-64; a
  *     thread's start takes 5 KiB of these)
+ *
+ * What will be added, without a change of a prototype or a struct: another kind; the version 1 that may be asked for; a
+ * wish for the EOIE extension, as a bit of the version that is asked for (today every number above 4 is refused with 4);
+ * what check tells more, in the last numbers of its reply, which are 0 today.
  */
 #ifndef NERUPAZHIL_H
 #define NERUPAZHIL_H
 
-#include <stdbool.h>
 #include <stddef.h>
 #include <stdint.h>
 
@@ -50,7 +63,17 @@ extern "C" {
 #define NERUPAZHIL_WORKSPACE 8192u /* least length of a workspace */
 #define NERUPAZHIL_FILE 16777216u  /* greatest length of an index */
 #define NERUPAZHIL_NAME 8192u      /* greatest length of an entry's name */
-#define NERUPAZHIL_DIGEST 20u      /* length of an object name and of a digest */
+#define NERUPAZHIL_DIGEST 20u      /* length of a SHA-1 digest, and of an object name that is one */
+#define NERUPAZHIL_OBJECT 32u      /* bytes that are lent for an object name */
+
+/* The kinds of object names. */
+#define NERUPAZHIL_SHA1 1u
+
+/* The versions that may be asked for. */
+#define NERUPAZHIL_VERSION_LOWEST 0u /* 2 if no entry needs the extended word, else 3 */
+#define NERUPAZHIL_VERSION_2 2u
+#define NERUPAZHIL_VERSION_3 3u
+#define NERUPAZHIL_VERSION_4 4u
 
 /* The modes that an entry can have. */
 #define NERUPAZHIL_MODE_REGULAR 0100644u
@@ -59,7 +82,8 @@ extern "C" {
 #define NERUPAZHIL_MODE_GITLINK 0160000u /* a commit of another repository */
 
 /* Why a call refuses; nerupazhil_refusal_text says each in a sentence. Every call that takes a workspace gives 19
-   first, then what the file breaks, 1 to 5 and then from left to right 6 to 17, then what is wrong with the request. */
+   first, then 29, then what the file breaks, 1 to 5 and then from left to right 6 to 17, then what is wrong with the
+   request. */
 enum nerupazhil_refusal {
     NERUPAZHIL_DONE = 0,
     NERUPAZHIL_TOO_SHORT = 1,
@@ -82,7 +106,8 @@ enum nerupazhil_refusal {
     NERUPAZHIL_NOT_THERE = 18,
     NERUPAZHIL_WORKSPACE_SHORT = 19,
     NERUPAZHIL_OUTPUT_SHORT = 20,
-    NERUPAZHIL_NEEDS_VERSION_3 = 21
+    NERUPAZHIL_NEEDS_VERSION_3 = 21,
+    NERUPAZHIL_KIND = 29
 };
 
 /* Where the bytes of a name stand. */
@@ -90,161 +115,236 @@ enum nerupazhil_buffer { NERUPAZHIL_NOWHERE = 0, NERUPAZHIL_IN_FILE = 1, NERUPAZ
 
 /* ---- replies */
 
-struct nerupazhil_check_reply {
-    uint32_t refusal; /* 0, or a number of enum nerupazhil_refusal */
-    uint32_t version; /* 2, 3 or 4 */
-    size_t place;     /* of the refusal */
-    size_t end;       /* the byte of the file where entries end */
-    uint32_t entries; /* how many entries there are */
-    uint32_t nodes;   /* how many nodes the cache tree has */
-    uint32_t records; /* how many resolve-undo records there are; 0 is possible also with has_undo */
-    bool has_tree;    /* whether the file has a cache tree */
-    bool has_undo;    /* whether the file has a resolve-undo extension */
+struct nerupazhil_check_reply { /* uint64_t[16] */
+    uint64_t refusal;  /* 0, or a number of enum nerupazhil_refusal */
+    uint64_t place;    /* of the refusal */
+    uint64_t version;  /* 2, 3 or 4 */
+    uint64_t entries;  /* how many entries there are */
+    uint64_t end;      /* the byte of the file where entries end */
+    uint64_t has_tree; /* whether the file has a cache tree */
+    uint64_t nodes;    /* how many nodes that has */
+    uint64_t has_undo; /* whether the file has a resolve-undo extension */
+    uint64_t records;  /* how many records that has; 0 is possible also with has_undo */
+    uint64_t later[7]; /* 0 */
 };
 
 /* Where a name stands: nerupazhil_name_bytes gives its first byte. No NUL ends it. It lies in its buffer, also where it
    is empty: offset + length is at most the buffer's length. */
 struct nerupazhil_name {
-    uint32_t buffer; /* a number of enum nerupazhil_buffer */
-    size_t offset;   /* its first byte in that buffer */
-    size_t length;   /* its number of bytes */
+    uint64_t buffer; /* a number of enum nerupazhil_buffer */
+    uint64_t offset; /* its first byte in that buffer */
+    uint64_t length; /* its number of bytes */
 };
 
-/* An entry but for its name. The times, dev, ino, uid, gid and size are what stat said of the file, modulo 2^32: Git
-   compares them to see whether the file has changed; each may have any value. */
-struct nerupazhil_fields {
-    uint32_t ctime_seconds;            /* when the file's metadata changed last */
-    uint32_t ctime_nanoseconds;        /* and the part of a second */
-    uint32_t mtime_seconds;            /* when the file's bytes changed last */
-    uint32_t mtime_nanoseconds;        /* and the part of a second */
-    uint32_t dev;                      /* the device that the file is on */
-    uint32_t ino;                      /* its inode */
-    uint32_t mode;                     /* one of NERUPAZHIL_MODE_* */
-    uint32_t uid;                      /* its owner */
-    uint32_t gid;                      /* its group */
-    uint32_t size;                     /* its number of bytes */
-    uint8_t object[NERUPAZHIL_DIGEST]; /* the object name of its contents */
-    bool assume_valid;                 /* Git is not to look whether the file has changed */
-    uint32_t stage;                    /* 0, or 1 to 3 in a conflict: the common ancestor, ours, theirs */
-    bool skip_worktree;                /* the file is not to stand in the working tree */
-    bool intent_to_add;                /* the file is to be added later */
+/* An entry but for its object name and its name. The times, dev, ino, uid, gid and size are what stat said of the file,
+   modulo 2^32: Git compares them to see whether the file has changed; each may have any value. */
+struct nerupazhil_fields { /* uint32_t[14] */
+    uint32_t ctime_seconds;     /* when the file's metadata changed last */
+    uint32_t ctime_nanoseconds; /* and the part of a second */
+    uint32_t mtime_seconds;     /* when the file's bytes changed last */
+    uint32_t mtime_nanoseconds; /* and the part of a second */
+    uint32_t dev;               /* the device that the file is on */
+    uint32_t ino;               /* its inode */
+    uint32_t mode;              /* one of NERUPAZHIL_MODE_* */
+    uint32_t uid;               /* its owner */
+    uint32_t gid;               /* its group */
+    uint32_t size;              /* its number of bytes */
+    uint32_t assume_valid;      /* not 0: Git is not to look whether the file has changed */
+    uint32_t stage;             /* 0, or 1 to 3 in a conflict: the common ancestor, ours, theirs */
+    uint32_t skip_worktree;     /* not 0: the file is not to stand in the working tree */
+    uint32_t intent_to_add;     /* not 0: the file is to be added later */
 };
 
-struct nerupazhil_entry_reply {
-    uint32_t refusal;                /* 0, or a number of enum nerupazhil_refusal */
-    size_t place;                    /* of the refusal */
-    struct nerupazhil_name name;     /* a part of the file, or of the workspace for version 4 */
-    struct nerupazhil_fields fields; /* the rest of the entry */
+struct nerupazhil_entry_reply { /* uint64_t[5] */
+    uint64_t refusal;            /* 0, or a number of enum nerupazhil_refusal */
+    uint64_t place;              /* of the refusal */
+    struct nerupazhil_name name; /* a part of the file, or of the workspace for version 4 */
 };
 
-struct nerupazhil_node_reply {
-    uint32_t refusal;                  /* 0, or a number of enum nerupazhil_refusal */
-    size_t place;                      /* of the refusal */
-    struct nerupazhil_name name;       /* the directory's last component, a part of the file; empty for the root */
-    uint32_t level;                    /* 1 for the root, at most 128 */
-    uint32_t count;                    /* how many entries stand below it; 0 if it is invalid */
-    uint32_t subtrees;                 /* how many nodes stand one level below it */
-    bool valid;                        /* whether count and object hold */
-    uint8_t object[NERUPAZHIL_DIGEST]; /* of the tree object; zeros if the node is invalid */
+struct nerupazhil_node_reply { /* uint64_t[9] */
+    uint64_t refusal;            /* 0, or a number of enum nerupazhil_refusal */
+    uint64_t place;              /* of the refusal */
+    struct nerupazhil_name name; /* the directory's last component, a part of the file; empty for the root */
+    uint64_t level;              /* 1 for the root, at most 128 */
+    uint64_t valid;              /* whether count and object name hold */
+    uint64_t count;              /* how many entries stand below it; 0 if it is invalid */
+    uint64_t subtrees;           /* how many nodes stand one level below it */
 };
 
-/* A stage of a resolve-undo record. */
-struct nerupazhil_stage {
-    uint32_t mode;                     /* one of NERUPAZHIL_MODE_*, or 0: the stage is missing */
-    uint8_t object[NERUPAZHIL_DIGEST]; /* the object name; zeros if the stage is missing */
+/* A mode is one of NERUPAZHIL_MODE_*, or 0 where the stage is missing. */
+struct nerupazhil_undo_reply { /* uint64_t[8] */
+    uint64_t refusal;            /* 0, or a number of enum nerupazhil_refusal */
+    uint64_t place;              /* of the refusal */
+    struct nerupazhil_name path; /* a part of the file */
+    uint64_t first_mode;         /* the common ancestor */
+    uint64_t second_mode;        /* ours */
+    uint64_t third_mode;         /* theirs */
 };
 
-struct nerupazhil_undo_reply {
-    uint32_t refusal;               /* 0, or a number of enum nerupazhil_refusal */
-    size_t place;                   /* of the refusal */
-    struct nerupazhil_name path;    /* a part of the file */
-    struct nerupazhil_stage first;  /* the common ancestor */
-    struct nerupazhil_stage second; /* ours */
-    struct nerupazhil_stage third;  /* theirs */
+struct nerupazhil_write_reply { /* uint64_t[3] */
+    uint64_t refusal; /* 0, or a number of enum nerupazhil_refusal */
+    uint64_t place;   /* of the refusal */
+    uint64_t length;  /* how many bytes were written, from the output's start */
 };
 
-struct nerupazhil_write_reply {
-    uint32_t refusal; /* 0, or a number of enum nerupazhil_refusal */
-    size_t place;     /* of the refusal */
-    size_t length;    /* how many bytes were written, from the output's start */
+struct nerupazhil_start_reply { /* uint64_t[4] */
+    uint64_t refusal; /* 0, or a number of enum nerupazhil_refusal */
+    uint64_t place;   /* of the refusal */
+    uint64_t at;      /* the place of the first entry */
+    uint64_t left;    /* how many entries there are */
 };
 
-struct nerupazhil_start_reply {
-    uint32_t refusal; /* 0, or a number of enum nerupazhil_refusal */
-    size_t place;     /* of the refusal */
-    size_t at;        /* the place of the first entry */
-    uint32_t left;    /* how many entries there are */
+struct nerupazhil_step_reply { /* uint64_t[7] */
+    uint64_t refusal;            /* 0, or a number of enum nerupazhil_refusal */
+    uint64_t place;              /* always 0 */
+    struct nerupazhil_name name; /* a part of the file */
+    uint64_t at;                 /* the place after this entry, for the next step */
+    uint64_t left;               /* how many entries remain there */
 };
 
-struct nerupazhil_step_reply {
-    uint32_t refusal;                /* 0, or a number of enum nerupazhil_refusal */
-    size_t place;                    /* always 0 */
-    struct nerupazhil_name name;     /* a part of the file */
-    struct nerupazhil_fields fields; /* the rest of the entry */
-    size_t at;                       /* the place after this entry, for the next step; as it was on a refusal */
-    uint32_t left;                   /* how many entries remain there */
-};
+/* ---- the layout of the arrays, which the library is proved for */
+
+#ifdef __cplusplus
+#define NERUPAZHIL_ASSERT(name, fact) static_assert(fact, #name)
+#elif defined(__STDC_VERSION__) && __STDC_VERSION__ >= 201112L
+#define NERUPAZHIL_ASSERT(name, fact) _Static_assert(fact, #name)
+#else
+#define NERUPAZHIL_ASSERT(name, fact) typedef char nerupazhil_assert_##name[(fact) ? 1 : -1]
+#endif
+/* A member is number k of the array, whose numbers have w bytes; the whole has n of them. */
+#define NERUPAZHIL_MEMBER(type, member, w, k) \
+    NERUPAZHIL_ASSERT(type##_##member, offsetof(struct nerupazhil_##type, member) == (w) * (k))
+#define NERUPAZHIL_ARRAY(type, w, n) NERUPAZHIL_ASSERT(type, sizeof(struct nerupazhil_##type) == (w) * (n))
+
+NERUPAZHIL_ASSERT(pointers, sizeof(void *) == 8 && sizeof(size_t) == 8);
+NERUPAZHIL_ARRAY(check_reply, 8, 16);
+NERUPAZHIL_MEMBER(check_reply, refusal, 8, 0);
+NERUPAZHIL_MEMBER(check_reply, place, 8, 1);
+NERUPAZHIL_MEMBER(check_reply, version, 8, 2);
+NERUPAZHIL_MEMBER(check_reply, entries, 8, 3);
+NERUPAZHIL_MEMBER(check_reply, end, 8, 4);
+NERUPAZHIL_MEMBER(check_reply, has_tree, 8, 5);
+NERUPAZHIL_MEMBER(check_reply, nodes, 8, 6);
+NERUPAZHIL_MEMBER(check_reply, has_undo, 8, 7);
+NERUPAZHIL_MEMBER(check_reply, records, 8, 8);
+NERUPAZHIL_MEMBER(check_reply, later, 8, 9);
+NERUPAZHIL_ARRAY(name, 8, 3);
+NERUPAZHIL_MEMBER(name, buffer, 8, 0);
+NERUPAZHIL_MEMBER(name, offset, 8, 1);
+NERUPAZHIL_MEMBER(name, length, 8, 2);
+NERUPAZHIL_ARRAY(fields, 4, 14);
+NERUPAZHIL_MEMBER(fields, ctime_seconds, 4, 0);
+NERUPAZHIL_MEMBER(fields, ctime_nanoseconds, 4, 1);
+NERUPAZHIL_MEMBER(fields, mtime_seconds, 4, 2);
+NERUPAZHIL_MEMBER(fields, mtime_nanoseconds, 4, 3);
+NERUPAZHIL_MEMBER(fields, dev, 4, 4);
+NERUPAZHIL_MEMBER(fields, ino, 4, 5);
+NERUPAZHIL_MEMBER(fields, mode, 4, 6);
+NERUPAZHIL_MEMBER(fields, uid, 4, 7);
+NERUPAZHIL_MEMBER(fields, gid, 4, 8);
+NERUPAZHIL_MEMBER(fields, size, 4, 9);
+NERUPAZHIL_MEMBER(fields, assume_valid, 4, 10);
+NERUPAZHIL_MEMBER(fields, stage, 4, 11);
+NERUPAZHIL_MEMBER(fields, skip_worktree, 4, 12);
+NERUPAZHIL_MEMBER(fields, intent_to_add, 4, 13);
+NERUPAZHIL_ARRAY(entry_reply, 8, 5);
+NERUPAZHIL_MEMBER(entry_reply, refusal, 8, 0);
+NERUPAZHIL_MEMBER(entry_reply, place, 8, 1);
+NERUPAZHIL_MEMBER(entry_reply, name, 8, 2);
+NERUPAZHIL_ARRAY(node_reply, 8, 9);
+NERUPAZHIL_MEMBER(node_reply, refusal, 8, 0);
+NERUPAZHIL_MEMBER(node_reply, place, 8, 1);
+NERUPAZHIL_MEMBER(node_reply, name, 8, 2);
+NERUPAZHIL_MEMBER(node_reply, level, 8, 5);
+NERUPAZHIL_MEMBER(node_reply, valid, 8, 6);
+NERUPAZHIL_MEMBER(node_reply, count, 8, 7);
+NERUPAZHIL_MEMBER(node_reply, subtrees, 8, 8);
+NERUPAZHIL_ARRAY(undo_reply, 8, 8);
+NERUPAZHIL_MEMBER(undo_reply, refusal, 8, 0);
+NERUPAZHIL_MEMBER(undo_reply, place, 8, 1);
+NERUPAZHIL_MEMBER(undo_reply, path, 8, 2);
+NERUPAZHIL_MEMBER(undo_reply, first_mode, 8, 5);
+NERUPAZHIL_MEMBER(undo_reply, second_mode, 8, 6);
+NERUPAZHIL_MEMBER(undo_reply, third_mode, 8, 7);
+NERUPAZHIL_ARRAY(write_reply, 8, 3);
+NERUPAZHIL_MEMBER(write_reply, refusal, 8, 0);
+NERUPAZHIL_MEMBER(write_reply, place, 8, 1);
+NERUPAZHIL_MEMBER(write_reply, length, 8, 2);
+NERUPAZHIL_ARRAY(start_reply, 8, 4);
+NERUPAZHIL_MEMBER(start_reply, refusal, 8, 0);
+NERUPAZHIL_MEMBER(start_reply, place, 8, 1);
+NERUPAZHIL_MEMBER(start_reply, at, 8, 2);
+NERUPAZHIL_MEMBER(start_reply, left, 8, 3);
+NERUPAZHIL_ARRAY(step_reply, 8, 7);
+NERUPAZHIL_MEMBER(step_reply, refusal, 8, 0);
+NERUPAZHIL_MEMBER(step_reply, place, 8, 1);
+NERUPAZHIL_MEMBER(step_reply, name, 8, 2);
+NERUPAZHIL_MEMBER(step_reply, at, 8, 5);
+NERUPAZHIL_MEMBER(step_reply, left, 8, 6);
+#undef NERUPAZHIL_ARRAY
+#undef NERUPAZHIL_MEMBER
+#undef NERUPAZHIL_ASSERT
 
 /* ---- calls that read */
 
 /* Checks the file: 0 says that it is a sound index, and what is in it. */
-struct nerupazhil_check_reply nerupazhil_check(const uint8_t *file, size_t file_length,
-                                               uint8_t *work, size_t work_length);
+void nerupazhil_check(uint32_t kind, const uint8_t *file, size_t file_length, uint8_t *work, size_t work_length,
+                      struct nerupazhil_check_reply *reply);
 
 /* Entry k, from 0; 18 where there is none. Its name may stand in the workspace: use it before the next call. */
-struct nerupazhil_entry_reply nerupazhil_entry(const uint8_t *file, size_t file_length,
-                                               uint8_t *work, size_t work_length, uint32_t k);
+void nerupazhil_entry(uint32_t kind, const uint8_t *file, size_t file_length, uint8_t *work, size_t work_length,
+                      uint32_t k, struct nerupazhil_entry_reply *reply, struct nerupazhil_fields *fields,
+                      uint8_t *object);
 
-/* Node k of the cache tree, from 0, each before those below it; 18 where there is none. */
-struct nerupazhil_node_reply nerupazhil_tree_node(const uint8_t *file, size_t file_length,
-                                                  uint8_t *work, size_t work_length, uint32_t k);
+/* Node k of the cache tree, from 0, each before those below it; 18 where there is none. `object` is the name of the
+   tree object; zeros if the node is invalid. */
+void nerupazhil_tree_node(uint32_t kind, const uint8_t *file, size_t file_length, uint8_t *work, size_t work_length,
+                          uint32_t k, struct nerupazhil_node_reply *reply, uint8_t *object);
 
-/* Resolve-undo record k, from 0; 18 where there is none. */
-struct nerupazhil_undo_reply nerupazhil_undo_record(const uint8_t *file, size_t file_length,
-                                                    uint8_t *work, size_t work_length, uint32_t k);
+/* Resolve-undo record k, from 0; 18 where there is none. The object names of its three stages are zeros where a stage
+   is missing. */
+void nerupazhil_undo_record(uint32_t kind, const uint8_t *file, size_t file_length, uint8_t *work, size_t work_length,
+                            uint32_t k, struct nerupazhil_undo_reply *reply, uint8_t *first, uint8_t *second,
+                            uint8_t *third);
 
 /* ---- a walk over the entries of a file of version 2 or 3: checked once, then one entry a step */
 
 /* Checks the file and answers where a walk begins; 4 for version 4, which can be rewritten first. */
-struct nerupazhil_start_reply nerupazhil_walk_start(const uint8_t *file, size_t file_length,
-                                                    uint8_t *work, size_t work_length);
+void nerupazhil_walk_start(uint32_t kind, const uint8_t *file, size_t file_length, uint8_t *work, size_t work_length,
+                           struct nerupazhil_start_reply *reply);
 
 /* The entry at the place `at`, where `left` remain: pass both on from the reply before. 18 where none remains.
    The file is not checked again: where it, `at` or `left` is not what a walk gave, the answer is 18 or what can be
    read there as an entry. */
-struct nerupazhil_step_reply nerupazhil_walk_next(const uint8_t *file, size_t file_length,
-                                                  size_t at, uint32_t left);
+void nerupazhil_walk_next(uint32_t kind, const uint8_t *file, size_t file_length, size_t at, uint32_t left,
+                          struct nerupazhil_step_reply *reply, struct nerupazhil_fields *fields, uint8_t *object);
 
 /* ---- calls that write: the records of the file, with a change, as a new index in the output
  *
- * `asked` is the version to write: 2, 3, 4, or 0, which means 2 if no entry needs the extended word (skip-worktree or
- * intent-to-add), else 3. Cache tree and resolve undo are kept, other extensions dropped. Nothing is saved: that is
- * the caller's, and c/examples/save.c shows how to do it safely.
+ * `asked` is the version to write: one of NERUPAZHIL_VERSION_*. The lowest is 2 if no entry needs the extended word
+ * (skip-worktree or intent-to-add), else 3. Cache tree and resolve undo are kept, other extensions dropped. Nothing is
+ * saved: that is the caller's, and c/examples/save.c shows how to do it safely.
  */
 
 /* The records as they are. */
-struct nerupazhil_write_reply nerupazhil_rewrite(const uint8_t *file, size_t file_length,
-                                                 uint8_t *work, size_t work_length,
-                                                 uint8_t *out, size_t out_length, uint32_t asked);
+void nerupazhil_rewrite(uint32_t kind, const uint8_t *file, size_t file_length, uint8_t *work, size_t work_length,
+                        uint8_t *out, size_t out_length, uint32_t asked, struct nerupazhil_write_reply *reply);
 
 /* With one entry in place of the one of its name and stage, or added. The nodes of the cache tree from the root to
    its directory become invalid. That a name is not also a directory of another entry is for the caller to see to. */
-struct nerupazhil_write_reply nerupazhil_put(const uint8_t *file, size_t file_length,
-                                             uint8_t *work, size_t work_length,
-                                             uint8_t *out, size_t out_length, uint32_t asked,
-                                             const uint8_t *name, size_t name_length,
-                                             struct nerupazhil_fields fields);
+void nerupazhil_put(uint32_t kind, const uint8_t *file, size_t file_length, uint8_t *work, size_t work_length,
+                    uint8_t *out, size_t out_length, uint32_t asked, const uint8_t *name, size_t name_length,
+                    const struct nerupazhil_fields *fields, const uint8_t *object,
+                    struct nerupazhil_write_reply *reply);
 
 /* Without the entry of a name and stage; 18 where there is none. The same nodes become invalid. */
-struct nerupazhil_write_reply nerupazhil_remove(const uint8_t *file, size_t file_length,
-                                                uint8_t *work, size_t work_length,
-                                                uint8_t *out, size_t out_length, uint32_t asked,
-                                                const uint8_t *name, size_t name_length,
-                                                uint32_t stage);
+void nerupazhil_remove(uint32_t kind, const uint8_t *file, size_t file_length, uint8_t *work, size_t work_length,
+                       uint8_t *out, size_t out_length, uint32_t asked, const uint8_t *name, size_t name_length,
+                       uint32_t stage, struct nerupazhil_write_reply *reply);
 
 /* ---- the hash */
 
-/* Writes the SHA-1 digest of the bytes, of any number, to the 20 bytes at `out`. It refuses nothing. */
+/* Writes the SHA-1 digest of the bytes, of any number, to the NERUPAZHIL_DIGEST bytes at `out`. It refuses nothing. */
 void nerupazhil_sha1(const uint8_t *bytes, size_t length, uint8_t *out);
 
 /* ---- helpers, which are C and not proved */
@@ -255,14 +355,14 @@ static inline const uint8_t *nerupazhil_name_bytes(struct nerupazhil_name name, 
                                                    const uint8_t *work)
 {
     if (name.buffer == NERUPAZHIL_IN_FILE)
-        return file + name.offset;
+        return file + (size_t)name.offset;
     if (name.buffer == NERUPAZHIL_IN_WORK)
-        return work + name.offset;
+        return work + (size_t)name.offset;
     return NULL;
 }
 
 /* What a refusal means, as a sentence without a full stop. */
-static inline const char *nerupazhil_refusal_text(uint32_t refusal)
+static inline const char *nerupazhil_refusal_text(uint64_t refusal)
 {
     static const char *const text[] = {
         "done: nothing was refused",
@@ -288,6 +388,8 @@ static inline const char *nerupazhil_refusal_text(uint32_t refusal)
         "the output is too short for the result",
         "version 2 was asked for, but an entry is marked skip-worktree or intent-to-add, which needs version 3 or 4",
     };
+    if (refusal == NERUPAZHIL_KIND)
+        return "the kind of object names is not one that the library knows";
     return refusal < sizeof text / sizeof text[0] ? text[refusal] : "a refusal that this header does not know";
 }
 

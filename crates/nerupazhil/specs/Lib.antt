@@ -1,2 +1,3 @@
--- The answers in plain fields.
+-- The kinds of object names, and the answers as lists of numbers.
+pub mod Kinds
 pub mod Replies

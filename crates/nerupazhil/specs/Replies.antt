@@ -1,19 +1,21 @@
--- The answers of the calls in plain fields, as C sees them: refusal is 0 of a success, and all that does not apply is 0 or false.
+-- The answers of the calls as lists of exactly so many numbers, as another language has them behind a pointer. The first number is the refusal, 0 of a success, the
+-- second its place; all that does not apply is 0.
 use mathlib.Core.Path.{_≡_}
-use mathlib.Core.List.{List, []}
-use mathlib.Core.Bool.{Bool, true, false, cond}
-use Prim.Native.Nat.{ℕ, _+_, _≤_}
-use lib.ListN.{length, replicate}
+use mathlib.Core.List.{List, [], _∷_, _++_}
+use mathlib.Core.Bool.{false, cond, not}
+use Prim.Native.Nat.{ℕ, _+_, _-_, _≤_}
+use lib.ListN.{length, take, getD, replicate}
 use lib.Dec.{eqb}
 use Rattle.format.specs.Records as F
+use Rattle.format.specs.Layout.{bit}
 use Rattle.format.specs.Reading.{Read}
+use Rattle.entries.specs.declared.record.Fields.{Fields}
 use Rattle.answers.specs.declared.Count.{Count}
 use Rattle.answers.specs.declared.Count.the-variants.{Absent, Present}
 use Rattle.answers.specs.declared.Checked.{Checked}
 use Rattle.answers.specs.declared.Checked.the-variants as K
 use Rattle.answers.specs.declared.Shown.{Shown}
 use Rattle.answers.specs.declared.Shown.the-variants as S
-use Rattle.answers.specs.declared.EntryAnswer.{EntryAnswer}
 use Rattle.answers.specs.declared.NodeAnswer.{NodeAnswer}
 use Rattle.answers.specs.declared.UndoAnswer.{UndoAnswer}
 use Rattle.answers.specs.declared.Written.{Written}
@@ -25,154 +27,158 @@ use Rattle.writing.specs.OneFile.{WritesBack}
 use Rattle.walk.specs.declared.Started.{Started}
 use Rattle.walk.specs.declared.Started.the-variants as T
 use Rattle.walk.specs.declared.Place.{Place}
-use Rattle.nerupazhil.specs.declared.CheckReply.{CheckReply}
-use Rattle.nerupazhil.specs.declared.Name.{Name}
-use Rattle.nerupazhil.specs.declared.EntryReply.{EntryReply}
-use Rattle.nerupazhil.specs.declared.NodeReply.{NodeReply}
-use Rattle.nerupazhil.specs.declared.Stage.{Stage}
-use Rattle.nerupazhil.specs.declared.UndoReply.{UndoReply}
-use Rattle.nerupazhil.specs.declared.WriteReply.{WriteReply}
-use Rattle.nerupazhil.specs.declared.StartReply.{StartReply}
-use Rattle.nerupazhil.specs.declared.StepReply.{StepReply}
 
--- ---- check
+-- ---- check: 16 numbers, of which 7 are for what later calls may tell
 
-abbrev pub isPresent : Count → Bool
-isPresent Absent = false
-isPresent (Present n) = true
+abbrev pub isPresent : Count → ℕ
+isPresent Absent = 0
+isPresent (Present n) = 1
 
 abbrev pub numberOf : Count → ℕ
 numberOf Absent = 0
 numberOf (Present n) = n
 
-abbrev pub checkReply : Checked → CheckReply
-checkReply (K.Refused n p) =
-    record { refusal = n; version = 0; place = p; end = 0; entries = 0; nodes = 0; records = 0; «has_tree» = false; «has_undo» = false }
+-- version, entries, the byte where they end, whether there is a cache tree, its nodes, whether there is a resolve-undo extension, its records
+abbrev pub checkReply : Checked → List ℕ
+checkReply (K.Refused n p) = n ∷ p ∷ replicate 14 0
 checkReply (K.Accepted s) =
-    record {
-      refusal = 0;
-      version = s .version;
-      place = 0;
-      end = s .end;
-      entries = s .entries;
-      nodes = numberOf (s .nodes);
-      records = numberOf (s .records);
-      «has_tree» = isPresent (s .nodes);
-      «has_undo» = isPresent (s .records);
-    }
+    0 ∷ 0 ∷ s .version ∷ s .entries ∷ s .end
+    ∷ isPresent (s .nodes) ∷ numberOf (s .nodes) ∷ isPresent (s .records) ∷ numberOf (s .records)
+    ∷ replicate 7 0
 
 -- ---- what is shown
 
-abbrev pub refusalOf : Shown → ℕ
-refusalOf (S.Refused n p) = n
-refusalOf (S.InFile at n) = 0
-refusalOf (S.InWorkspace n) = 0
+-- where its name is: the buffer, 1 the file, 2 the workspace, 0 none; the offset in it, the length
+abbrev pub shownReply : Shown → List ℕ
+shownReply (S.Refused n p) = n ∷ p ∷ 0 ∷ 0 ∷ 0 ∷ []
+shownReply (S.InFile at n) = 0 ∷ 0 ∷ 1 ∷ at ∷ n ∷ []
+shownReply (S.InWorkspace n) = 0 ∷ 0 ∷ 2 ∷ 0 ∷ n ∷ []
 
-abbrev pub placeOf : Shown → ℕ
-placeOf (S.Refused n p) = p
-placeOf (S.InFile at n) = 0
-placeOf (S.InWorkspace n) = 0
+-- an object name in 32 bytes, zeros after it
+abbrev pub wideObject : List ℕ → List ℕ
+wideObject o = o ++ replicate 12 0
 
--- a name: 1 in the file, 2 in the workspace, 0 none
-abbrev pub nameOf : Shown → Name
-nameOf (S.Refused n p) = record { buffer = 0; offset = 0; length = 0 }
-nameOf (S.InFile at n) = record { buffer = 1; offset = at; length = n }
-nameOf (S.InWorkspace n) = record { buffer = 2; offset = 0; length = n }
+-- the fields of an entry but its object name and its name
+abbrev pub fieldNumbers : Fields → List ℕ
+fieldNumbers x =
+    x .«ctime_seconds» ∷ x .«ctime_nanoseconds» ∷ x .«mtime_seconds» ∷ x .«mtime_nanoseconds» ∷ x .dev ∷ x .ino ∷ x .mode ∷ x .uid ∷ x .gid ∷ x .size
+    ∷ bit (x .«assume_valid») ∷ x .stage ∷ bit (x .«skip_worktree») ∷ bit (x .«intent_to_add»)
+    ∷ []
+
+-- level, whether it is valid, its count, its number of subtrees
+abbrev pub nodeReply : NodeAnswer → List ℕ
+nodeReply a = shownReply (a .shown) ++ (a .level ∷ bit (a .valid) ∷ a .count ∷ a .subtrees ∷ [])
+
+-- the modes of its stages
+abbrev pub undoReply : UndoAnswer → List ℕ
+undoReply a = shownReply (a .shown) ++ (a .«first_mode» ∷ a .«second_mode» ∷ a .«third_mode» ∷ [])
+
+-- the place after the entry, and how many remain there
+abbrev pub stepReply : Shown → Place → List ℕ
+stepReply (S.Refused n p) next = n ∷ p ∷ replicate 5 0
+stepReply (S.InFile at n) next = shownReply (S.InFile at n) ++ (next .at ∷ next .left ∷ [])
+stepReply (S.InWorkspace n) next = shownReply (S.InWorkspace n) ++ (next .at ∷ next .left ∷ [])
+
+-- ---- what a program reads from a reply
+
+abbrev pub refusalIn : List ℕ → ℕ
+refusalIn reply = getD reply 0 0
+
+abbrev pub placeIn : List ℕ → ℕ
+placeIn reply = getD reply 1 0
+
+-- the buffer that a name is a part of
+unfoldable pub bufferIn : List ℕ → (file work : List ℕ) → List ℕ
+bufferIn reply file work = cond (eqb (getD reply 2 0) 1) file (cond (eqb (getD reply 2 0) 2) work [])
 
 -- the bytes that a name points at
-unfoldable pub bytesOf : Name → (file work : List ℕ) → List ℕ
-bytesOf x file work =
-    cond (eqb (x .buffer) 1) (partIn (x .offset) (x .length) file) (cond (eqb (x .buffer) 2) (partIn (x .offset) (x .length) work) [])
+unfoldable pub bytesIn : List ℕ → (file work : List ℕ) → List ℕ
+bytesIn reply file work = partIn (getD reply 3 0) (getD reply 4 0) (bufferIn reply file work)
 
-abbrev pub entryReply : EntryAnswer → EntryReply
-entryReply a = record { refusal = refusalOf (a .shown); place = placeOf (a .shown); name = nameOf (a .shown); fields = a .fields }
+abbrev pub NameInside : List ℕ → (file work : List ℕ) → Type 0
+NameInside reply file work = getD reply 3 0 + getD reply 4 0 ≤ length (bufferIn reply file work)
 
-abbrev pub nodeReply : NodeAnswer → NodeReply
-nodeReply a = record {
-  refusal = refusalOf (a .shown);
-  place = placeOf (a .shown);
-  name = nameOf (a .shown);
-  level = a .level;
-  count = a .count;
-  subtrees = a .subtrees;
-  valid = a .valid;
-  object = a .object;
-}
+-- an object name: the first 20 of 32 bytes
+abbrev pub objectIn : List ℕ → List ℕ
+objectIn object = take 20 object
 
-abbrev pub stageOf : ℕ → List ℕ → Stage
-stageOf mode object = record { mode = mode; object = object }
-
--- of a missing stage
-abbrev pub StageZeros : Stage → Type 0
-StageZeros x = x .mode ≡ 0 → x .object ≡ replicate 20 0
-
-abbrev pub undoReply : UndoAnswer → UndoReply
-undoReply a = record {
-  refusal = refusalOf (a .shown);
-  place = placeOf (a .shown);
-  path = nameOf (a .shown);
-  first = stageOf (a .«first_mode») (a .first);
-  second = stageOf (a .«second_mode») (a .second);
-  third = stageOf (a .«third_mode») (a .third);
-}
-
-abbrev pub stepReply : EntryAnswer → Place → StepReply
-stepReply a next = record {
-  refusal = refusalOf (a .shown);
-  place = placeOf (a .shown);
-  name = nameOf (a .shown);
-  fields = a .fields;
-  at = next .at;
-  left = next .left;
+-- the fields of an entry: as a call shows them, and as a caller gives them to put
+abbrev pub givenFields : (numbers object : List ℕ) → Fields
+givenFields numbers object = record {
+  «ctime_seconds» = getD numbers 0 0;
+  «ctime_nanoseconds» = getD numbers 1 0;
+  «mtime_seconds» = getD numbers 2 0;
+  «mtime_nanoseconds» = getD numbers 3 0;
+  dev = getD numbers 4 0;
+  ino = getD numbers 5 0;
+  mode = getD numbers 6 0;
+  uid = getD numbers 7 0;
+  gid = getD numbers 8 0;
+  size = getD numbers 9 0;
+  object = objectIn object;
+  «assume_valid» = not (eqb (getD numbers 10 0) 0);
+  stage = getD numbers 11 0;
+  «skip_worktree» = not (eqb (getD numbers 12 0) 0);
+  «intent_to_add» = not (eqb (getD numbers 13 0) 0);
 }
 
 -- ---- what the calls that show leave behind: the reply, whole, for the view v; the name that it points at, where it has one, is that of the
--- item, and it lies in its buffer. A name in the file is at the place at
+-- item, and it lies in its buffer. A name in the file is at the place at. Object names have 20 bytes, zeros after them
 
--- the buffer that a name is a part of
-unfoldable pub bufferOf : Name → (file work : List ℕ) → List ℕ
-bufferOf x file work = cond (eqb (x .buffer) 1) file (cond (eqb (x .buffer) 2) work [])
+-- an object name that is told in 32 bytes
+pub record Told (o object : List ℕ) : Type 0 where
+  pub whole : object ≡ wideObject o
+  pub width : length o ≡ 20
 
-abbrev pub NameInside : Name → (file work : List ℕ) → Type 0
-NameInside x file work = x .offset + x .length ≤ length (bufferOf x file work)
-
-pub record EntryReplies (at : ℕ) (v : View F.Entry) (f work work′ : List ℕ) (r : EntryReply) : Type 0 where
-  pub whole : r ≡ entryReply (entryShown at v)
+pub record EntryReplies (at : ℕ) (v : View F.Entry) (f work work′ reply numbers object : List ℕ) : Type 0 where
+  pub whole : reply ≡ shownReply (entryShown at v .shown)
+  pub fields : numbers ≡ fieldNumbers (entryShown at v .fields)
+  pub object-is : Told (entryShown at v .fields .object) object
   pub said : entrySaid (entryShown at v) f work′ ≡ v
-  pub inside : NameInside (r .name) f work′
+  pub inside : NameInside reply f work′
   pub after : work′ ≡ workAfter v work
 
-pub record NodeReplies (at : ℕ) (v : View F.Item) (f : List ℕ) (r : NodeReply) : Type 0 where
-  pub whole : r ≡ nodeReply (nodeShown at v)
+pub record NodeReplies (at : ℕ) (v : View F.Item) (f reply object : List ℕ) : Type 0 where
+  pub whole : reply ≡ nodeReply (nodeShown at v)
+  pub object-is : Told (nodeShown at v .object) object
   pub said : (work : List ℕ) → nodeSaid (nodeShown at v) f work ≡ v
-  pub inside : (work : List ℕ) → NameInside (r .name) f work
-  pub zeros : r .valid ≡ false → r .object ≡ replicate 20 0
+  pub inside : (work : List ℕ) → NameInside reply f work
+  -- of an invalid node
+  pub zeros : nodeShown at v .valid ≡ false → object ≡ replicate 32 0
 
-pub record UndoReplies (at : ℕ) (v : View F.Undo) (f : List ℕ) (r : UndoReply) : Type 0 where
-  pub whole : r ≡ undoReply (undoShown at v)
+-- of a missing stage
+abbrev pub StageZeros : ℕ → List ℕ → Type 0
+StageZeros mode object = mode ≡ 0 → object ≡ replicate 32 0
+
+pub record UndoReplies (at : ℕ) (v : View F.Undo) (f reply first second third : List ℕ) : Type 0 where
+  pub whole : reply ≡ undoReply (undoShown at v)
+  pub objects : Told (undoShown at v .first) first × Told (undoShown at v .second) second × Told (undoShown at v .third) third
   pub said : (work : List ℕ) → undoSaid (undoShown at v) f work ≡ v
-  pub inside : (work : List ℕ) → NameInside (r .path) f work
-  pub zeros : StageZeros (r .first) × StageZeros (r .second) × StageZeros (r .third)
+  pub inside : (work : List ℕ) → NameInside reply f work
+  pub zeros :
+      StageZeros (undoShown at v .«first_mode») first × StageZeros (undoShown at v .«second_mode») second × StageZeros (undoShown at v .«third_mode») third
 
-pub record StepReplies (at : ℕ) (v : View F.Entry) (next : Place) (f : List ℕ) (r : StepReply) : Type 0 where
-  pub whole : r ≡ stepReply (entryShown at v) next
+pub record StepReplies (at : ℕ) (v : View F.Entry) (next : Place) (f reply numbers object : List ℕ) : Type 0 where
+  pub whole : reply ≡ stepReply (entryShown at v .shown) next
+  pub fields : numbers ≡ fieldNumbers (entryShown at v .fields)
+  pub object-is : Told (entryShown at v .fields .object) object
   pub said : (work : List ℕ) → entrySaid (entryShown at v) f work ≡ v
-  pub inside : (work : List ℕ) → NameInside (r .name) f work
+  pub inside : (work : List ℕ) → NameInside reply f work
 
 -- ---- the calls that write, the start of a walk
 
-abbrev pub writeReply : Written → WriteReply
-writeReply (W.Refused n p) = record { refusal = n; place = p; length = 0 }
-writeReply (W.Done n) = record { refusal = 0; place = 0; length = n }
+abbrev pub writeReply : Written → List ℕ
+writeReply (W.Refused n p) = n ∷ p ∷ 0 ∷ []
+writeReply (W.Done n) = 0 ∷ 0 ∷ n ∷ []
 
--- the answer x in plain fields; the output and the workspace after it; what was written is, of the file f and in the version asked for, the one
--- file of its records with a change
-pub record WriteReplies (f : List ℕ) (asked : ℕ) (change : F.Records → F.Records) (x : Read (List ℕ)) (out work out′ work′ : List ℕ) (r : WriteReply) : Type 0 where
-  pub said : r ≡ writeReply (writtenOf x)
+-- the answer x; the output and the workspace after it; what was written is, of the file f and in the version asked for, the one file of its
+-- records with a change
+pub record WriteReplies (f : List ℕ) (asked : ℕ) (change : F.Records → F.Records) (x : Read (List ℕ)) (out work out′ work′ reply : List ℕ) : Type 0 where
+  pub said : reply ≡ writeReply (writtenOf x)
   pub filled : out′ ≡ outputAfter x out
   pub after : work′ ≡ cleared work
   pub back : WritesBack 20 sha1 f asked change x
 
-abbrev pub startReply : Started → StartReply
-startReply (T.Refused n p) = record { refusal = n; place = p; at = 0; left = 0 }
-startReply (T.Ready n) = record { refusal = 0; place = 0; at = 12; left = n }
+abbrev pub startReply : Started → List ℕ
+startReply (T.Refused n p) = n ∷ p ∷ 0 ∷ 0 ∷ []
+startReply (T.Ready n) = 0 ∷ 0 ∷ 12 ∷ n ∷ []
