@@ -7,7 +7,6 @@ ghost use Rattle.format.specs.Reader.{entryOf};
 ghost use Rattle.entries.specs.Record.{entryWith, noFields};
 
 // The fields of an entry but its name; zeros and false in a refusal.
-#[repr(C)]
 pub struct Fields {
     pub ctime_seconds: u32,
     pub ctime_nanoseconds: u32,

@@ -32,6 +32,12 @@ shown-then (S.Refused n p) more = refl
 shown-then (S.InFile at n) more = refl
 shown-then (S.InWorkspace n) more = refl
 
+-- and where they are all
+pub shown-alone : (s : Shown) → shownReply s ≡ shownReply s ++ []
+shown-alone (S.Refused n p) = refl
+shown-alone (S.InFile at n) = refl
+shown-alone (S.InWorkspace n) = refl
+
 -- an object name over 32 zeros
 pub widened : (o : List ℕ) → length o ≡ 20 → take 0 (replicate 32 0) ++ (o ++ drop (0 + length o) (replicate 32 0)) ≡ wideObject o
 widened o long = rw long refl
@@ -49,11 +55,6 @@ name-inside (S.Refused n p) more f work h = omega arith
 name-inside (S.InFile at n) more f work h = h
 name-inside (S.InWorkspace n) more f work h = omega arith
 
-step-inside : (s : Shown) (next : Place) (f work : List ℕ) → Inside s f work → NameInside (stepReply s next) f work
-step-inside (S.Refused n p) next f work h = name-inside (S.Refused n p) (0 ∷ 0 ∷ []) f work h
-step-inside (S.InFile at n) next f work h = name-inside (S.InFile at n) _ f work h
-step-inside (S.InWorkspace n) next f work h = name-inside (S.InWorkspace n) _ f work h
-
 -- ---- what the calls that show leave behind
 
 module _ (at : ℕ) (f reply : List ℕ) where
@@ -67,14 +68,9 @@ module _ (at : ℕ) (f reply : List ℕ) where
           fields = n ∙ ap (λ (x : EntryAnswer). fieldNumbers (x .fields)) w;
           object-is = rw w at o;
           said = rw w at (h .shows .said);
-          inside = rw e (shown-inside (a .shown) f work′ (h .shows .inside));
+          inside = rw (e ∙ shown-alone (a .shown)) (name-inside (a .shown) [] f work′ (h .shows .inside));
           after = h .after;
         }
-      where
-        shown-inside : (s : Shown) (f work : List ℕ) → Inside s f work → NameInside (shownReply s) f work
-        shown-inside (S.Refused n p) f work h = name-inside (S.Refused n p) [] f work h
-        shown-inside (S.InFile at n) f work h = name-inside (S.InFile at n) [] f work h
-        shown-inside (S.InWorkspace n) f work h = name-inside (S.InWorkspace n) [] f work h
 
     pub step-replies : (v : View F.Entry) (next : Place) → StepShows at v f a → reply ≡ stepReply (a .shown) next
         → StepReplies at v next f reply numbers object
@@ -85,7 +81,7 @@ module _ (at : ℕ) (f reply : List ℕ) where
           fields = n ∙ ap (λ (x : EntryAnswer). fieldNumbers (x .fields)) w;
           object-is = rw w at o;
           said = λ work. rw w at (h .shows work .said);
-          inside = λ work. rw e (step-inside (a .shown) next f work (h .shows work .inside));
+          inside = λ work. rw e (name-inside (a .shown) _ f work (h .shows work .inside));
         }
 
   pub node-replies : (v : View F.Item) (object : List ℕ) (a : NodeAnswer) → NodeShows at v f a → reply ≡ nodeReply a → Told (a .object) object
@@ -107,7 +103,7 @@ module _ (at : ℕ) (f reply : List ℕ) where
       let w = h .shows [] .whole in
       let (x, y, z) = h .zeros in
       let zeros : StageZeros (a .«first_mode») first × StageZeros (a .«second_mode») second × StageZeros (a .«third_mode») third =
-          (stage-told _ _ _ x p, stage-told _ _ _ y q, stage-told _ _ _ z r) in
+      (stage-told _ _ _ x p, stage-told _ _ _ y q, stage-told _ _ _ z r) in
       record {
         whole = e ∙ ap undoReply w;
         objects = (rw w at p, rw w at q, rw w at r);

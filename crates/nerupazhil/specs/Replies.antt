@@ -74,10 +74,13 @@ abbrev pub undoReply : UndoAnswer → List ℕ
 undoReply a = shownReply (a .shown) ++ (a .«first_mode» ∷ a .«second_mode» ∷ a .«third_mode» ∷ [])
 
 -- the place after the entry, and how many remain there
+abbrev pub nextNumbers : Shown → Place → List ℕ
+nextNumbers (S.Refused n p) next = 0 ∷ 0 ∷ []
+nextNumbers (S.InFile at n) next = next .at ∷ next .left ∷ []
+nextNumbers (S.InWorkspace n) next = next .at ∷ next .left ∷ []
+
 abbrev pub stepReply : Shown → Place → List ℕ
-stepReply (S.Refused n p) next = n ∷ p ∷ replicate 5 0
-stepReply (S.InFile at n) next = shownReply (S.InFile at n) ++ (next .at ∷ next .left ∷ [])
-stepReply (S.InWorkspace n) next = shownReply (S.InWorkspace n) ++ (next .at ∷ next .left ∷ [])
+stepReply shown next = shownReply shown ++ nextNumbers shown next
 
 -- ---- what a program reads from a reply
 

@@ -11,6 +11,7 @@ ghost use Rattle.answers.specs.Writing.{rewriteAnswer, putAnswer, removeAnswer}
 ghost use Rattle.walk.specs.Walks.{startAnswer, placeAfter};
 ghost use Rattle.nerupazhil.specs.Kinds.{ofKind, stepAnswer};
 ghost use Rattle.nerupazhil.specs.Replies.{givenFields, checkReply, startReply, EntryReplies, NodeReplies, UndoReplies, StepReplies, WriteReplies};
+
 mod kinds;
 mod replies;
 
@@ -115,7 +116,15 @@ pub extern "C" fn nerupazhil_put(
     ensures { λ _. ⌜ WriteReplies (now (file .entry)) asked (putRecord 20 (entryWith (givenFields (now (fields .entry)) (now (object .entry))) (now (name .entry)))) (putAnswer 20 sha1 (now (work .entry)) asked (entryWith (givenFields (now (fields .entry)) (now (object .entry))) (now (name .entry))) (length (now (out .entry))) (ofKind kind (readFile 20 sha1 (now (file .entry))))) (now (out .entry)) (now (work .entry)) (now (out .exit)) (now (work .exit)) (now (reply .exit)) ⌝ }
 {
     let given = crate::replies::given_fields(fields, object);
-    *reply = crate::replies::write_reply(crate::kinds::put(kind, file, work, out, asked, name, given));
+    *reply = crate::replies::write_reply(crate::kinds::put(
+        kind,
+        file,
+        work,
+        out,
+        asked,
+        name,
+        given,
+    ));
 }
 
 #[no_mangle]
@@ -131,13 +140,26 @@ pub extern "C" fn nerupazhil_remove(
 )
     ensures { λ _. ⌜ WriteReplies (now (file .entry)) asked (removeRecord 20 (record { name = now (name .entry); stage = stage })) (removeAnswer 20 sha1 (now (work .entry)) asked (record { name = now (name .entry); stage = stage }) (length (now (out .entry))) (ofKind kind (readFile 20 sha1 (now (file .entry))))) (now (out .entry)) (now (work .entry)) (now (out .exit)) (now (work .exit)) (now (reply .exit)) ⌝ }
 {
-    *reply = crate::replies::write_reply(crate::kinds::remove(kind, file, work, out, asked, name, stage));
+    *reply = crate::replies::write_reply(crate::kinds::remove(
+        kind,
+        file,
+        work,
+        out,
+        asked,
+        name,
+        stage,
+    ));
 }
 
 // ---- a walk over the entries: the caller keeps the place and how many remain
 
 #[no_mangle]
-pub extern "C" fn nerupazhil_walk_start(kind: u32, file: &[u8], work: &mut [u8], reply: &mut [u64; 4])
+pub extern "C" fn nerupazhil_walk_start(
+    kind: u32,
+    file: &[u8],
+    work: &mut [u8],
+    reply: &mut [u64; 4],
+)
     ensures { λ _. ⌜ (now (reply .exit) ≡ startReply (startAnswer (now (work .entry)) (ofKind kind (readFile 20 sha1 (now (file .entry)))))) × (now (work .exit) ≡ cleared (now (work .entry))) ⌝ }
 {
     *reply = crate::replies::start_reply(crate::kinds::walk_start(kind, file, work));

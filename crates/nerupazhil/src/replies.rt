@@ -107,24 +107,7 @@ pub fn check_reply(checked: Checked) -> [u64; 16]
     ensures { λ r. ⌜ r ≡ checkReply checked ⌝ }
 {
     match checked {
-        Checked::Refused(n, p) => [
-            wide(n),
-            p as u64,
-            0,
-            0,
-            0,
-            0,
-            0,
-            0,
-            0,
-            0,
-            0,
-            0,
-            0,
-            0,
-            0,
-            0,
-        ],
+        Checked::Refused(n, p) => [wide(n), p as u64, 0, 0, 0, 0, 0, 0, 0, 0, 0, 0, 0, 0, 0, 0],
         Checked::Accepted(s) => {
             let nodes = s.nodes;
             let records = s.records;
@@ -164,13 +147,13 @@ pub fn node_reply(a: NodeAnswer) -> [u64; 9]
     ensures { λ r. ⌜ r ≡ nodeReply a ⌝ }
 {
     let shown = a.shown;
-    let s = shown_reply(shown);
+    let name = shown_reply(shown);
     [
-        s[0],
-        s[1],
-        s[2],
-        s[3],
-        s[4],
+        name[0],
+        name[1],
+        name[2],
+        name[3],
+        name[4],
         wide(a.level),
         wide(bit(a.valid)),
         wide(a.count),
@@ -182,13 +165,13 @@ pub fn undo_reply(a: UndoAnswer) -> [u64; 8]
     ensures { λ r. ⌜ r ≡ undoReply a ⌝ }
 {
     let shown = a.shown;
-    let s = shown_reply(shown);
+    let path = shown_reply(shown);
     [
-        s[0],
-        s[1],
-        s[2],
-        s[3],
-        s[4],
+        path[0],
+        path[1],
+        path[2],
+        path[3],
+        path[4],
         wide(a.first_mode),
         wide(a.second_mode),
         wide(a.third_mode),
@@ -200,7 +183,15 @@ pub fn step_reply(shown: Shown, next: Place) -> [u64; 7]
 {
     match shown {
         Shown::Refused(n, p) => [wide(n), p as u64, 0, 0, 0, 0, 0],
-        Shown::InFile(at, n) => [0, 0, 1, at as u64, n as u64, next.at as u64, wide(next.left)],
+        Shown::InFile(at, n) => [
+            0,
+            0,
+            1,
+            at as u64,
+            n as u64,
+            next.at as u64,
+            wide(next.left),
+        ],
         Shown::InWorkspace(n) => [0, 0, 2, 0, n as u64, next.at as u64, wide(next.left)],
     }
 }

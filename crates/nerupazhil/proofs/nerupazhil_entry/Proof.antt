@@ -20,7 +20,7 @@ same-length : tie.Need-same-length
 same-length c = search needs
 
 returns : tie.Need-returns
-returns c = 
+returns c =
     entry-replies _ _ _ _ _ _ (c .before .field-numbers .ensures) (record { whole = c .wide-object .ensures .0; width = c .wide-object .ensures .1 }) _ _ _ (c .before .before .before .before .before .before .before .entry .ensures) (c .before .before .shown-reply .ensures)
 
 pub nerupazhil-entry-spec : {M : Type 1} → statement M

@@ -20,7 +20,7 @@ same-length-2 : tie.Need-same-length-2
 same-length-2 c = search needs
 
 returns : tie.Need-returns
-returns c = 
+returns c =
     let q = c .before .before .before .before .before in
     rw (q .before .before .before .given-fields .ensures) at (write-replies _ _ _ _ _ _ _ _ _ _ (q .put .ensures) (c .write-reply .ensures))
 

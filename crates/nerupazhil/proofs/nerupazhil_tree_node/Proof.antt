@@ -17,7 +17,7 @@ same-length : tie.Need-same-length
 same-length c = search needs
 
 returns : tie.Need-returns
-returns c = 
+returns c =
     let q = c .before .before .before .before .before .tree-node .ensures in
     (node-replies _ _ _ _ _ _ (q .0) (c .before .node-reply .ensures) (record { whole = c .wide-object .ensures .0; width = c .wide-object .ensures .1 }), q .1)
 

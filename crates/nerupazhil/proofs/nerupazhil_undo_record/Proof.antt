@@ -23,7 +23,7 @@ same-length : tie.Need-same-length
 same-length c = search needs
 
 returns : tie.Need-returns
-returns c = 
+returns c =
     let b = c .before .before in
     let q = b .before .before .before .before .before .before .before .undo-record .ensures in
     (undo-replies _ _ _ _ _ _ _ _ (q .0) (b .before .undo-reply .ensures) (record { whole = b .wide-object .ensures .0; width = b .wide-object .ensures .1 }) (record { whole = c .before .wide-object2 .ensures .0; width = c .before .wide-object2 .ensures .1 }) (record { whole = c .wide-object3 .ensures .0; width = c .wide-object3 .ensures .1 }), q .1)

@@ -17,7 +17,7 @@ wide-object-requires : tie.Need-wide-object-requires
 wide-object-requires c κs = search needs
 
 returns : tie.Need-returns
-returns c = 
+returns c =
     let q = c .before .before .before .before .before .before .before .walk-next .ensures in
     step-replies _ _ _ _ _ _ (c .before .field-numbers .ensures) (record { whole = c .wide-object .ensures .0; width = c .wide-object .ensures .1 }) _ _ (q .0) (rw (← q .1) (c .before .before .step-reply .ensures))
 

@@ -5,6 +5,7 @@ use Rattle.nerupazhil.specs.Kinds.{unknownNumber}
 use borrow.Author.Needs.{needs}
 use Rattle.nerupazhil.proofs.kinds.unknown.Statement.{statement}
 use Rattle.nerupazhil.proofs.kinds.unknown.Tie as tie
+
 returns : tie.Need-returns
 unfolding unknownNumber
 returns c = (rw (small _ (c .if1 .taken)) refl, sym (cleared-small _ (c .if1 .taken)))

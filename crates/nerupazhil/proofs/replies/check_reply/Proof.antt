@@ -2,6 +2,7 @@
 use borrow.Author.Needs.{needs}
 use Rattle.nerupazhil.proofs.replies.check_reply.Statement.{statement}
 use Rattle.nerupazhil.proofs.replies.check_reply.Tie as tie
+
 enum-known-checked : tie.Need-enum-known-checked
 enum-known-checked c = search needs
 
@@ -39,7 +40,7 @@ returns : tie.Need-returns
 returns c = rw (c .before .before .checked .given .1, c .wide .ensures)
 
 returns-2 : tie.Need-returns-2
-returns-2 c = 
+returns-2 c =
     let n = c .before .before .before in
     let p = n .before .before .before in
     rw (c .wide5 .ensures, c .before .number-of2 .ensures, c .before .before .is-present2 .ensures, n .wide4 .ensures, n .before .number-of .ensures, n .before .before .is-present .ensures, p .wide3 .ensures, p .before .wide2 .ensures, p .before .before .before .checked2 .given .1)

@@ -2,6 +2,7 @@
 use borrow.Author.Needs.{needs}
 use Rattle.nerupazhil.proofs.replies.field_numbers.Statement.{statement}
 use Rattle.nerupazhil.proofs.replies.field_numbers.Tie as tie
+
 bit-requires : tie.Need-bit-requires
 bit-requires c κs = search needs
 

@@ -2,6 +2,7 @@
 use borrow.Author.Needs.{needs}
 use Rattle.nerupazhil.proofs.replies.shown_reply.Statement.{statement}
 use Rattle.nerupazhil.proofs.replies.shown_reply.Tie as tie
+
 enum-known-shown : tie.Need-enum-known-shown
 enum-known-shown c = search needs
 

@@ -2,6 +2,7 @@
 use borrow.Author.Needs.{needs}
 use Rattle.nerupazhil.proofs.replies.start_reply.Statement.{statement}
 use Rattle.nerupazhil.proofs.replies.start_reply.Tie as tie
+
 enum-known-started : tie.Need-enum-known-started
 enum-known-started c = search needs
 

@@ -15,7 +15,7 @@ copy-to-requires : tie.Need-copy-to-requires
 copy-to-requires c κs = search needs
 
 returns : tie.Need-returns
-returns c = 
+returns c =
     let long = sym (slice-aggregate-copy-to-2 (c .before .before)) in
     (c .before .copy-to .ensures ∙ widened (c .before .before .before .before .args .t1) long, long)
 

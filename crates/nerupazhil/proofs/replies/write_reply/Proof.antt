@@ -2,6 +2,7 @@
 use borrow.Author.Needs.{needs}
 use Rattle.nerupazhil.proofs.replies.write_reply.Statement.{statement}
 use Rattle.nerupazhil.proofs.replies.write_reply.Tie as tie
+
 enum-known-written : tie.Need-enum-known-written
 enum-known-written c = search needs
 

@@ -1,0 +1,252 @@
+-- All that does not apply in a reply is 0, of a refusal and of a success: for every number and every byte of every reply.
+use mathlib.Core.Path.{_≡_, refl, ap, _∙_}
+use mathlib.Core.List.{List, [], _∷_, _++_}
+use mathlib.Core.Bool.{Bool, true, false}
+use Prim.Native.Nat.{ℕ, suc, _<_}
+use native.Mathlib.Omega.{arith}
+use lib.ListN.{length, drop, getD, replicate}
+use lib.Seq.{drop-at}
+use Rattle.format.specs.Records as F
+use Rattle.format.specs.Layout.{bit, isValid}
+use Rattle.format.specs.Reading.{Read, bad, good}
+use Rattle.format.specs.Reader.{readFile}
+use Rattle.hash.specs.Sha1.{sha1}
+use Rattle.answers.specs.declared.Count.{Count}
+use Rattle.answers.specs.declared.Count.the-variants.{Absent, Present}
+use Rattle.answers.specs.declared.Checked.{Checked}
+use Rattle.answers.specs.declared.Checked.the-variants as K
+use Rattle.answers.specs.declared.Shown.{Shown}
+use Rattle.answers.specs.declared.Shown.the-variants as S
+use Rattle.answers.specs.declared.EntryAnswer.{EntryAnswer}
+use Rattle.answers.specs.declared.NodeAnswer.{NodeAnswer}
+use Rattle.answers.specs.declared.UndoAnswer.{UndoAnswer}
+use Rattle.answers.specs.Answers.{View, refused, inFile, inWorkspace, checkAnswer, countNumber, refusedEntry, refusedNode, refusedUndo, entryAs, nodeAs, undoAs, shownAs, entryShown}
+use Rattle.answers.specs.Writing.{writtenOf}
+use Rattle.walk.specs.declared.Place.{Place}
+use Rattle.walk.specs.declared.Started.{Started}
+use Rattle.walk.specs.declared.Started.the-variants as T
+use Rattle.walk.specs.Walks.{startAnswer}
+use Rattle.nerupazhil.specs.Kinds.{ofKind}
+use Rattle.nerupazhil.specs.Replies.{isPresent, numberOf, shownReply, wideObject, fieldNumbers, checkReply, nodeReply, undoReply, nextNumbers, writeReply, startReply, refusalIn, placeIn, Told, StageZeros, EntryReplies, NodeReplies, UndoReplies, StepReplies, WriteReplies}
+use Rattle.nerupazhil.proofs.Laws.{shown-alone}
+use Rattle.nerupazhil.proofs.Numbers.{Numbered}
+use Rattle.nerupazhil.proofs.Reading.{after-shown, after-path}
+use Rattle.nerupazhil.proofs.Successes.{Positive, check-positive, start-positive}
+
+-- ---- the statements
+
+-- of a success the place is 0; a refusal has its number, its place, and n zeros after them
+pub record Zeros (n : ℕ) (reply : List ℕ) : Type 0 where
+  pub success : refusalIn reply ≡ 0 → placeIn reply ≡ 0
+  pub refused : 0 < refusalIn reply → reply ≡ refusalIn reply ∷ placeIn reply ∷ replicate n 0
+
+-- no name has no place and no length; one in the workspace is at its start
+pub record NameZeros (reply : List ℕ) : Type 0 where
+  pub none : getD reply 2 0 ≡ 0 → (getD reply 3 0 ≡ 0) × (getD reply 4 0 ≡ 0)
+  pub workspace : getD reply 2 0 ≡ 2 → getD reply 3 0 ≡ 0
+
+-- an object name has zeros after its 20 bytes, and nothing else on a refusal
+pub record ObjectZeros (reply object : List ℕ) : Type 0 where
+  pub unused : drop 20 object ≡ replicate 12 0
+  pub refused : 0 < refusalIn reply → object ≡ replicate 32 0
+
+-- check: a count is 0 without its extension, and so are the last seven numbers
+pub record CheckZeros (reply : List ℕ) : Type 0 where
+  pub zeros : Zeros 14 reply
+  pub nodes : getD reply 5 0 ≡ 0 → getD reply 6 0 ≡ 0
+  pub records : getD reply 7 0 ≡ 0 → getD reply 8 0 ≡ 0
+  pub later : drop 9 reply ≡ replicate 7 0
+
+-- an entry, or a step of a walk, with n numbers after the place
+pub record EntryZeros (n : ℕ) (reply numbers object : List ℕ) : Type 0 where
+  pub zeros : Zeros n reply
+  pub name : NameZeros reply
+  pub numbers-of : 0 < refusalIn reply → numbers ≡ replicate 14 0
+  pub object-of : ObjectZeros reply object
+
+-- an invalid node has no count and no object name
+pub record NodeZeros (reply object : List ℕ) : Type 0 where
+  pub zeros : Zeros 7 reply
+  pub name : NameZeros reply
+  pub count : getD reply 6 0 ≡ 0 → getD reply 7 0 ≡ 0
+  pub object-of : ObjectZeros reply object
+  pub invalid : getD reply 6 0 ≡ 0 → object ≡ replicate 32 0
+
+-- a missing stage has no object name
+pub record UndoZeros (reply first second third : List ℕ) : Type 0 where
+  pub zeros : Zeros 6 reply
+  pub path : NameZeros reply
+  pub objects : ObjectZeros reply first × ObjectZeros reply second × ObjectZeros reply third
+  pub stages : StageZeros (getD reply 5 0) first × StageZeros (getD reply 6 0) second × StageZeros (getD reply 7 0) third
+
+-- ---- the proofs
+
+-- of a refusal, whose number is not 0, and of a success
+denied : (n i p : ℕ) → 0 < i → Zeros n (i ∷ p ∷ replicate n 0)
+denied n i p some = record { success = λ e. absurd (omega arith); refused = λ _. refl }
+
+done : (n : ℕ) (more : List ℕ) → Zeros n (0 ∷ 0 ∷ more)
+done n more = record { success = λ _. refl; refused = λ some. absurd (omega arith) }
+
+name-zeros : (s : Shown) (more : List ℕ) → NameZeros (shownReply s ++ more)
+name-zeros (S.Refused n p) more = record { none = λ e. (refl, refl); workspace = λ e. refl }
+name-zeros (S.InFile at n) more = record { none = λ e. absurd (omega arith); workspace = λ e. absurd (omega arith) }
+name-zeros (S.InWorkspace n) more = record { none = λ e. absurd (omega arith); workspace = λ e. refl }
+
+object-zeros : (reply o object : List ℕ) → Told o object → (0 < refusalIn reply → o ≡ replicate 20 0) → ObjectZeros reply object
+object-zeros reply o object told none = record {
+  unused = rw (told .whole) (drop-at o (replicate 12 0) 20 (told .width));
+  refused = λ some. told .whole ∙ ap wideObject (none some);
+}
+
+-- a count that is absent, and one that is invalid
+number-zero : (c : Count) → isPresent c ≡ 0 → numberOf c ≡ 0
+number-zero Absent e = refl
+number-zero (Present n) e = absurd (omega arith)
+
+bit-zero : (b : Bool) → bit b ≡ 0 → b ≡ false
+bit-zero true e = absurd (omega arith)
+bit-zero false e = refl
+
+count-zero : (c : F.Count) → bit (isValid c) ≡ 0 → countNumber c ≡ 0
+count-zero (F.valid n) e = absurd (omega arith)
+count-zero F.invalid e = refl
+
+check-by : (x : Checked) → ((n p : ℕ) → x ≡ K.Refused n p → 0 < n) → CheckZeros (checkReply x)
+check-by (K.Refused n p) h = record { zeros = denied 14 n p (h n p refl); nodes = λ _. refl; records = λ _. refl; later = refl }
+check-by (K.Accepted s) h = record { zeros = done 14 _; nodes = number-zero (s .nodes); records = number-zero (s .records); later = refl }
+
+start-by : (x : Started) → ((n p : ℕ) → x ≡ T.Refused n p → 0 < n) → Zeros 2 (startReply x)
+start-by (T.Refused n p) h = denied 2 n p (h n p refl)
+start-by (T.Ready n) h = done 2 _
+
+write-by : (x : Read (List ℕ)) → Numbered x → Zeros 1 (writeReply (writtenOf x))
+write-by (bad n p) h = denied 1 n p (h .positive n p refl)
+write-by (good bytes n) h = done 1 _
+
+no-refusal {ℓ} : {X : Type ℓ} (reply : List ℕ) → refusalIn reply ≡ 0 → 0 < refusalIn reply → X
+no-refusal reply e some = absurd (omega arith)
+
+object-shown : (reply o object : List ℕ) → Told o object → refusalIn reply ≡ 0 → ObjectZeros reply object
+object-shown reply o object told e = object-zeros reply o object told (no-refusal reply e)
+
+succeeded : (n : ℕ) (reply : List ℕ) → (refusalIn reply ≡ 0) × (placeIn reply ≡ 0) → Zeros n reply
+succeeded n reply (number, place) = record { success = λ _. place; refused = no-refusal reply number }
+
+-- what holds of every answer that shows a view, from what holds of a refusal, whose number is not 0, and of an item
+module _ {A R : Type 0} (deny : ℕ → ℕ → R) (show : Shown → A → R) (name : A → List ℕ) (at : ℕ) where
+  by-view : (P : R → Type 0) (v : View A) → Positive v → ((n p : ℕ) → 0 < n → P (deny n p))
+      → ((s : Shown) (a : A) → ((more : List ℕ) → (refusalIn (shownReply s ++ more) ≡ 0) × (placeIn (shownReply s ++ more) ≡ 0)) → P (show s a))
+      → P (shownAs deny show name at v)
+  by-view P (refused n p) some denies shows = denies n p (some .number n p refl)
+  by-view P (inFile a) some denies shows = shows _ a (λ _. (refl, refl))
+  by-view P (inWorkspace a) some denies shows = shows _ a (λ _. (refl, refl))
+
+-- ---- every call
+
+module _ (kind : ℕ) (work f reply : List ℕ) where
+  pub check-zeros : reply ≡ checkReply (checkAnswer work (ofKind kind (readFile 20 sha1 f))) → CheckZeros reply
+  check-zeros e = rw e (check-by (checkAnswer work (ofKind kind (readFile 20 sha1 f))) (check-positive kind work f))
+
+  pub start-zeros : reply ≡ startReply (startAnswer work (ofKind kind (readFile 20 sha1 f))) → Zeros 2 reply
+  start-zeros e = rw e (start-by (startAnswer work (ofKind kind (readFile 20 sha1 f))) (start-positive kind work f))
+
+-- of a reply that shows a view whose number is not 0 where it is refused: positive-entry, positive-node, positive-undo and positive-step say so
+-- of every one
+
+-- an entry, and a step of a walk, which tells more: k numbers, zeros on a refusal
+module _ (k : ℕ) (more : Shown → List ℕ) (none : (n p : ℕ) → more (S.Refused n p) ≡ replicate k 0) where
+  record EntryHolds (a : EntryAnswer) : Type 0 where
+    holds : (reply numbers object : List ℕ) → reply ≡ shownReply (a .shown) ++ more (a .shown) → numbers ≡ fieldNumbers (a .fields)
+        → Told (a .fields .object) object → EntryZeros (suc (suc (suc k))) reply numbers object
+
+  entry-by : (at : ℕ) (v : View F.Entry) → Positive v → EntryHolds (entryShown at v)
+  entry-by at v some =
+      by-view refusedEntry entryAs (λ e. e .name) at EntryHolds v some
+      (λ n p pos. record {
+        holds = λ reply numbers object e f t. rw (e, none n p) (record {
+          zeros = denied _ n p pos;
+          name = name-zeros (S.Refused n p) _;
+          numbers-of = λ _. f;
+          object-of = object-zeros _ _ _ t (λ _. refl);
+        });
+      })
+      (λ s x free. record {
+        holds = λ reply numbers object e f t. rw e (record {
+          zeros = succeeded _ _ (free _);
+          name = name-zeros s _;
+          numbers-of = no-refusal (shownReply s ++ more s) (free (more s) .0);
+          object-of = object-shown _ _ _ t (free (more s) .0);
+        });
+      })
+
+pub entry-zeros : (at : ℕ) (v : View F.Entry) → Positive v → (f work work′ reply numbers object : List ℕ) → EntryReplies at v f work work′ reply numbers object
+    → EntryZeros 3 reply numbers object
+entry-zeros at v some f work work′ reply numbers object h =
+    entry-by 0 (λ _. []) (λ n p. refl) at v some .holds reply numbers object (h .whole ∙ shown-alone (entryShown at v .shown)) (h .fields) (h .object-is)
+
+pub step-zeros : (at : ℕ) (v : View F.Entry) → Positive v → (next : Place) (f reply numbers object : List ℕ) → StepReplies at v next f reply numbers object
+    → EntryZeros 5 reply numbers object
+step-zeros at v some next f reply numbers object h =
+    entry-by 2 (λ s. nextNumbers s next) (λ n p. refl) at v some .holds reply numbers object (h .whole) (h .fields) (h .object-is)
+
+-- a node
+record NodeHolds (a : NodeAnswer) : Type 0 where
+  holds : (reply object : List ℕ) → reply ≡ nodeReply a → Told (a .object) object → (a .valid ≡ false → object ≡ replicate 32 0) → NodeZeros reply object
+
+pub node-zeros : (at : ℕ) (v : View F.Item) → Positive v → (f reply object : List ℕ) → NodeReplies at v f reply object → NodeZeros reply object
+node-zeros at v some f reply object h =
+    by-view refusedNode nodeAs (λ i. i .node .name) at NodeHolds v some
+    (λ n p pos. record {
+      holds = λ reply object e t z. rw e (record {
+        zeros = denied 7 n p pos;
+        name = name-zeros (S.Refused n p) _;
+        count = λ _. refl;
+        object-of = object-zeros _ _ _ t (λ _. refl);
+        invalid = λ _. z refl;
+      });
+    })
+    (λ s i free. record {
+      holds = λ reply object e t z.
+          let (_, valid, count, _) = after-shown s (i .level) (bit (isValid (i .node .count))) (countNumber (i .node .count)) (i .subtrees) in
+          rw e (record {
+            zeros = succeeded _ _ (free _);
+            name = name-zeros s _;
+            count = rw (valid, count) (count-zero (i .node .count));
+            object-of = object-shown _ _ _ t (free _ .0);
+            invalid = rw valid (λ q. z (bit-zero _ q));
+          });
+    }) .holds reply object (h .whole) (h .object-is) (h .zeros)
+
+-- a resolve-undo record
+record UndoHolds (a : UndoAnswer) : Type 0 where
+  holds : (reply first second third : List ℕ) → reply ≡ undoReply a → Told (a .first) first × Told (a .second) second × Told (a .third) third
+      → StageZeros (a .«first_mode») first × StageZeros (a .«second_mode») second × StageZeros (a .«third_mode») third → UndoZeros reply first second third
+
+pub undo-zeros : (at : ℕ) (v : View F.Undo) → Positive v → (f reply first second third : List ℕ) → UndoReplies at v f reply first second third
+    → UndoZeros reply first second third
+undo-zeros at v some f reply first second third h =
+    by-view refusedUndo undoAs (λ u. u .path) at UndoHolds v some
+    (λ n p pos. record {
+      holds = λ reply first second third e t z. rw e (record {
+        zeros = denied 6 n p pos;
+        path = name-zeros (S.Refused n p) _;
+        objects = (object-zeros _ _ _ (t .0) (λ _. refl), object-zeros _ _ _ (t .1) (λ _. refl), object-zeros _ _ _ (t .2) (λ _. refl));
+        stages = z;
+      });
+    })
+    (λ s u free. record {
+      holds = λ reply first second third e t z.
+          let (a, b, c) = after-path s (u .first .mode) (u .second .mode) (u .third .mode) in
+          rw e (record {
+            zeros = succeeded _ _ (free _);
+            path = name-zeros s _;
+            objects = (object-shown _ _ _ (t .0) (free _ .0), object-shown _ _ _ (t .1) (free _ .0), object-shown _ _ _ (t .2) (free _ .0));
+            stages = rw (a, b, c) z;
+          });
+    }) .holds reply first second third (h .whole) (h .objects) (h .zeros)
+
+-- of rewrite, put and remove: numbered-rewrite, numbered-put and numbered-remove say that their answers are numbered
+pub write-zeros : (f : List ℕ) (asked : ℕ) (change : F.Records → F.Records) (x : Read (List ℕ)) (out work out′ work′ reply : List ℕ)
+    → WriteReplies f asked change x out work out′ work′ reply → Numbered x → Zeros 1 reply
+write-zeros f asked change x out work out′ work′ reply h numbered = rw (h .said) (write-by x numbered)
