@@ -16,7 +16,8 @@ What the page may say, and what is looked at:
 Besides: the page has no line numbers of sources; every definition that a statement named on the page rests on is in its
 list of definitions, and no other is; every public function of the crates in CALLS is named, and no function that is
 named asks anything of its caller; no reader is behind the rules on files; the table of refusals has each number once,
-with definitions that give it; the table of answers has each field of each type that a public call answers.
+with definitions that give it; the table of answers has each field of each type that a public call answers, and the
+table of replies each member of each struct of the header.
 
 With --log, FOLDER has what the prover said of each crate: which crates rest on axioms, how many functions were proved.
 With --renew, figures are written anew. With --lines, nothing is tested: it prints 'path:line  name' for each statement
@@ -40,7 +41,8 @@ from report import Report
 PAGE = "docs/ASSURANCE.md"
 LIST = "The definitions"
 FIELDS = "every-field-of-every-answer"
-REFUSALS = range(1, 22)
+HEADER = "c/include/nerupazhil.h"
+REFUSALS = [*range(1, 22), 29]
 MADE = ("target/", ".ci/log/")  # by a run
 SHELLS = ("rt", "bash", "python3")
 CALLS = ("index", "index_write", "walk", "nerupazhil")
@@ -378,6 +380,25 @@ def fields(page: Page):
         yield f"{one[1]} of {one[0]} and its fields", sorted(told.get(one, [])) == sorted(names), f"should be {names}"
 
 
+def replies(page: Page):
+    """The table of replies has each struct of the header, its members in their order, and what pins them."""
+    body = section_in(page.text, FIELDS, PAGE)
+    rows = re.findall(r"^\| `nerupazhil_(\w+)` \| (.*?) \| (.*?) \| (.*?) \|$", body, re.M)
+    right = dict(header_structs())
+    yield "the structs of the header", [row[0] for row in rows] == list(right), f"should be {list(right)}"
+    for name, members, pinned, value in rows:
+        yield f"{name} and its members", codes(members) == right.get(name), f"should be {right.get(name)}"
+        yield f"what pins {name} is named", bool(links(pinned)) or pinned.startswith("as "), "no promise"
+        yield f"the value of {name} is named", bool(links(value)), "no definition"
+
+
+def header_structs():
+    """The structs of the header for C, each with the names of its members."""
+    text = re.sub(r"/\*.*?\*/", "", "\n".join(lines_of(HEADER)), flags=re.S)
+    for name, body in re.findall(r"^struct nerupazhil_(\w+) \{(.*?)^\};", text, re.M | re.S):
+        yield name, re.findall(r"(\w+)(?:\[\d+\])?;", body)
+
+
 def no_reader(page: Page):
     behind = {path for path, _ in closure([RULE_OF_FILES])} & set(READERS)
     yield f"{RULE_OF_FILES[1]} rests on no reader", not behind, f"it rests on {sorted(behind)}"
@@ -385,7 +406,7 @@ def no_reader(page: Page):
 
 def refusals(page: Page):
     numbers = [int(number) for number in re.findall(r"^\| (\d+) \|", page.text, re.M)]
-    yield "refusals", numbers == list(REFUSALS), f"the table has {numbers}"
+    yield "refusals", numbers == REFUSALS, f"the table has {numbers}"
     for number, row in re.findall(r"^\| (\d+) \|(.*)$", page.text, re.M):
         yield f"{number} has a definition", bool(links(row)), "none is linked"
         for one in map(declaration, links(row)):
@@ -407,7 +428,7 @@ def axioms(page: Page):
 
 def tests(page: Page):
     """Every test of the page: its name, whether it passed, and what is wrong."""
-    for group in (names, figures, files, quotes, commands, complete, calls, fields, no_reader, refusals, axioms):
+    for group in (names, figures, files, quotes, commands, complete, calls, fields, replies, no_reader, refusals, axioms):
         try:
             yield from group(page)
         except LookupError as error:
