@@ -1,15 +1,19 @@
-//! Makes a call of the proved library and of the independent one. Replies, workspaces and outputs must be equal, byte
-//! for byte, and what was not lent must stay.
+//! Makes a call of the proved library, as C makes it, and of the independent one. The arrays of the replies, workspaces
+//! and outputs must be equal, byte for byte, and what was not lent must stay.
 
-use crate::ffi::{self, CheckReply, EntryReply, NodeReply, StartReply, StepReply};
+use crate::boundary::{Arrays, Boundary};
+use crate::ffi::{CheckReply, EntryReply, NodeReply, StartReply, StepReply};
 use crate::ffi::{UndoReply, WriteReply, DIGEST, WORKSPACE};
 use crate::index_file::LARGEST;
 use crate::inputs::requests::Call;
 use crate::lent::{Edge, Lent, Place};
 use crate::{opponent, plain};
+use nerupazhil::raw::SHA1;
 
 /// The refusal after which a workspace is as it was.
 const WORKSPACE_SMALL: u32 = 19;
+/// The refusal of a kind of object names that is not SHA-1.
+const UNKNOWN_KIND: u32 = 29;
 
 #[derive(Debug, PartialEq)]
 pub enum Reply {
@@ -35,6 +39,42 @@ impl Reply {
             Self::Step(reply) => reply.refusal,
             Self::Digest(_) => 0,
         }
+    }
+
+    /// The reply of a call that takes a kind, where it is refused at place 0.
+    fn refused(call: &Call, refusal: u32) -> Option<Self> {
+        let reply = match call {
+            Call::Check => Self::Check(CheckReply {
+                refusal,
+                ..CheckReply::default()
+            }),
+            Call::Entry(_) => Self::Entry(EntryReply {
+                refusal,
+                ..EntryReply::default()
+            }),
+            Call::TreeNode(_) => Self::Node(NodeReply {
+                refusal,
+                ..NodeReply::default()
+            }),
+            Call::UndoRecord(_) => Self::Undo(UndoReply {
+                refusal,
+                ..UndoReply::default()
+            }),
+            Call::Rewrite(_) | Call::Put(..) | Call::Remove(..) => Self::Write(WriteReply {
+                refusal,
+                ..WriteReply::default()
+            }),
+            Call::WalkStart => Self::Start(StartReply {
+                refusal,
+                ..StartReply::default()
+            }),
+            Call::WalkNext(..) => Self::Step(StepReply {
+                refusal,
+                ..StepReply::default()
+            }),
+            Call::Sha1 => return None,
+        };
+        Some(reply)
     }
 }
 
@@ -74,7 +114,6 @@ macro_rules! answers {
     };
 }
 
-answers!(proved, ffi, ffi::sha1);
 answers!(independent, opponent, plain::sha1);
 
 /// What one of the two may write to.
@@ -96,21 +135,12 @@ impl Side {
         self.out.blank(room, edge);
     }
 
-    fn answer(&mut self, by: Answering, call: &Call, file: &[u8], name: &[u8]) -> Reply {
-        by(
-            call,
-            file,
-            name,
-            self.work.bytes_mut(),
-            self.out.bytes_mut(),
-        )
-    }
-
-    /// Sees that a call that writes left all as it shall: of the output only the first bytes are written; the workspace
-    /// is untouched after 19, else its first 8,192 bytes are zero and the others untouched.
-    fn stays(&self, reply: &WriteReply) -> Result<(), String> {
-        self.out.stays_after(reply.length)?;
-        if reply.refusal == WORKSPACE_SMALL {
+    /// Sees that a call left all as it shall that writes, or is refused: of the output only the first bytes are written;
+    /// the workspace is untouched after 19, and by a call that takes none, else its first 8,192 bytes are zero and the
+    /// others untouched.
+    fn stays(&self, call: &Call, refusal: u32, written: usize) -> Result<(), String> {
+        self.out.stays_after(written)?;
+        if refusal == WORKSPACE_SMALL || !call.works() {
             return self.work.stays_after(0);
         }
         self.work.stays_after(WORKSPACE)?;
@@ -124,6 +154,7 @@ impl Side {
 pub struct Comparison {
     file: Lent,
     name: Lent,
+    boundary: Boundary,
     ours: Side,
     theirs: Side,
     edge: Edge,
@@ -134,6 +165,7 @@ impl Comparison {
         Self {
             file: Lent::new("file", place, LARGEST + 100),
             name: Lent::new("name", place, LARGEST),
+            boundary: Boundary::new(place),
             ours: Side::new(place),
             theirs: Side::new(place),
             edge: Edge::End,
@@ -168,24 +200,70 @@ impl Comparison {
 
     /// Makes a call to both, with workspaces and outputs of these lengths, and compares all.
     pub fn both(&mut self, call: &Call, work: usize, room: usize) -> Result<Reply, String> {
+        let about = |why: String| format!("{call}, workspace {work}, output {room}: {why}");
+        self.blank(work, room);
+        let ours = self.proved(SHA1, call).map_err(about)?;
+        let (file, name) = (self.file.bytes(), self.name.bytes());
+        let (work, out) = (self.theirs.work.bytes_mut(), self.theirs.out.bytes_mut());
+        let reply = independent(call, file, name, work, out);
+        let theirs = Arrays::of(&reply);
+        if ours != theirs {
+            return Err(about(format!("{ours:?}, the other {theirs:?}")));
+        }
+        self.same().map_err(about)?;
+        let written = match &reply {
+            Reply::Write(reply) => reply.length,
+            _ => 0,
+        };
+        if call.writes() || reply.refusal() > 0 {
+            let stays = self.ours.stays(call, reply.refusal(), written);
+            stays.map_err(about)?;
+        }
+        Ok(reply)
+    }
+
+    /// Makes a call of the proved library with a kind that there is not, and sees that it is refused with 29, or with 19
+    /// where it takes a workspace and this is too short. Answers the refusal, none where the call takes no kind.
+    pub fn unknown_kind(
+        &mut self,
+        kind: u32,
+        call: &Call,
+        work: usize,
+        room: usize,
+    ) -> Result<Option<u32>, String> {
+        let about = |why: String| format!("{call}, kind {kind}, workspace {work}: {why}");
+        let refusal = match call.works() && work < WORKSPACE {
+            true => WORKSPACE_SMALL,
+            false => UNKNOWN_KIND,
+        };
+        let expected = match Reply::refused(call, refusal) {
+            Some(reply) => Arrays::of(&reply),
+            None => return Ok(None),
+        };
+        self.blank(work, room);
+        let ours = self.proved(kind, call).map_err(about)?;
+        if ours != expected {
+            return Err(about(format!("{ours:?}, not {expected:?}")));
+        }
+        self.ours.stays(call, refusal, 0).map_err(about)?;
+        Ok(Some(refusal))
+    }
+
+    /// Lends workspaces and outputs of these lengths, at the other edge than before.
+    fn blank(&mut self, work: usize, room: usize) {
         self.edge = match self.edge {
             Edge::Start => Edge::End,
             Edge::End => Edge::Start,
         };
         self.ours.blank(work, room, self.edge);
         self.theirs.blank(work, room, self.edge);
+    }
+
+    /// What the proved library writes to the arrays of a call.
+    fn proved(&mut self, kind: u32, call: &Call) -> Result<Arrays, String> {
         let (file, name) = (self.file.bytes(), self.name.bytes());
-        let ours = self.ours.answer(proved, call, file, name);
-        let theirs = self.theirs.answer(independent, call, file, name);
-        let about = |why: String| format!("{call}, workspace {work}, output {room}: {why}");
-        if ours != theirs {
-            return Err(about(format!("{ours:?}, the other {theirs:?}")));
-        }
-        self.same().map_err(about)?;
-        if let Reply::Write(reply) = &ours {
-            self.ours.stays(reply).map_err(about)?;
-        }
-        Ok(ours)
+        let (work, out) = (self.ours.work.bytes_mut(), self.ours.out.bytes_mut());
+        self.boundary.call(kind, call, file, name, work, out)
     }
 
     /// Sees that both hold the same bytes after a call, and that nothing around them was written.
