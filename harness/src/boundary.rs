@@ -162,7 +162,7 @@ impl Boundary {
         out: &mut [u8],
     ) -> Result<Arrays, String> {
         self.take_back();
-        self.make(kind, call, file, name, work, out);
+        self.make(kind, call, file, name, work, out)?;
         self.turn += 1;
         for lent in self.all() {
             lent.guards_stay()?;
@@ -191,7 +191,7 @@ impl Boundary {
         name: &[u8],
         work: &mut [u8],
         out: &mut [u8],
-    ) {
+    ) -> Result<(), String> {
         let edge = [Edge::Start, Edge::End][self.turn % 2];
         let fill = FILLS[self.turn / 2 % 2];
         let yes = YES[self.turn % YES.len()];
@@ -238,12 +238,16 @@ impl Boundary {
                 let numbers = numbers_of(given, yes).map(u32::to_ne_bytes).concat();
                 let mut object = given.object.to_vec();
                 object.resize(OBJECT, fill);
-                let numbers = self.given_fields.read_only_array(&numbers, edge);
-                let object = self.given_object.read_only_array(&object, edge);
                 call!(
                     nerupazhil_put, file, work, out;
-                    *asked, name.as_ptr(), name.len(), numbers, object, new!(reply)
-                )
+                    *asked, name.as_ptr(), name.len(),
+                    self.given_fields.copied_array(&numbers, edge),
+                    self.given_object.copied_array(&object, edge),
+                    new!(reply)
+                );
+                if self.given_fields.bytes() != numbers || self.given_object.bytes() != object {
+                    return Err("put wrote to what it was given".to_string());
+                }
             }
             Call::Remove(asked, _, stage) => call!(
                 nerupazhil_remove, file, work, out;
@@ -259,6 +263,7 @@ impl Boundary {
                 unsafe { raw::nerupazhil_sha1(file.as_ptr(), file.len(), new!(first)) }
             }
         }
+        Ok(())
     }
 
     fn arrays(&self) -> Arrays {

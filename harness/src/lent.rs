@@ -156,9 +156,10 @@ impl Lent {
         }
     }
 
-    /// Lends a copy of the bytes of an array, which can only be read.
-    pub fn read_only_array<T>(&mut self, content: &[u8], edge: Edge) -> *const T {
-        self.read_only(content, edge);
+    /// Lends an array with a copy of the content. It can be written, which costs less than to protect it.
+    pub fn copied_array<T>(&mut self, content: &[u8], edge: Edge) -> *const T {
+        self.lend(content.len(), edge);
+        self.bytes_mut().copy_from_slice(content);
         self.array()
     }
 
