@@ -65,6 +65,27 @@ impl Arrays {
         }
     }
 
+    /// The arrays of a call that takes a kind, where it is refused at place 0: all but the number is zero.
+    pub fn refused(call: &Call, refusal: u32) -> Option<Self> {
+        let (numbers, fields, names) = match call {
+            Call::Check => (16, 0, 0),
+            Call::Entry(_) => (5, 14, 1),
+            Call::TreeNode(_) => (9, 0, 1),
+            Call::UndoRecord(_) => (8, 0, 3),
+            Call::Rewrite(_) | Call::Put(..) | Call::Remove(..) => (3, 0, 0),
+            Call::WalkStart => (4, 0, 0),
+            Call::WalkNext(..) => (7, 14, 1),
+            Call::Sha1 => return None,
+        };
+        let mut reply = vec![0; numbers];
+        reply[0] = refusal.into();
+        Some(Self {
+            reply,
+            fields: vec![0; fields],
+            names: vec![vec![0; OBJECT]; names],
+        })
+    }
+
     fn numbers(reply: &[u64]) -> Self {
         Self {
             reply: reply.to_vec(),

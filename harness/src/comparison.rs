@@ -40,42 +40,6 @@ impl Reply {
             Self::Digest(_) => 0,
         }
     }
-
-    /// The reply of a call that takes a kind, where it is refused at place 0.
-    fn refused(call: &Call, refusal: u32) -> Option<Self> {
-        let reply = match call {
-            Call::Check => Self::Check(CheckReply {
-                refusal,
-                ..CheckReply::default()
-            }),
-            Call::Entry(_) => Self::Entry(EntryReply {
-                refusal,
-                ..EntryReply::default()
-            }),
-            Call::TreeNode(_) => Self::Node(NodeReply {
-                refusal,
-                ..NodeReply::default()
-            }),
-            Call::UndoRecord(_) => Self::Undo(UndoReply {
-                refusal,
-                ..UndoReply::default()
-            }),
-            Call::Rewrite(_) | Call::Put(..) | Call::Remove(..) => Self::Write(WriteReply {
-                refusal,
-                ..WriteReply::default()
-            }),
-            Call::WalkStart => Self::Start(StartReply {
-                refusal,
-                ..StartReply::default()
-            }),
-            Call::WalkNext(..) => Self::Step(StepReply {
-                refusal,
-                ..StepReply::default()
-            }),
-            Call::Sha1 => return None,
-        };
-        Some(reply)
-    }
 }
 
 /// How a library answers a call with a file, a name, a workspace and an output.
@@ -204,8 +168,9 @@ impl Comparison {
         self.blank(work, room);
         let ours = self.proved(SHA1, call).map_err(about)?;
         let (file, name) = (self.file.bytes(), self.name.bytes());
-        let (work, out) = (self.theirs.work.bytes_mut(), self.theirs.out.bytes_mut());
-        let reply = independent(call, file, name, work, out);
+        let side = &mut self.theirs;
+        let (their_work, their_out) = (side.work.bytes_mut(), side.out.bytes_mut());
+        let reply = independent(call, file, name, their_work, their_out);
         let theirs = Arrays::of(&reply);
         if ours != theirs {
             return Err(about(format!("{ours:?}, the other {theirs:?}")));
@@ -236,8 +201,8 @@ impl Comparison {
             true => WORKSPACE_SMALL,
             false => UNKNOWN_KIND,
         };
-        let expected = match Reply::refused(call, refusal) {
-            Some(reply) => Arrays::of(&reply),
+        let expected = match Arrays::refused(call, refusal) {
+            Some(arrays) => arrays,
             None => return Ok(None),
         };
         self.blank(work, room);
@@ -262,8 +227,9 @@ impl Comparison {
     /// What the proved library writes to the arrays of a call.
     fn proved(&mut self, kind: u32, call: &Call) -> Result<Arrays, String> {
         let (file, name) = (self.file.bytes(), self.name.bytes());
-        let (work, out) = (self.ours.work.bytes_mut(), self.ours.out.bytes_mut());
-        self.boundary.call(kind, call, file, name, work, out)
+        let Side { work, out } = &mut self.ours;
+        self.boundary
+            .call(kind, call, file, name, work.bytes_mut(), out.bytes_mut())
     }
 
     /// Sees that both hold the same bytes after a call, and that nothing around them was written.

@@ -1,11 +1,11 @@
 //! The exported functions of the proved library, as C sees them, and their replies, as the functions of
 //! [`calls`](crate::calls) answer them.
 //!
-//! An exported function takes the kind of object names first, which is [`SHA1`]. A slice is a pointer and a length, where
-//! a null pointer with length 0 is an empty one. A reply is written, whole, to arrays that the caller lends: of numbers
-//! for the reply itself and for the fields of an entry, and of [`OBJECT`] bytes for an object name, whose last 12 are
-//! zero. `c/include/nerupazhil.h` says what each number is. The first is 0 of a success or else the number of the
-//! refusal, the second its place, and all that does not apply is 0.
+//! An exported function takes the kind of object names first, which is [`SHA1`]. A slice is a pointer and a length,
+//! where a null pointer with length 0 is an empty one. A reply is written, whole, to arrays that the caller lends: of
+//! numbers for the reply itself and for the fields of an entry, and of [`OBJECT`] bytes for an object name, whose last
+//! 12 are zero. `c/include/nerupazhil.h` says what each number is. The first is 0 of a success or else the number of
+//! the refusal, the second its place, and all that does not apply is 0.
 //!
 //! Tests compare these declarations with the Rattle source and with the header.
 
@@ -204,8 +204,8 @@ extern "C" {
         reply: *mut [u64; 16],
     );
 
-    /// Entry `k`, from 0. A name of version 4 is left at the start of the workspace. The reply: refusal, place, and the
-    /// name's buffer, offset and length.
+    /// Entry `k`, from 0. A name of version 4 is left at the start of the workspace. The reply: refusal, place, and
+    /// the name's buffer, offset and length.
     pub fn nerupazhil_entry(
         kind: u32,
         file: *const u8,
@@ -218,8 +218,8 @@ extern "C" {
         object: *mut [u8; 32],
     );
 
-    /// Node `k` of the cache tree, from 0. The reply: refusal, place, the name's buffer, offset and length, level, whether
-    /// it is valid, count, subtrees.
+    /// Node `k` of the cache tree, from 0. The reply: refusal, place, the name's buffer, offset and length, level,
+    /// whether it is valid, count, subtrees.
     pub fn nerupazhil_tree_node(
         kind: u32,
         file: *const u8,
@@ -231,8 +231,8 @@ extern "C" {
         object: *mut [u8; 32],
     );
 
-    /// Resolve-undo record `k`, from 0. The reply: refusal, place, the path's buffer, offset and length, and the modes of
-    /// stages 1, 2 and 3.
+    /// Resolve-undo record `k`, from 0. The reply: refusal, place, the path's buffer, offset and length, and the modes
+    /// of stages 1, 2 and 3.
     pub fn nerupazhil_undo_record(
         kind: u32,
         file: *const u8,
@@ -293,8 +293,8 @@ extern "C" {
         reply: *mut [u64; 3],
     );
 
-    /// Whether a walk can go over the file, and where it starts. The reply: refusal, place, the place of the first entry,
-    /// and how many there are.
+    /// Whether a walk can go over the file, and where it starts. The reply: refusal, place, the place of the first
+    /// entry, and how many there are.
     pub fn nerupazhil_walk_start(
         kind: u32,
         file: *const u8,
@@ -304,8 +304,8 @@ extern "C" {
         reply: *mut [u64; 4],
     );
 
-    /// The next entry of a walk at a place, where `left` remain. The reply: refusal, place, the name's buffer, offset and
-    /// length, the place after the entry, and how many remain there.
+    /// The next entry of a walk at a place, where `left` remain. The reply: refusal, place, the name's buffer, offset
+    /// and length, the place after the entry, and how many remain there.
     pub fn nerupazhil_walk_next(
         kind: u32,
         file: *const u8,
