@@ -1,15 +1,19 @@
-//! Makes a call of the proved library and of the independent one. Replies, workspaces and outputs must be equal, byte
-//! for byte, and what was not lent must stay.
+//! Makes a call of the proved library, as C makes it, and of the independent one. The arrays of the replies, workspaces
+//! and outputs must be equal, byte for byte, and what was not lent must stay.
 
-use crate::ffi::{self, CheckReply, EntryReply, NodeReply, StartReply, StepReply};
+use crate::boundary::{Arrays, Boundary};
+use crate::ffi::{CheckReply, EntryReply, NodeReply, StartReply, StepReply};
 use crate::ffi::{UndoReply, WriteReply, DIGEST, WORKSPACE};
 use crate::index_file::LARGEST;
 use crate::inputs::requests::Call;
 use crate::lent::{Edge, Lent, Place};
 use crate::{opponent, plain};
+use nerupazhil::raw::SHA1;
 
 /// The refusal after which a workspace is as it was.
 const WORKSPACE_SMALL: u32 = 19;
+/// The refusal of a kind of object names that is not SHA-1.
+const UNKNOWN_KIND: u32 = 29;
 
 #[derive(Debug, PartialEq)]
 pub enum Reply {
@@ -74,7 +78,6 @@ macro_rules! answers {
     };
 }
 
-answers!(proved, ffi, ffi::sha1);
 answers!(independent, opponent, plain::sha1);
 
 /// What one of the two may write to.
@@ -96,21 +99,12 @@ impl Side {
         self.out.blank(room, edge);
     }
 
-    fn answer(&mut self, by: Answering, call: &Call, file: &[u8], name: &[u8]) -> Reply {
-        by(
-            call,
-            file,
-            name,
-            self.work.bytes_mut(),
-            self.out.bytes_mut(),
-        )
-    }
-
-    /// Sees that a call that writes left all as it shall: of the output only the first bytes are written; the workspace
-    /// is untouched after 19, else its first 8,192 bytes are zero and the others untouched.
-    fn stays(&self, reply: &WriteReply) -> Result<(), String> {
-        self.out.stays_after(reply.length)?;
-        if reply.refusal == WORKSPACE_SMALL {
+    /// Sees that a call left all as it shall that writes, or is refused: of the output only the first bytes are written;
+    /// the workspace is untouched after 19, and by a call that takes none, else its first 8,192 bytes are zero and the
+    /// others untouched.
+    fn stays(&self, call: &Call, refusal: u32, written: usize) -> Result<(), String> {
+        self.out.stays_after(written)?;
+        if refusal == WORKSPACE_SMALL || !call.works() {
             return self.work.stays_after(0);
         }
         self.work.stays_after(WORKSPACE)?;
@@ -124,6 +118,7 @@ impl Side {
 pub struct Comparison {
     file: Lent,
     name: Lent,
+    boundary: Boundary,
     ours: Side,
     theirs: Side,
     edge: Edge,
@@ -134,6 +129,7 @@ impl Comparison {
         Self {
             file: Lent::new("file", place, LARGEST + 100),
             name: Lent::new("name", place, LARGEST),
+            boundary: Boundary::new(place),
             ours: Side::new(place),
             theirs: Side::new(place),
             edge: Edge::End,
@@ -168,24 +164,72 @@ impl Comparison {
 
     /// Makes a call to both, with workspaces and outputs of these lengths, and compares all.
     pub fn both(&mut self, call: &Call, work: usize, room: usize) -> Result<Reply, String> {
+        let about = |why: String| format!("{call}, workspace {work}, output {room}: {why}");
+        self.blank(work, room);
+        let ours = self.proved(SHA1, call).map_err(about)?;
+        let (file, name) = (self.file.bytes(), self.name.bytes());
+        let side = &mut self.theirs;
+        let (their_work, their_out) = (side.work.bytes_mut(), side.out.bytes_mut());
+        let reply = independent(call, file, name, their_work, their_out);
+        let theirs = Arrays::of(&reply);
+        if ours != theirs {
+            return Err(about(format!("{ours:?}, the other {theirs:?}")));
+        }
+        self.same().map_err(about)?;
+        let written = match &reply {
+            Reply::Write(reply) => reply.length,
+            _ => 0,
+        };
+        if call.writes() || reply.refusal() > 0 {
+            let stays = self.ours.stays(call, reply.refusal(), written);
+            stays.map_err(about)?;
+        }
+        Ok(reply)
+    }
+
+    /// Makes a call of the proved library with a kind that there is not, and sees that it is refused with 29, or with 19
+    /// where it takes a workspace and this is too short. Answers the refusal, none where the call takes no kind.
+    pub fn unknown_kind(
+        &mut self,
+        kind: u32,
+        call: &Call,
+        work: usize,
+        room: usize,
+    ) -> Result<Option<u32>, String> {
+        let about = |why: String| format!("{call}, kind {kind}, workspace {work}: {why}");
+        let refusal = match call.works() && work < WORKSPACE {
+            true => WORKSPACE_SMALL,
+            false => UNKNOWN_KIND,
+        };
+        let expected = match Arrays::refused(call, refusal) {
+            Some(arrays) => arrays,
+            None => return Ok(None),
+        };
+        self.blank(work, room);
+        let ours = self.proved(kind, call).map_err(about)?;
+        if ours != expected {
+            return Err(about(format!("{ours:?}, not {expected:?}")));
+        }
+        self.ours.stays(call, refusal, 0).map_err(about)?;
+        Ok(Some(refusal))
+    }
+
+    /// Lends workspaces and outputs of these lengths, at the other edge than before.
+    fn blank(&mut self, work: usize, room: usize) {
         self.edge = match self.edge {
             Edge::Start => Edge::End,
             Edge::End => Edge::Start,
         };
         self.ours.blank(work, room, self.edge);
         self.theirs.blank(work, room, self.edge);
+    }
+
+    /// What the proved library writes to the arrays of a call.
+    fn proved(&mut self, kind: u32, call: &Call) -> Result<Arrays, String> {
         let (file, name) = (self.file.bytes(), self.name.bytes());
-        let ours = self.ours.answer(proved, call, file, name);
-        let theirs = self.theirs.answer(independent, call, file, name);
-        let about = |why: String| format!("{call}, workspace {work}, output {room}: {why}");
-        if ours != theirs {
-            return Err(about(format!("{ours:?}, the other {theirs:?}")));
-        }
-        self.same().map_err(about)?;
-        if let Reply::Write(reply) = &ours {
-            self.ours.stays(reply).map_err(about)?;
-        }
-        Ok(ours)
+        let Side { work, out } = &mut self.ours;
+        self.boundary
+            .call(kind, call, file, name, work.bytes_mut(), out.bytes_mut())
     }
 
     /// Sees that both hold the same bytes after a call, and that nothing around them was written.

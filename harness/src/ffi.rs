@@ -1,4 +1,4 @@
-//! The calls of the proved library with their raw replies, and the types of these.
+//! The calls of the proved library as the crate makes them, and the types of their replies.
 
 pub use nerupazhil::calls::*;
 pub use nerupazhil::raw::{

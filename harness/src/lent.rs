@@ -4,6 +4,7 @@
 //! only read are on pages that cannot be written. The pages are mapped once and lent again and again. On the heap,
 //! each lending is an allocation of its own and of its exact size, as valgrind wants it.
 
+use std::mem::{align_of, size_of};
 use std::os::raw::{c_int, c_void};
 use std::ptr::null_mut;
 use std::slice::{from_raw_parts, from_raw_parts_mut};
@@ -153,6 +154,28 @@ impl Lent {
         if let Memory::Pages(pages) = &mut self.memory {
             pages.make_read_only(self.first, self.length);
         }
+    }
+
+    /// Lends an array with a copy of the content. It can be written, which costs less than to protect it.
+    pub fn copied_array<T>(&mut self, content: &[u8], edge: Edge) -> *const T {
+        self.lend(content.len(), edge);
+        self.bytes_mut().copy_from_slice(content);
+        self.array()
+    }
+
+    /// Lends an array that can be written, each of its bytes the given one.
+    pub fn filled_array<T>(&mut self, fill: u8, edge: Edge) -> *mut T {
+        self.lend(size_of::<T>(), edge);
+        self.bytes_mut().fill(fill);
+        self.array()
+    }
+
+    /// The lent bytes as an array, which has their length.
+    fn array<T>(&self) -> *mut T {
+        let first = self.first.cast::<T>();
+        assert_eq!(self.length, size_of::<T>());
+        assert_eq!(first as usize % align_of::<T>(), 0);
+        first
     }
 
     /// Lends bytes that can be written; they hold a pattern.

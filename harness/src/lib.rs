@@ -3,6 +3,7 @@
 
 #![deny(warnings)]
 
+pub mod boundary;
 pub mod comparison;
 pub mod edits;
 pub mod ffi;

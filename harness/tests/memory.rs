@@ -2,13 +2,16 @@
 
 #![deny(warnings)]
 
+use harness::boundary::Boundary;
+use harness::inputs::requests::Call;
 use harness::lent::{Edge, Lent, Place};
 use harness::{ffi, vectors};
-use nerupazhil::raw;
+use nerupazhil::raw::{self, SHA1};
 use std::env;
 use std::os::unix::process::ExitStatusExt;
 use std::path::PathBuf;
 use std::process::{Command, ExitStatus};
+use std::ptr::{null, null_mut};
 
 /// Set in a child process, which then takes the step outside.
 const CHILD: &str = "NERUPAZHIL_STEP_OUTSIDE";
@@ -23,6 +26,7 @@ struct Lending {
     name: Lent,
     work: Lent,
     out: Lent,
+    arrays: Boundary,
     edge: Edge,
 }
 
@@ -33,91 +37,78 @@ impl Lending {
             name: Lent::new("name", Place::Pages, ROOM),
             work: Lent::new("workspace", Place::Pages, ROOM),
             out: Lent::new("output", Place::Pages, ROOM),
+            arrays: Boundary::new(Place::Pages),
             edge,
         }
     }
 
-    /// Makes a call with a workspace that is just long enough, and sees that nothing else was written.
-    fn read<T>(&mut self, call: impl Fn(&[u8], &mut [u8]) -> T) -> T {
-        self.work.blank(ffi::WORKSPACE, self.edge);
-        let reply = call(self.file.bytes(), self.work.bytes_mut());
-        self.work.guards_stay().unwrap();
-        self.file.guards_stay().unwrap();
-        reply
-    }
-
-    /// Makes a call that writes, with an output far too long, one exactly long enough and one that is a byte short.
-    fn write(&mut self, call: impl Fn(&[u8], &mut [u8], &mut [u8], &[u8]) -> ffi::WriteReply) {
-        let long = self.write_to(ROOM, &call);
-        if long.refusal > 0 {
-            return;
-        }
-        assert_eq!(self.write_to(long.length, &call), long);
-        assert_eq!(self.write_to(long.length - 1, &call).refusal, 20);
-    }
-
-    fn write_to(
-        &mut self,
-        room: usize,
-        call: impl Fn(&[u8], &mut [u8], &mut [u8], &[u8]) -> ffi::WriteReply,
-    ) -> ffi::WriteReply {
-        self.work.blank(ffi::WORKSPACE, self.edge);
+    /// Makes a call with a workspace that is just long enough, where it takes one, and sees that nothing else was
+    /// written. Answers the numbers of the reply.
+    fn call(&mut self, call: &Call, room: usize) -> Vec<u64> {
+        let work = if call.works() { ffi::WORKSPACE } else { 0 };
+        self.work.blank(work, self.edge);
         self.out.blank(room, self.edge);
         let (file, name) = (self.file.bytes(), self.name.bytes());
-        let reply = call(file, self.work.bytes_mut(), self.out.bytes_mut(), name);
-        self.out.stays_after(reply.length).unwrap();
+        let (work, out) = (self.work.bytes_mut(), self.out.bytes_mut());
+        let arrays = self.arrays.call(SHA1, call, file, name, work, out).unwrap();
         for lent in [&self.file, &self.name, &self.work] {
             lent.guards_stay().unwrap();
         }
-        reply
+        let written = if call.writes() { arrays.reply[2] } else { 0 };
+        self.out.stays_after(written as usize).unwrap();
+        arrays.reply
+    }
+
+    fn read(&mut self, call: Call) -> Vec<u64> {
+        self.call(&call, 0)
+    }
+
+    /// Makes a call that writes, with an output far too long, one exactly long enough and one that is a byte short.
+    fn write(&mut self, call: Call) {
+        let long = self.call(&call, ROOM);
+        if long[0] > 0 {
+            return;
+        }
+        let length = long[2] as usize;
+        assert_eq!(self.call(&call, length), long);
+        assert_eq!(self.call(&call, length - 1), [20, 0, 0]);
     }
 
     fn calls_that_read(&mut self) {
-        let checked = self.read(ffi::check);
-        let last = |count: u32| [0, count.saturating_sub(1), count, u32::MAX];
-        for k in last(checked.entries) {
-            self.read(|file, work| ffi::entry(file, work, k));
+        let checked = self.read(Call::Check);
+        let last = |place: usize| {
+            let count = checked[place] as u32;
+            [0, count.saturating_sub(1), count, u32::MAX]
+        };
+        for k in last(3) {
+            self.read(Call::Entry(k));
         }
-        for k in last(checked.nodes) {
-            self.read(|file, work| ffi::tree_node(file, work, k));
+        for k in last(6) {
+            self.read(Call::TreeNode(k));
         }
-        for k in last(checked.records) {
-            self.read(|file, work| ffi::undo_record(file, work, k));
+        for k in last(8) {
+            self.read(Call::UndoRecord(k));
         }
-        self.read(ffi::walk_start);
+        self.read(Call::WalkStart);
         for at in (0..=self.file.bytes().len() + 1).chain([usize::MAX]) {
-            ffi::walk_next(self.file.bytes(), at, 1);
+            self.read(Call::WalkNext(at, 1));
         }
+        self.read(Call::Sha1);
     }
 
     fn calls_that_write(&mut self) {
+        let name = self.name.bytes().to_vec();
         for asked in [0, 2, 3, 4] {
-            self.write(|file, work, out, _| ffi::rewrite(file, work, out, asked));
+            self.write(Call::Rewrite(asked));
             for mode in [0o100644, 0] {
                 let fields = ffi::Fields {
                     mode,
                     ..ffi::Fields::default()
                 };
-                self.write(|file, work, out, name| ffi::put(file, work, out, asked, name, fields));
+                self.write(Call::Put(asked, name.clone(), fields));
             }
-            self.write(|file, work, out, name| ffi::remove(file, work, out, asked, name, 0));
+            self.write(Call::Remove(asked, name.clone(), 0));
         }
-    }
-
-    fn digest(&mut self) {
-        self.out.blank(ffi::DIGEST, self.edge);
-        let message = self.file.bytes();
-        let digest = ffi::sha1(message);
-        // SAFETY: the pointers and lengths are those of bytes that are lent apart from each other.
-        unsafe {
-            raw::nerupazhil_sha1(
-                message.as_ptr(),
-                message.len(),
-                self.out.bytes_mut().as_mut_ptr().cast(),
-            )
-        };
-        assert_eq!(self.out.bytes(), digest);
-        self.out.guards_stay().unwrap();
     }
 }
 
@@ -127,7 +118,6 @@ fn every_call_stays_within(edge: Edge) {
     for vector in vectors::all() {
         lending.file.read_only(&vector.file, edge);
         lending.calls_that_read();
-        lending.digest();
         for name in [&b"a/b"[..], b"", &[b'n'; 8192]] {
             lending.name.read_only(name, edge);
             lending.calls_that_write();
@@ -223,6 +213,46 @@ fn a_call_with_a_length_too_long_dies() {
         let mut digest = [0; ffi::DIGEST];
         // SAFETY: none; the process ends here.
         unsafe { raw::nerupazhil_sha1(first, 101, &mut digest) };
+    });
+}
+
+/// Lends bytes up to a page without access, for an array that takes more.
+fn short_array<T>(length: usize) -> (Lent, *mut T) {
+    assert!(length < std::mem::size_of::<T>());
+    let (lent, first) = lend(Place::Pages, Edge::End, length);
+    (lent, first.cast())
+}
+
+#[test]
+fn a_reply_that_lacks_a_number_dies() {
+    dies("a_reply_that_lacks_a_number_dies", || {
+        let (_lent, reply) = short_array::<[u64; 16]>(15 * 8);
+        // SAFETY: none; the process ends here.
+        unsafe { raw::nerupazhil_check(SHA1, null(), 0, null_mut(), 0, reply) };
+    });
+}
+
+#[test]
+fn fields_that_lack_a_number_die() {
+    dies("fields_that_lack_a_number_die", || {
+        let (_lent, fields) = short_array::<[u32; 14]>(13 * 4);
+        let (mut reply, mut object) = ([0; 7], [0; raw::OBJECT]);
+        // SAFETY: none; the process ends here.
+        unsafe {
+            raw::nerupazhil_walk_next(SHA1, null(), 0, 12, 1, &mut reply, fields, &mut object)
+        };
+    });
+}
+
+#[test]
+fn an_object_name_that_lacks_a_byte_dies() {
+    dies("an_object_name_that_lacks_a_byte_dies", || {
+        let (_lent, object) = short_array::<[u8; raw::OBJECT]>(raw::OBJECT - 1);
+        let (mut reply, mut fields) = ([0; 7], [0; 14]);
+        // SAFETY: none; the process ends here.
+        unsafe {
+            raw::nerupazhil_walk_next(SHA1, null(), 0, 12, 1, &mut reply, &mut fields, object)
+        };
     });
 }
 

@@ -8,7 +8,7 @@ use harness::index_file::{node, File, OBJECT};
 use harness::opponent;
 use harness::plain::sha1;
 use harness::vectors::words;
-use nerupazhil::raw::{Fields, Name, DIGEST, WORKSPACE};
+use nerupazhil::raw::{Fields, Name, StepReply, DIGEST, WORKSPACE};
 
 mod cases;
 mod comparison;
@@ -383,12 +383,12 @@ fn a_walk() {
     assert_eq!(shown(second.name, &file, &[]), b"b/c");
     assert_eq!((second.at, second.left), (148, 0));
     let last = opponent::walk_next(&file, second.at, second.left);
-    assert_eq!(
-        (last.refusal, last.place, last.at, last.left),
-        (18, 0, 148, 0)
-    );
-    let nowhere = opponent::walk_next(&file, 148, 7);
-    assert_eq!((nowhere.refusal, nowhere.at, nowhere.left), (18, 148, 6));
+    let refused = StepReply {
+        refusal: 18,
+        ..StepReply::default()
+    };
+    assert_eq!(last, refused);
+    assert_eq!(opponent::walk_next(&file, 148, 7), refused);
     let start = opponent::walk_start(&index(4, &[b"a"]), &mut workspace());
     assert_eq!(
         (start.refusal, start.place, start.at, start.left),

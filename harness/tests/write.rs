@@ -125,27 +125,19 @@ fn a_put_that_needs_the_extended_word() {
 /// A null pointer with length 0 is an empty slice: the workspace is too small.
 #[test]
 fn null_pointers_are_empty_slices() {
-    let fields = list_entry();
-    // SAFETY: each length is 0.
-    let answers = unsafe {
-        [
-            raw::nerupazhil_rewrite(null(), 0, null_mut(), 0, null_mut(), 0, 0),
-            raw::nerupazhil_put(
-                null(),
-                0,
-                null_mut(),
-                0,
-                null_mut(),
-                0,
-                0,
-                null(),
-                0,
-                fields,
-            ),
-            raw::nerupazhil_remove(null(), 0, null_mut(), 0, null_mut(), 0, 0, null(), 0, 0),
-        ]
-    };
-    assert_eq!(answers, [refused(19); 3]);
+    let (kind, fields, object) = (raw::SHA1, [0; 14], [0; raw::OBJECT]);
+    let mut replies = [[u64::MAX; 3]; 3];
+    let [rewrite, put, remove] = &mut replies;
+    let (file, name, none) = (null(), null(), null_mut());
+    // SAFETY: each length is 0, and the others are arrays.
+    unsafe {
+        raw::nerupazhil_rewrite(kind, file, 0, none, 0, none, 0, 0, rewrite);
+        raw::nerupazhil_put(
+            kind, file, 0, none, 0, none, 0, 0, name, 0, &fields, &object, put,
+        );
+        raw::nerupazhil_remove(kind, file, 0, none, 0, none, 0, 0, name, 0, 0, remove);
+    }
+    assert_eq!(replies, [[19, 0, 0]; 3]);
 }
 
 /// With a workspace, an empty file is too short; with a file, an empty output is too small, and an empty name is no name.

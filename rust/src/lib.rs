@@ -54,8 +54,8 @@
 //! # What is proved
 //!
 //! The functions of the library, which [`mod@raw`] declares, are proved. This crate is not: that it hands over the
-//! right buffers and shows the right parts is tested. Only [`calls`] has unsafe code. A reply that pointed outside of a
-//! buffer would be a panic.
+//! right buffers and shows the right parts and numbers is tested. Only [`calls`] has unsafe code. A reply that pointed
+//! outside of a buffer would be a panic.
 //!
 //! No proof speaks of stack. In tests, a thread with 64 KiB runs the functions of [`calls`] on the files that were found
 //! to take most, and one with 32 KiB on those whose cache tree has at most 16 levels, the root included. [`Index`] has
@@ -63,8 +63,14 @@
 //!
 //! # Building
 //!
-//! For Linux on x86-64. The build links `libnerupazhil.a` from the folder that the variable `NERUPAZHIL_STATICLIB`
-//! names, or else from `target/staticlib` of the repository, where `rt staticlib nerupazhil` writes it.
+//! For targets with 64-bit pointers; tested on Linux on x86-64. The build links `libnerupazhil.a`, which has to be the
+//! archive for the target, from the folder that the variable `NERUPAZHIL_STATICLIB` names. Where it is not set, there is
+//! a folder of the repository for Linux and Android:
+//!
+//! | Processor | Folder | The command that writes the archive |
+//! |---|---|---|
+//! | x86-64 | `target/staticlib` | `rt staticlib nerupazhil` |
+//! | AArch64 | `target/archives/aarch64-linux` | `./archives` |
 
 #![deny(missing_docs)]
 #![deny(unsafe_code)]
@@ -74,6 +80,7 @@ pub mod calls;
 pub mod raw;
 
 mod index;
+mod numbers;
 mod read;
 mod records;
 mod refusal;

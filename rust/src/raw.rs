@@ -1,15 +1,27 @@
-//! The exported functions of the proved library under the types that C sees: `c/include/nerupazhil.h` describes them.
-//! In a reply, `refusal` is 0 of a success, and all that does not apply is 0 or false. A null pointer with length 0 is
-//! an empty slice. Nothing checks these declarations against the Rattle source but the tests that call them.
+//! The exported functions of the proved library, as C sees them, and their replies, as the functions of
+//! [`calls`](crate::calls) answer them.
+//!
+//! An exported function takes the kind of object names first, which is [`SHA1`]. A slice is a pointer and a length,
+//! where a null pointer with length 0 is an empty one. A reply is written, whole, to arrays that the caller lends: of
+//! numbers for the reply itself and for the fields of an entry, and of [`OBJECT`] bytes for an object name, whose last
+//! 12 are zero. `c/include/nerupazhil.h` says what each number is. The first is 0 of a success or else the number of
+//! the refusal, the second its place, and all that does not apply is 0.
+//!
+//! Tests compare these declarations with the Rattle source and with the header.
+
+/// The kind of object names that are SHA-1 digests. Any other number is refused with 29.
+pub const SHA1: u32 = 1;
 
 /// The number of bytes of an object name and of a digest.
 pub const DIGEST: usize = 20;
+
+/// The number of bytes that are lent for an object name.
+pub const OBJECT: usize = 32;
 
 /// The least number of bytes of a workspace.
 pub const WORKSPACE: usize = 8192;
 
 /// The reply of check.
-#[repr(C)]
 #[derive(Clone, Copy, Debug, Default, PartialEq, Eq)]
 pub struct CheckReply {
     /// 0, or the number of the refusal.
@@ -34,7 +46,6 @@ pub struct CheckReply {
 
 /// Where a name is: `buffer` is 1 for the file, 2 for the workspace, 0 for none. It lies in its buffer, also where it
 /// is empty: `offset + length` is at most the buffer's length.
-#[repr(C)]
 #[derive(Clone, Copy, Debug, Default, PartialEq, Eq)]
 pub struct Name {
     /// 1 for the file, 2 for the workspace, 0 for none.
@@ -46,7 +57,6 @@ pub struct Name {
 }
 
 /// The fields of an entry but its name. The mode and the stage are checked; the other numbers take any value.
-#[repr(C)]
 #[derive(Clone, Copy, Debug, Default, PartialEq, Eq)]
 pub struct Fields {
     /// When the metadata of the file in the worktree last changed: seconds.
@@ -82,7 +92,6 @@ pub struct Fields {
 }
 
 /// The reply of entry.
-#[repr(C)]
 #[derive(Clone, Copy, Debug, Default, PartialEq, Eq)]
 pub struct EntryReply {
     /// 0, or the number of the refusal.
@@ -96,7 +105,6 @@ pub struct EntryReply {
 }
 
 /// The reply of tree_node. An invalid node has count 0 and zeros for its object name.
-#[repr(C)]
 #[derive(Clone, Copy, Debug, Default, PartialEq, Eq)]
 pub struct NodeReply {
     /// 0, or the number of the refusal.
@@ -118,7 +126,6 @@ pub struct NodeReply {
 }
 
 /// A stage of a resolve-undo record: mode 0 and zeros where it is missing.
-#[repr(C)]
 #[derive(Clone, Copy, Debug, Default, PartialEq, Eq)]
 pub struct Stage {
     /// The mode.
@@ -128,7 +135,6 @@ pub struct Stage {
 }
 
 /// The reply of undo_record.
-#[repr(C)]
 #[derive(Clone, Copy, Debug, Default, PartialEq, Eq)]
 pub struct UndoReply {
     /// 0, or the number of the refusal.
@@ -146,7 +152,6 @@ pub struct UndoReply {
 }
 
 /// The reply of rewrite, put and remove: how many bytes were written.
-#[repr(C)]
 #[derive(Clone, Copy, Debug, Default, PartialEq, Eq)]
 pub struct WriteReply {
     /// 0, or the number of the refusal.
@@ -158,7 +163,6 @@ pub struct WriteReply {
 }
 
 /// The reply of walk_start: the place of the first entry and how many there are.
-#[repr(C)]
 #[derive(Clone, Copy, Debug, Default, PartialEq, Eq)]
 pub struct StartReply {
     /// 0, or the number of the refusal.
@@ -171,8 +175,7 @@ pub struct StartReply {
     pub left: u32,
 }
 
-/// The reply of walk_next: an entry, the place after it and how many remain there.
-#[repr(C)]
+/// The reply of walk_next: an entry, the place after it and how many remain there. A refusal has zeros for both.
 #[derive(Clone, Copy, Debug, Default, PartialEq, Eq)]
 pub struct StepReply {
     /// 0, or the number of the refusal.
@@ -190,43 +193,63 @@ pub struct StepReply {
 }
 
 extern "C" {
-    /// Checks the file.
+    /// Checks the file. The reply: refusal, place, version, entries, end, whether there is a cache tree, its nodes,
+    /// whether there is a resolve-undo extension, its records, and seven numbers that are 0.
     pub fn nerupazhil_check(
+        kind: u32,
         file: *const u8,
         file_length: usize,
         work: *mut u8,
         work_length: usize,
-    ) -> CheckReply;
+        reply: *mut [u64; 16],
+    );
 
-    /// Entry `k`, from 0. A name of version 4 is left at the start of the workspace.
+    /// Entry `k`, from 0. A name of version 4 is left at the start of the workspace. The reply: refusal, place, and
+    /// the name's buffer, offset and length.
     pub fn nerupazhil_entry(
+        kind: u32,
         file: *const u8,
         file_length: usize,
         work: *mut u8,
         work_length: usize,
         k: u32,
-    ) -> EntryReply;
+        reply: *mut [u64; 5],
+        fields: *mut [u32; 14],
+        object: *mut [u8; 32],
+    );
 
-    /// Node `k` of the cache tree, from 0.
+    /// Node `k` of the cache tree, from 0. The reply: refusal, place, the name's buffer, offset and length, level,
+    /// whether it is valid, count, subtrees.
     pub fn nerupazhil_tree_node(
+        kind: u32,
         file: *const u8,
         file_length: usize,
         work: *mut u8,
         work_length: usize,
         k: u32,
-    ) -> NodeReply;
+        reply: *mut [u64; 9],
+        object: *mut [u8; 32],
+    );
 
-    /// Resolve-undo record `k`, from 0.
+    /// Resolve-undo record `k`, from 0. The reply: refusal, place, the path's buffer, offset and length, and the modes
+    /// of stages 1, 2 and 3.
     pub fn nerupazhil_undo_record(
+        kind: u32,
         file: *const u8,
         file_length: usize,
         work: *mut u8,
         work_length: usize,
         k: u32,
-    ) -> UndoReply;
+        reply: *mut [u64; 8],
+        first: *mut [u8; 32],
+        second: *mut [u8; 32],
+        third: *mut [u8; 32],
+    );
 
-    /// Writes the file's records in the version asked for to `out`.
+    /// Writes the file's records in the version asked for to `out`. The reply: refusal, place, and how many bytes were
+    /// written.
     pub fn nerupazhil_rewrite(
+        kind: u32,
         file: *const u8,
         file_length: usize,
         work: *mut u8,
@@ -234,10 +257,12 @@ extern "C" {
         out: *mut u8,
         out_length: usize,
         asked: u32,
-    ) -> WriteReply;
+        reply: *mut [u64; 3],
+    );
 
     /// The same with one entry in place of the one of its name and stage, or added.
     pub fn nerupazhil_put(
+        kind: u32,
         file: *const u8,
         file_length: usize,
         work: *mut u8,
@@ -247,11 +272,14 @@ extern "C" {
         asked: u32,
         name: *const u8,
         name_length: usize,
-        fields: Fields,
-    ) -> WriteReply;
+        fields: *const [u32; 14],
+        object: *const [u8; 32],
+        reply: *mut [u64; 3],
+    );
 
     /// The same without the entry of a name and stage.
     pub fn nerupazhil_remove(
+        kind: u32,
         file: *const u8,
         file_length: usize,
         work: *mut u8,
@@ -262,23 +290,32 @@ extern "C" {
         name: *const u8,
         name_length: usize,
         stage: u32,
-    ) -> WriteReply;
+        reply: *mut [u64; 3],
+    );
 
-    /// Whether a walk can go over the file, and where it starts.
+    /// Whether a walk can go over the file, and where it starts. The reply: refusal, place, the place of the first
+    /// entry, and how many there are.
     pub fn nerupazhil_walk_start(
+        kind: u32,
         file: *const u8,
         file_length: usize,
         work: *mut u8,
         work_length: usize,
-    ) -> StartReply;
+        reply: *mut [u64; 4],
+    );
 
-    /// The next entry of a walk at a place, where `left` remain.
+    /// The next entry of a walk at a place, where `left` remain. The reply: refusal, place, the name's buffer, offset
+    /// and length, the place after the entry, and how many remain there.
     pub fn nerupazhil_walk_next(
+        kind: u32,
         file: *const u8,
         file_length: usize,
         at: usize,
         left: u32,
-    ) -> StepReply;
+        reply: *mut [u64; 7],
+        fields: *mut [u32; 14],
+        object: *mut [u8; 32],
+    );
 
     /// Writes the SHA-1 digest of the bytes to `out`.
     pub fn nerupazhil_sha1(bytes: *const u8, length: usize, out: *mut [u8; DIGEST]);

@@ -119,6 +119,7 @@ fn present(stage: Stage) -> Option<Stage> {
 }
 
 /// A name that a reply shows in a buffer. The library is proved to stay within it; nothing here rests on that.
+#[inline]
 pub(crate) fn part(buffer: &[u8], name: Name) -> &[u8] {
     buffer
         .get(name.offset..)

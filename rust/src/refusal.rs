@@ -142,6 +142,7 @@ reasons! {
     19 WorkspaceShort "the workspace is shorter than 8192 bytes"
     20 OutputShort "the output is too short for the result"
     21 NeedsVersion3 "version 2 was asked for, but an entry is marked skip-worktree or intent-to-add, which needs version 3 or 4"
+    29 Kind "the kind of object names is not one that the library knows"
 }
 
 impl fmt::Display for Reason {

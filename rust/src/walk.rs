@@ -64,16 +64,16 @@ impl<'a> Walk<'a> {
 impl<'a> Iterator for Walk<'a> {
     type Item = Entry<'a>;
 
+    #[inline]
     fn next(&mut self) -> Option<Entry<'a>> {
         if self.left == 0 {
             return None;
         }
         let step = calls::walk_next(self.file, self.at, self.left);
+        // Of its own, so that the assertion does not keep the whole reply in memory.
+        let refusal = step.refusal;
         // A list that ends too early reads as deleted files: rather none at all.
-        assert_eq!(
-            step.refusal, 0,
-            "the library refused an entry of a checked file"
-        );
+        assert_eq!(refusal, 0, "the library refused an entry of a checked file");
         self.at = step.at;
         self.left = step.left;
         Some(Entry {
@@ -82,6 +82,7 @@ impl<'a> Iterator for Walk<'a> {
         })
     }
 
+    #[inline]
     fn size_hint(&self) -> (usize, Option<usize>) {
         let left = self.left as usize;
         (left, Some(left))

@@ -111,21 +111,36 @@ fn a_valid_node_has_its_count() {
     assert!(counts[1..].iter().all(|&count| 0 < count && count < 20));
 }
 
-/// A record without its second stage, of 61 bytes.
+/// A record without its second stage, of 61 bytes, and one with three stages, of 85.
 #[test]
 fn resolve_undo_records_are_shown() {
     let mut file = EMPTY[..12].to_vec();
-    file.extend(b"REUC\0\0\0\x3dplan\x00100644\x000\x00100644\0");
-    file.extend([0x11; 20]);
-    file.extend([0x33; 20]);
+    file.extend(b"REUC\0\0\0\x92plan\x00100644\x000\x00100644\0");
+    file.extend([[0x11; 20], [0x33; 20]].concat());
+    file.extend(b"saw\x00100644\x00100755\x00120000\0");
+    file.extend([[0x44; 20], [0x55; 20], [0x66; 20]].concat());
     let file = with_checksum(file);
-    let record = undo_record(&file, &mut [0; WORKSPACE], 0).unwrap();
-    let stage = |byte| Stage {
-        mode: mode::REGULAR,
-        object: [byte; 20],
+    let work = &mut [0; WORKSPACE];
+    let stage = |mode, byte| {
+        let object = [byte; 20];
+        Some(Stage { mode, object })
     };
+    let record = undo_record(&file, work, 0).unwrap();
     assert_eq!(record.path, b"plan");
-    assert_eq!(record.stages, [Some(stage(0x11)), None, Some(stage(0x33))]);
+    assert_eq!(
+        record.stages,
+        [stage(mode::REGULAR, 0x11), None, stage(mode::REGULAR, 0x33)]
+    );
+    let record = undo_record(&file, work, 1).unwrap();
+    assert_eq!(record.path, b"saw");
+    assert_eq!(
+        record.stages,
+        [
+            stage(mode::REGULAR, 0x44),
+            stage(mode::EXECUTABLE, 0x55),
+            stage(mode::SYMLINK, 0x66)
+        ]
+    );
 }
 
 /// Entries by their numbers, by a walk and by the owner are the same.

@@ -5,7 +5,8 @@ mod common;
 use std::iter::FusedIterator;
 
 use common::{number, stored};
-use nerupazhil::{walk, Walk, EMPTY, WORKSPACE};
+use nerupazhil::raw::StepReply;
+use nerupazhil::{calls, walk, Walk, EMPTY, WORKSPACE};
 
 fn start(file: &[u8]) -> Walk<'_> {
     walk(file, &mut [0; WORKSPACE]).unwrap()
@@ -58,6 +59,21 @@ fn names_last_as_long_as_the_file() {
 fn version_4_is_refused() {
     let file = stored("real/v4-committed");
     assert_eq!(number(walk(&file, &mut [0; WORKSPACE])), 4);
+}
+
+/// A step where no entry remains, or where none is, has its number alone.
+#[test]
+fn a_refused_step_shows_no_place() {
+    let file = stored("real/v2-committed");
+    let refused = StepReply {
+        refusal: 18,
+        ..StepReply::default()
+    };
+    for (at, left) in [(12, 0), (file.len(), 7), (usize::MAX, u32::MAX)] {
+        assert_eq!(calls::walk_next(&file, at, left), refused);
+    }
+    let first = calls::walk_next(&file, 12, 20);
+    assert_eq!((first.refusal, first.at, first.left), (0, 84, 19));
 }
 
 /// What is shown of a walk is short, however long the file.

@@ -75,17 +75,17 @@ fn every_field_is_written_in_its_place() {
     assert_eq!(file[..file.len() - 20], expected);
 }
 
-/// What was put is shown, in each version, with one of the two flags of the extended word.
+/// What was put is shown, in each version, whichever of the flags are set.
 #[test]
 fn every_field_is_shown_again() {
     let (work, out) = (&mut [0; WORKSPACE], &mut [0; 256]);
-    let later = Fields {
-        assume_valid: false,
-        skip_worktree: false,
-        intent_to_add: true,
+    let flags = |set: u32| Fields {
+        assume_valid: set & 1 > 0,
+        skip_worktree: set & 2 > 0,
+        intent_to_add: set & 4 > 0,
         ..distinct()
     };
-    for fields in [regular(), distinct(), later] {
+    for fields in (0..8).map(flags).chain([regular()]) {
         for (version, _) in &VERSIONS[1..] {
             let file = put(&EMPTY, work, out, *version, b"saw/cut", &fields).unwrap();
             let shown = entry(file, work, 0).unwrap();

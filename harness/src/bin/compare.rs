@@ -30,8 +30,12 @@ use std::process::exit;
 use std::thread;
 use std::time::Instant;
 
-/// The highest number of a refusal.
-const REFUSALS: usize = 21;
+/// The numbers of refusals, after 0 for a success.
+const REFUSALS: [u32; 23] = [
+    0, 1, 2, 3, 4, 5, 6, 7, 8, 9, 10, 11, 12, 13, 14, 15, 16, 17, 18, 19, 20, 21, 29,
+];
+/// Kinds of object names that there are not.
+const UNKNOWN_KINDS: [u32; 6] = [0, 2, 3, 20, 0x0100_0000, u32::MAX];
 /// A run of the given number of inputs or more must meet every refusal.
 const COVERING: u64 = 10_000;
 /// How many failures of a thread are told in full.
@@ -204,9 +208,11 @@ impl Questions {
         if expected.map_or(false, |expected| expected != words) {
             return Err(format!("{words}, not {expected:?}"));
         }
-        for call in requests::calls(random, input, &checked) {
-            self.ask(random, &call, input)?;
+        let calls = requests::calls(random, input, &checked);
+        for call in &calls {
+            self.ask(random, call, input)?;
         }
+        self.unknown_kind(random, &calls, input)?;
         self.lend(random, &input.bytes, b"");
         match checked.refusal {
             0 => self.walk()?,
@@ -248,6 +254,22 @@ impl Questions {
             return self
                 .again(random, &result)
                 .map_err(|why| format!("{call}: {why}"));
+        }
+        self.comparison.inputs_stay(&input.bytes, call.name())
+    }
+
+    /// Makes one of the calls with a kind of object names that there is not.
+    fn unknown_kind(
+        &mut self,
+        random: &mut Random,
+        calls: &[Call],
+        input: &Input,
+    ) -> Result<(), String> {
+        let (kind, call) = (*random.pick(&UNKNOWN_KINDS), random.pick(calls));
+        self.lend(random, &input.bytes, call.name());
+        let (work, room) = (requests::workspace(random), random.below(100));
+        if let Some(refusal) = self.comparison.unknown_kind(kind, call, work, room)? {
+            self.counts.call(refusal)?;
         }
         self.comparison.inputs_stay(&input.bytes, call.name())
     }
@@ -309,7 +331,7 @@ struct Counts {
     failed: u64,
     /// How many inputs of each kind there were, and how many of these were accepted.
     kinds: BTreeMap<Kind, (u64, u64)>,
-    refusals: [u64; REFUSALS + 1],
+    refusals: BTreeMap<u32, u64>,
 }
 
 impl Counts {
@@ -326,17 +348,22 @@ impl Counts {
             *all += inputs;
             *sound += accepted;
         }
-        for (count, more) in self.refusals.iter_mut().zip(other.refusals) {
-            *count += more;
+        for (refusal, calls) in other.refusals {
+            *self.refusals.entry(refusal).or_default() += calls;
         }
     }
 
     fn call(&mut self, refusal: u32) -> Result<(), String> {
-        match self.refusals.get_mut(refusal as usize) {
-            Some(count) => *count += 1,
-            None => return Err(format!("there is no refusal {refusal}")),
+        if !REFUSALS.contains(&refusal) {
+            return Err(format!("there is no refusal {refusal}"));
         }
+        *self.refusals.entry(refusal).or_default() += 1;
         Ok(())
+    }
+
+    /// How many calls were answered with a refusal.
+    fn of(&self, refusal: u32) -> u64 {
+        self.refusals.get(&refusal).copied().unwrap_or(0)
     }
 
     fn print(&self) {
@@ -345,20 +372,18 @@ impl Counts {
             println!("{:>16}  {inputs:>9}  {accepted:>9}", format!("{kind:?}"));
         }
         println!("{:>16}  {:>9}", "refusal", "calls");
-        for (refusal, count) in self.refusals.iter().enumerate() {
-            println!("{refusal:>16}  {count:>9}");
+        for refusal in REFUSALS {
+            println!("{refusal:>16}  {:>9}", self.of(refusal));
         }
-        let calls: u64 = self.refusals.iter().sum();
+        let calls: u64 = self.refusals.values().sum();
         println!("{:>16}  {calls:>9}", "all");
     }
 
     /// How many refusals were not met, and tells them.
     fn missed(&self) -> u64 {
-        let missed = |(_, count): &(usize, &u64)| **count == 0;
-        let missed: Vec<_> = self.refusals.iter().enumerate().filter(missed).collect();
-        for (refusal, _) in &missed {
-            println!("FAILED: no call was answered with refusal {refusal}");
-        }
-        missed.len() as u64
+        let missed = REFUSALS.iter().filter(|refusal| self.of(**refusal) == 0);
+        missed
+            .inspect(|refusal| println!("FAILED: no call was answered with refusal {refusal}"))
+            .count() as u64
     }
 }

@@ -32,6 +32,11 @@ pub enum Call {
 }
 
 impl Call {
+    /// Whether it takes a workspace.
+    pub fn works(&self) -> bool {
+        !matches!(self, Self::WalkNext(..) | Self::Sha1)
+    }
+
     /// Whether it takes an output.
     pub fn writes(&self) -> bool {
         matches!(self, Self::Rewrite(_) | Self::Put(..) | Self::Remove(..))

@@ -129,21 +129,17 @@ pub fn walk_start(file: &[u8], work: &mut [u8]) -> StartReply {
 
 /// The next entry of a walk.
 pub fn walk_next(file: &[u8], at: usize, left: u32) -> StepReply {
-    let reply = StepReply {
-        at,
-        left: left.saturating_sub(1),
-        ..StepReply::default()
-    };
     match step(file, at, left) {
         Some((name, fields, at)) => StepReply {
             name,
             fields,
             at,
-            ..reply
+            left: left - 1,
+            ..StepReply::default()
         },
         None => StepReply {
             refusal: refusal::ABSENT,
-            ..reply
+            ..StepReply::default()
         },
     }
 }
