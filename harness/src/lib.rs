@@ -4,6 +4,7 @@
 #![deny(warnings)]
 
 pub mod comparison;
+pub mod deepest;
 pub mod edits;
 pub mod ffi;
 pub mod hostile;
