@@ -1,26 +1,21 @@
+-- The proof that `nerupazhil_walk_start` meets its contract.
+use mathlib.Core.Path.{ap, _∙_}
+use Rattle.nerupazhil.specs.Replies.{startReply}
 use borrow.Author.Needs.{needs}
 use Rattle.nerupazhil.proofs.nerupazhil_walk_start.Statement.{statement}
 use Rattle.nerupazhil.proofs.nerupazhil_walk_start.Tie as tie
-use Rattle.nerupazhil.proofs.nerupazhil_walk_start.Reads as reads
-use Rattle.nerupazhil.proofs.nerupazhil_walk_start.Lts as lts
-use Rattle.nerupazhil.proofs.kinds.walk_start.Reads as walk-start-reads
-use Rattle.nerupazhil.proofs.replies.start_reply.Reads as start-reply-reads
 
--- src/lib.rt:138:42
 walk-start-requires : tie.Need-walk-start-requires
 walk-start-requires c κs = search needs
 
--- src/lib.rt:138:14
 start-reply-requires : tie.Need-start-reply-requires
 start-reply-requires c κs = search needs
 
--- src/lib.rt:134:1
 same-length : tie.Need-same-length
 same-length c = search needs
 
--- src/lib.rt:134:1
 returns : tie.Need-returns
-returns c = ?
+returns c = let q = c .before .before .before .walk-start .ensures in (c .start-reply .ensures ∙ ap startReply (q .0), q .1)
 
 pub nerupazhil-walk-start-spec : {M : Type 1} → statement M
 nerupazhil-walk-start-spec =

@@ -1,37 +1,27 @@
+-- The proof that `shown_reply` meets its contract.
 use borrow.Author.Needs.{needs}
 use Rattle.nerupazhil.proofs.replies.shown_reply.Statement.{statement}
 use Rattle.nerupazhil.proofs.replies.shown_reply.Tie as tie
-use Rattle.nerupazhil.proofs.replies.shown_reply.Reads as reads
-use Rattle.nerupazhil.proofs.replies.shown_reply.Lts as lts
-use Rattle.nerupazhil.proofs.replies.wide.Reads as wide-reads
-
--- src/replies.rt:157:24
 enum-known-shown : tie.Need-enum-known-shown
 enum-known-shown c = search needs
 
--- src/replies.rt:157:34
 wide-requires : tie.Need-wide-requires
 wide-requires c κs = search needs
 
--- src/replies.rt:158:23
 enum-known-shown-2 : tie.Need-enum-known-shown-2
 enum-known-shown-2 c = search needs
 
--- src/replies.rt:159:28
 enum-known-shown-3 : tie.Need-enum-known-shown-3
 enum-known-shown-3 c = search needs
 
--- src/replies.rt:153:1
 returns : tie.Need-returns
-returns c = ?
+returns c = rw (c .before .before .shown .given .1, c .wide .ensures)
 
--- src/replies.rt:153:1
 returns-2 : tie.Need-returns-2
-returns-2 c = ?
+returns-2 c = rw (c .before .shown2 .given .1)
 
--- src/replies.rt:153:1
 returns-3 : tie.Need-returns-3
-returns-3 c = ?
+returns-3 c = rw (c .before .shown3 .given .1)
 
 pub shown-reply-spec : {M : Type 1} → statement M
 shown-reply-spec =

@@ -1,0 +1,41 @@
+-- The proof that `nerupazhil_undo_record` meets its contract.
+use Rattle.nerupazhil.proofs.Laws.{undo-replies}
+use borrow.Author.Needs.{needs}
+use Rattle.nerupazhil.proofs.nerupazhil_undo_record.Statement.{statement}
+use Rattle.nerupazhil.proofs.nerupazhil_undo_record.Tie as tie
+
+undo-record-requires : tie.Need-undo-record-requires
+undo-record-requires c κs = search needs
+
+undo-reply-requires : tie.Need-undo-reply-requires
+undo-reply-requires c κs = search needs
+
+wide-object-requires : tie.Need-wide-object-requires
+wide-object-requires c κs = search needs
+
+wide-object-requires-2 : tie.Need-wide-object-requires-2
+wide-object-requires-2 c κs = search needs
+
+wide-object-requires-3 : tie.Need-wide-object-requires-3
+wide-object-requires-3 c κs = search needs
+
+same-length : tie.Need-same-length
+same-length c = search needs
+
+returns : tie.Need-returns
+returns c = 
+    let b = c .before .before in
+    let q = b .before .before .before .before .before .before .before .undo-record .ensures in
+    (undo-replies _ _ _ _ _ _ _ _ (q .0) (b .before .undo-reply .ensures) (record { whole = b .wide-object .ensures .0; width = b .wide-object .ensures .1 }) (record { whole = c .before .wide-object2 .ensures .0; width = c .before .wide-object2 .ensures .1 }) (record { whole = c .wide-object3 .ensures .0; width = c .wide-object3 .ensures .1 }), q .1)
+
+pub nerupazhil-undo-record-spec : {M : Type 1} → statement M
+nerupazhil-undo-record-spec =
+    tie.close
+    (tie.spec
+    undo-record-requires
+    undo-reply-requires
+    wide-object-requires
+    wide-object-requires-2
+    wide-object-requires-3
+    same-length
+    returns)
