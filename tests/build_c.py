@@ -66,8 +66,8 @@ def build(name: str, sources, standard: str = "c99", warnings: bool = True, targ
     return path
 
 
-def build_object(name: str, source: str, standard: str, target: str = "x86_64") -> None:
-    run(*compiler(standard, target=target), "-c", source, "-o", path_of(name))
+def build_object(name: str, source: str, standard: str) -> None:
+    run(*compiler(standard), "-c", source, "-o", path_of(name))
 
 
 def example_sources(name: str) -> list:

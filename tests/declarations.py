@@ -1,9 +1,12 @@
 """The declarations of the library's boundary in Rattle, Rust and C, brought to one form so that they can be compared.
 
-    rattle(), rust(), header()    the structs and the functions of each, as Declarations
+    texts()                     the sources, by language
+    read(language, text)        what a source declares
+    differences(left, right)    rows of what should be equal: (what, of the one, of the other)
 
-The form is that of C: a struct is a list of (member, type), a function its type and a list of parameter types. A slice
-of Rattle is two parameters. Structs go by their C names without 'struct nerupazhil_'.
+The form is that of Rust: a function is its result and a list of (parameter, type), and a slice of Rattle is two
+parameters. A struct of C is the array of its numbers. A pointer to bytes of C that no length follows is an array: of
+NERUPAZHIL_DIGEST bytes if it is called out, else of NERUPAZHIL_OBJECT.
 """
 
 import glob
@@ -12,79 +15,143 @@ import re
 from typing import NamedTuple
 
 ROOT = os.path.join(os.path.dirname(os.path.abspath(__file__)), "..")
-RATTLE = ("crates/nerupazhil/src/*.rt", "crates/answers/src/*.rt", "crates/entries/src/record.rt")
-RUST = "rust/src/raw.rs"
-HEADER = "c/include/nerupazhil.h"
+SOURCES = {"Rattle": "crates/nerupazhil/src/*.rt", "Rust": "rust/src/raw.rs", "C": "c/include/nerupazhil.h"}
 
-PARAMETERS = {  # of Rattle and Rust; a type that is not here has one parameter
-    "&[u8]": ["const uint8_t *", "size_t"],
-    "&mut [u8]": ["uint8_t *", "size_t"],
-    "&mut [u8; 20]": ["uint8_t *"],
-    "*const u8": ["const uint8_t *"],
-    "*mut u8": ["uint8_t *"],
-    "*mut [u8; DIGEST]": ["uint8_t *"],
+CALL = r"(?P<name>nerupazhil_\w+)\((?P<rows>[^)]*)\)"
+FUNCTION = {
+    "Rattle": rf'#\[no_mangle\]\npub extern "C" fn {CALL}(?: -> (?P<result>\w+))?\n',
+    "Rust": rf"\n    pub fn {CALL}(?: -> (?P<result>\w+))?;",
+    "C": rf"\n(?P<result>\w[\w ]*?) {CALL};",
 }
-TYPES = {"u32": "uint32_t", "usize": "size_t", "bool": "bool", "[u8; 20]": "uint8_t[20]", "[u8; DIGEST]": "uint8_t[20]"}
+CONSTANT = {
+    "Rattle": r"\nconst (\w+): \w+ = (\d+);",
+    "Rust": r"\npub const (\w+): \w+ = (\d+);",
+    "C": r"\n#define NERUPAZHIL_(\w+) (\d+)u\b",
+}
+SHARED = {  # the constants of each that are compared
+    "Rattle": ("SHA1",),
+    "Rust": ("SHA1", "DIGEST", "OBJECT", "WORKSPACE"),
+    "C": ("SHA1", "DIGEST", "OBJECT", "WORKSPACE"),
+}
+STRUCT = r"\nstruct nerupazhil_(\w+) \{(.*?)\n\};"
+TYPES = {"uint64_t": "u64", "uint32_t": "u32", "uint8_t": "u8", "size_t": "usize", "void": "()"}
+LENGTHS = {"bytes": "length"}  # the length of a slice is called NAME_length, but for this one
 
 
-class Declarations(NamedTuple):
-    structs: dict  # name: [(member, type), ...]
-    functions: dict  # name: (type, [parameter type, ...])
+class Declared(NamedTuple):
+    constants: dict  # name: number
+    functions: dict  # name: (result, [(parameter, type), ...])
 
 
-def rattle() -> Declarations:
-    paths = [path for pattern in RATTLE for path in sorted(glob.glob(os.path.join(ROOT, pattern)))]
-    return rust_like("".join(map(load, paths)))
+def texts() -> dict:
+    result = {}
+    for language, pattern in SOURCES.items():
+        result[language] = ""
+        for path in sorted(glob.glob(os.path.join(ROOT, pattern))):
+            with open(path, encoding="utf-8") as stream:
+                result[language] += stream.read()
+    return result
 
 
-def rust() -> Declarations:
-    return rust_like(load(RUST))
+def read(language: str, text: str) -> Declared:
+    text = without_comments(language, text)
+    found = {name: int(number) for name, number in re.findall(CONSTANT[language], text)}
+    constants = {name: found.get(name) for name in SHARED[language]}
+    structs = structs_of(text)
+    functions = {}
+    for one in re.finditer(FUNCTION[language], text):
+        rows = PARAMETERS[language](split(one["rows"]), constants, structs)
+        functions[one["name"]] = (TYPES.get(one["result"] or "void", one["result"]), rows)
+    return Declared(constants, functions)
 
 
-def load(path: str) -> str:
-    with open(os.path.join(ROOT, path), encoding="utf-8") as stream:
-        return stream.read()
+def without_comments(language: str, text: str) -> str:
+    return re.sub(r"/\*.*?\*/" if language == "C" else r" *//[^\n]*", "", text, flags=re.DOTALL)
 
 
-# ---- Rattle and Rust, which declare in the same way
+def split(rows: str) -> list:
+    """Parameters as they are spelled, with single blanks."""
+    return [part for part in (" ".join(row.split()) for row in rows.split(",")) if part]
 
 
-def rust_like(text: str) -> Declarations:
-    structs, functions = {}, {}
-    struct = r"#\[repr\(C\)\]\n(?:#\[derive[^\n]*\n)?pub struct (\w+) \{\n(.*?)\n\}"
-    for name, members in re.findall(struct, text, re.DOTALL):
-        rows = re.findall(r"pub (\w+): (.*?),(?:\n|$)", members)
-        structs[snake(name)] = [(member, c_type(kind)) for member, kind in rows]
-    function = r"fn (nerupazhil_\w+)\((.*?)\)(?: -> (\w+))?(?=[;\n])"
-    for name, parameters, kind in re.findall(function, text, re.DOTALL):
-        kinds = re.findall(r"\w+: (.*?)(?:,|$)", " ".join(parameters.split()))
-        row = [one for kind in kinds for one in PARAMETERS.get(kind) or [c_type(kind)]]
-        functions[name] = (c_type(kind) if kind else "void", row)
-    return Declarations(structs, functions)
+def differences(left: Declared, right: Declared):
+    yield "the names of the functions", sorted(left.functions), sorted(right.functions)
+    for name, declared in left.functions.items():
+        yield name, declared, right.functions.get(name)
+    for name, number in left.constants.items():
+        if name in right.constants:
+            yield name, number, right.constants[name]
 
 
-def snake(name: str) -> str:
-    return re.sub(r"(?<!^)([A-Z])", r"_\1", name).lower()
+# ---- Rattle and Rust
 
 
-def camel(name: str) -> str:
-    return "".join(word.capitalize() for word in name.split("_"))
+def rattle_parameters(rows: list, _constants: dict, _structs: dict) -> list:
+    result = []
+    for row in rows:
+        name, kind = row.split(": ", 1)
+        kind = re.sub(r"^&(?=\[)", "*const ", re.sub(r"^&mut (?=\[)", "*mut ", kind))
+        part = re.fullmatch(r"(\*\w+ )\[(\w+)\]", kind)
+        if part:
+            result += [(name, part[1] + part[2]), (LENGTHS.get(name, f"{name}_length"), "usize")]
+        else:
+            result.append((name, kind))
+    return result
 
 
-def c_type(kind: str) -> str:
-    return TYPES.get(kind) or f"struct nerupazhil_{snake(kind)}"
+def rust_parameters(rows: list, constants: dict, _structs: dict) -> list:
+    split_rows = (row.split(": ", 1) for row in rows)
+    return [(name, re.sub(r"\b[A-Z]+\b", lambda one: str(constants.get(one[0])), kind)) for name, kind in split_rows]
 
 
 # ---- C
 
 
-def header() -> Declarations:
-    text = re.sub(r"/\*.*?\*/", "", load(HEADER), flags=re.DOTALL).replace("NERUPAZHIL_DIGEST]", "20]")
-    structs, functions = {}, {}
-    for name, members in re.findall(r"struct nerupazhil_(\w+) \{(.*?)\}", text, re.DOTALL):
-        rows = re.findall(r"(\S.*?) (\w+)(\[20\])?;", members)
-        structs[name] = [(member, kind + array) for kind, member, array in rows]
-    for kind, name, parameters in re.findall(r"^([\w ]+) (nerupazhil_\w+)\(([^)]*)\);", text, re.MULTILINE):
-        rows = [re.fullmatch(r"(.*\W)\w+", one.strip()).group(1).strip() for one in parameters.split(",")]
-        functions[name] = (kind, rows)
-    return Declarations(structs, functions)
+def structs_of(text: str) -> dict:
+    """The structs of a header without comments, as lists of numbers: (the members that lead to one, its type). A struct
+    stands after those that it has as members."""
+    structs = {}
+    for name, members in re.findall(STRUCT, text, re.DOTALL):
+        structs[name] = [number for member in members.split(";")[:-1] for number in numbers_of(member, structs)]
+    return structs
+
+
+def numbers_of(member: str, structs: dict) -> list:
+    kind, name, count = re.fullmatch(r"(.*?) ?(\w+)(?:\[(\d+)\])?", " ".join(member.split())).groups()
+    if count:
+        return [(f"{name}[{k}]", kind) for k in range(int(count))]
+    inner = structs.get(kind.removeprefix("struct nerupazhil_"))
+    return [(f"{name}.{number}", one) for number, one in inner] if inner else [(name, kind)]
+
+
+def spelled(text: str) -> dict:
+    """The types of the parameters of each function of a header without comments."""
+    found = re.finditer(FUNCTION["C"], text)
+    return {one["name"]: [re.sub(r" ?\w+$", "", row) for row in split(one["rows"])] for one in found}
+
+
+def array(numbers: list) -> str:
+    """The array that a struct is; all of its types where these differ."""
+    kinds = [TYPES.get(kind, kind) for _, kind in numbers]
+    return f"[{kinds[0]}; {len(kinds)}]" if len(set(kinds)) == 1 else str(kinds)
+
+
+def c_parameters(rows: list, constants: dict, structs: dict) -> list:
+    result = []
+    for row, following in zip(rows, rows[1:] + [""]):
+        kind, name = re.fullmatch(r"(.*\W)(\w+)", row).groups()
+        pointer = re.fullmatch(r"(const )?(uint8_t|struct nerupazhil_(\w+)) \*", kind)
+        if not pointer:
+            result.append((name, TYPES.get(kind.strip(), kind)))
+            continue
+        if pointer[3]:
+            target = array(structs[pointer[3]])
+        elif following == f"size_t {LENGTHS.get(name, f'{name}_length')}":
+            target = "u8"
+        else:
+            target = f"[u8; {constants['DIGEST' if name == 'out' else 'OBJECT']}]"
+        result.append((name, f"*{'const' if pointer[1] else 'mut'} {target}"))
+    return result
+
+
+PARAMETERS = {"Rattle": rattle_parameters, "Rust": rust_parameters, "C": c_parameters}

@@ -2,13 +2,14 @@
 
     run_c.py PROGRAM [--only GROUP]
 
-    header     compiles alone and included twice, in C and C++; its declarations and its layout are those of the others
-    calls      each call from C and C++, with empty slices too (calls.c)
+    header     compiles alone and included twice, in C and C++; its declarations and its layout are those of the others,
+               and wrong declarations are noticed (wrong_declarations)
+    calls      each call from C and C++ (calls.c)
     list       c/examples/list.c on the stored vectors and on large files, against index_reader
     put        c/examples/put.c against PROGRAM, which answers the requests of edit_requests; refusals, locks and wrong
                use leave the index as it was; what is no sound index is not saved (save_bytes.c)
 
-It needs gcc, g++ and rustc, and the archive (see build_c). The last line is 'N passed, M failed', and the exit status
+It needs gcc and g++, and the archive (see build_c). The last line is 'N passed, M failed', and the exit status
 is 0 only where M is 0.
 """
 
@@ -26,6 +27,7 @@ import build_c
 import declarations
 import index_reader
 import run_listing
+import wrong_declarations
 from edit_requests import Request, Session
 from index_reader import FILE_LIMIT, Entry
 from layout import *
@@ -34,6 +36,7 @@ from report import SECONDS, WIDTH, Program, Report
 HERE = os.path.dirname(os.path.abspath(__file__))
 STANDARDS = ("c99", "c11", "c++11", "c++17")
 OBJECT = "ce013625030ba8dba906f756967f9e9ca394464a"
+LOWEST = 0  # asked for: NERUPAZHIL_VERSION_LOWEST
 ROOM = 20_000  # by how much a put makes an index longer at most, and more
 
 
@@ -79,63 +82,88 @@ def header(report: Report, _folder: str, _session: Session) -> None:
             source = build_c.write("header.c", '#include "nerupazhil.h"\n' * times + "typedef int some_type;\n")
             name = f"the header {label} in {standard}"
             built(report, name, lambda: build_c.build_object("header.o", source, standard))
-    sides = {"Rattle": declarations.rattle(), "Rust": declarations.rust(), "C": declarations.header()}
-    for side in ("Rattle", "C"):
-        compare_declarations(report, side, sides[side], sides["Rust"])
-    layouts(report, sides["Rust"].structs)
+    texts = declarations.texts()
+    declared = {language: declarations.read(language, text) for language, text in texts.items()}
+    same = report.same("the number of functions", 10, len(declared["Rattle"].functions))
+    for left, right in (("Rattle", "Rust"), ("Rattle", "C"), ("Rust", "C")):
+        for name, one, other in declarations.differences(declared[left], declared[right]):
+            same &= report.same(f"{name} in {left} and {right}", one, other)
+    if same:
+        layouts(report, declared["Rattle"].functions, texts["C"])
+        wrong_texts(report, texts, declared)
 
 
-def compare_declarations(report: Report, side: str, got, expected) -> None:
-    """Structs and functions of one language against those that Rust declares."""
-    for kind in ("structs", "functions"):
-        left, right = getattr(expected, kind), getattr(got, kind)
-        report.same(f"the names of the {kind} in {side}", sorted(left), sorted(right))
-        for name, declared in left.items():
-            report.same(f"{name} in {side}", declared, right.get(name))
-    report.test(f"{side} declares ten of each", len(got.structs) == len(got.functions) == 10)
-
-
-def layouts(report: Report, structs: dict) -> None:
-    """Sizes, alignments and offsets as the compilers of C, C++ and Rust see them."""
-    lines = {}
+def layouts(report: Report, functions: dict, text: str) -> None:
+    """Arrays of Rattle as the compilers of C and C++ see them: size, alignment, and the place of each number."""
+    expected = array_lines(functions)
+    source = build_c.write("layout.c", c_layout(functions, declarations.without_comments("C", text)))
     for standard in ("c11", "c++11"):
-        source = build_c.write("layout.c", c_layout(structs))
         path = built(report, f"layout in {standard}", lambda: build_c.build("layout", [source], standard))
-        lines[standard] = path and build_c.run(path).splitlines()
-    source, path = build_c.write("layout.rs", rust_layout(structs)), build_c.path_of("layout-rust")
-    rustc = ("rustc", "--edition", "2021", "-Dwarnings", source, "-o", path)
-    if built(report, "layout in Rust", lambda: build_c.run(*rustc)) is None:
-        return
-    expected = build_c.run(path).splitlines()
-    report.same("lines of the layout", sum(len(members) + 1 for members in structs.values()), len(expected))
-    for standard, got in lines.items():
-        for line, other in zip(expected, got or [b""] * len(expected)):
-            report.same(f"layout in {standard} and Rust", line, other)
+        got = build_c.run(path).decode().splitlines() if path else []
+        report.same(f"lines of the layout in {standard}", len(expected), len(got))
+        for line, other in zip(expected, got):
+            report.same(f"layout in {standard}", line, other)
 
 
-def c_layout(structs: dict) -> str:
+def lent_arrays(functions: dict):
+    """The arrays of numbers that functions of Rattle take: function, place among its parameters, width, count."""
+    for name, (_, parameters) in functions.items():
+        for place, (_, kind) in enumerate(parameters):
+            array = re.fullmatch(r"\*\w+ \[u(32|64); (\d+)\]", kind)
+            if array:
+                yield name, place, int(array[1]) // 8, int(array[2])
+
+
+def array_lines(functions: dict) -> list:
+    lines = []
+    for name, place, width, count in lent_arrays(functions):
+        lines.append(f"{name} {place} {width * count} {width}")
+        lines += [f"{name} {place} {width * k} {width}" for k in range(count)]
+    return lines
+
+
+def c_layout(functions: dict, text: str) -> str:
+    """A program that prints the same lines for the structs of the header. It also has a pointer to each function, with
+    the types that were read."""
+    structs, spelled = declarations.structs_of(text), declarations.spelled(text)
     rows = ["#include <stdio.h>", '#include "nerupazhil.h"']
-    rows += ["#ifndef __cplusplus", "#define alignof _Alignof", "#endif", "int main(void)", "{"]
-    for name, members in structs.items():
-        kind = f"struct nerupazhil_{name}"
-        rows.append(f'    printf("{name} %zu %zu\\n", sizeof({kind}), alignof({kind}));')
-        for member, _ in members:
-            size = f"sizeof((({kind} *)0)->{member})"
-            rows.append(f'    printf("{name}.{member} %zu %zu\\n", offsetof({kind}, {member}), {size});')
+    rows += ["#ifndef __cplusplus", "#define alignof _Alignof", "#endif"]
+    rows += [f"void (*the_{name})({', '.join(kinds)}) = {name};" for name, kinds in spelled.items()]
+    rows += ["int main(void)", "{"]
+    for name, place, _, _ in lent_arrays(functions):
+        kind = spelled[name][place].removeprefix("const ").removesuffix(" *")
+        rows.append(f'    printf("{name} {place} %zu %zu\\n", sizeof({kind}), alignof({kind}));')
+        for number, _ in structs[kind.removeprefix("struct nerupazhil_")]:
+            size = f"sizeof((({kind} *)0)->{number})"
+            rows.append(f'    printf("{name} {place} %zu %zu\\n", offsetof({kind}, {number}), {size});')
     return "\n".join(rows) + "\n    return 0;\n}\n"
 
 
-def rust_layout(structs: dict) -> str:
-    rows = ["#![allow(dead_code)]", f'#[path = "{build_c.ROOT}/{declarations.RUST}"]', "mod raw;"]
-    rows += ["use std::mem::{align_of, size_of, size_of_val};", "fn main() {"]
-    for name, members in structs.items():
-        kind = f"raw::{declarations.camel(name)}"
-        rows.append(f'    println!("{name} {{}} {{}}", size_of::<{kind}>(), align_of::<{kind}>());')
-        rows.append(f"    let value = {kind}::default();")
-        for member, _ in members:
-            offset = f"std::ptr::addr_of!(value.{member}) as usize - std::ptr::addr_of!(value) as usize"
-            rows.append(f'    println!("{name}.{member} {{}} {{}}", {offset}, size_of_val(&value.{member}));')
-    return "\n".join(rows) + "\n}\n"
+def wrong_texts(report: Report, texts: dict, declared: dict) -> None:
+    """Wrong declarations are noticed: the comparison finds them, or the header does not compile."""
+    report.test("the header as a source", compiles(texts["C"]))
+    for language, text in texts.items():
+        for what, wrong in wrong_declarations.edits(language, text):
+            noticed = is_other(language, wrong, declared) or (language == "C" and not compiles(wrong))
+            report.test(f"wrong declaration in {language}, {what}: noticed", noticed and wrong != text)
+
+
+def is_other(language: str, text: str, declared: dict) -> bool:
+    read = {**declared, language: declarations.read(language, text)}
+    rows = declarations.differences(read["Rattle" if language == "Rattle" else "Rust"], read["C"])
+    return any(one != other for _, one, other in rows)
+
+
+def compiles(header_text: str) -> bool:
+    """Whether a header compiles in one of three languages: it asserts in each in another way."""
+    source = build_c.write("wrong_header.c", header_text)
+    for standard in ("c99", "c11", "c++11"):
+        try:
+            build_c.build_object("wrong_header.o", source, standard)
+            return True
+        except build_c.BuildFailed:
+            pass
+    return False
 
 
 # ---- the calls
@@ -292,7 +320,7 @@ def put_records(report: Report, name: str, index: Index, session: Session) -> No
     """Puts records one after another and compares the file with the expected one: new ones, one in place of another, a
     stage, and names that a command line can hold but a listing escapes."""
     read = index_reader.read(index.data)
-    asked = 4 if read.version == 4 else 0
+    asked = 4 if read.version == 4 else LOWEST
     rows = [new_entry(b"!first"), new_entry(b"saw/cut.txt", EXECUTABLE), new_entry(b"saw/cut.txt", LINK, 2)]
     rows.append(new_entry(b"\xff\n\\", GITLINK))
     rows += [new_entry(entry.name, REGULAR, entry.stage) for entry in read.entries[:1]]
@@ -404,7 +432,7 @@ def links(report: Report, index: Index, session: Session) -> None:
     os.remove(index.path + ".lock")
     done = index.put("a", path=link)
     report.test("put through a link", done == Done(0, b"", b"") and os.readlink(link) == index.path, done)
-    report.same("the file behind the link", expected(session, index.data, 0, new_entry(b"a")), load(index.path))
+    report.same("the file behind the link", expected(session, index.data, LOWEST, new_entry(b"a")), load(index.path))
     report.same("nothing beside the link", ["link"], os.listdir(os.path.dirname(link)))
 
 

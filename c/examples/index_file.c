@@ -4,6 +4,7 @@
 
 #include <errno.h>
 #include <fcntl.h>
+#include <inttypes.h>
 #include <stdio.h>
 #include <stdlib.h>
 #include <sys/stat.h>
@@ -71,8 +72,8 @@ bool load_file(const char *path, struct bytes *file)
     return good;
 }
 
-void tell_refusal(const char *program, const char *path, uint32_t refusal, size_t place)
+void tell_refusal(const char *program, const char *path, uint64_t refusal, uint64_t place)
 {
-    fprintf(stderr, "%s: %s: refused %lu at %zu: %s\n", program, path, (unsigned long)refusal, place,
+    fprintf(stderr, "%s: %s: refused %" PRIu64 " at %" PRIu64 ": %s\n", program, path, refusal, place,
             nerupazhil_refusal_text(refusal));
 }

@@ -17,6 +17,6 @@ struct bytes {
 bool load_file(const char *path, struct bytes *file);
 
 /* Prints what a refusal means to standard error, with its number and place. */
-void tell_refusal(const char *program, const char *path, uint32_t refusal, size_t place);
+void tell_refusal(const char *program, const char *path, uint64_t refusal, uint64_t place);
 
 #endif

@@ -24,6 +24,7 @@
 struct record {
     const char *name;
     struct nerupazhil_fields fields;
+    uint8_t object[NERUPAZHIL_OBJECT];
 };
 
 static uint8_t work[NERUPAZHIL_WORKSPACE];
@@ -60,7 +61,7 @@ static int hex_digit(char digit)
     return -1;
 }
 
-static bool parse_object(const char *text, uint8_t object[NERUPAZHIL_DIGEST])
+static bool parse_object(const char *text, uint8_t *object)
 {
     if (strlen(text) != 2 * NERUPAZHIL_DIGEST)
         return false;
@@ -81,7 +82,7 @@ static const char *parse_record(int count, char **arguments, struct record *reco
         return "four or five arguments are needed";
     if (!parse_number(arguments[2], 8, &record->fields.mode))
         return "MODE is not an octal number such as 100644";
-    if (!parse_object(arguments[3], record->fields.object))
+    if (!parse_object(arguments[3], record->object))
         return "OBJECT is not 40 hex digits";
     if (count == 6 && !parse_number(arguments[5], 10, &record->fields.stage))
         return "STAGE is not a number from 0 to 3";
@@ -91,7 +92,7 @@ static const char *parse_record(int count, char **arguments, struct record *reco
 
 /* ---- the change */
 
-static int refuse(const char *path, uint32_t refusal, size_t place)
+static int refuse(const char *path, uint64_t refusal, uint64_t place)
 {
     tell_refusal("put", path, refusal, place);
     return 1;
@@ -106,17 +107,19 @@ static int fail(const char *what)
 /* Makes the new index in the output, which has room for any. */
 static int make(const char *path, struct bytes file, const struct record *record, struct bytes *out)
 {
-    struct nerupazhil_check_reply checked = nerupazhil_check(file.data, file.length, work, sizeof work);
+    struct nerupazhil_check_reply checked;
     struct nerupazhil_write_reply written;
+    uint32_t asked;
 
+    nerupazhil_check(NERUPAZHIL_SHA1, file.data, file.length, work, sizeof work, &checked);
     if (checked.refusal != NERUPAZHIL_DONE)
         return refuse(path, checked.refusal, checked.place);
-    written = nerupazhil_put(file.data, file.length, work, sizeof work, out->data, NERUPAZHIL_FILE,
-                             checked.version == 4 ? 4 : 0, (const uint8_t *)record->name, strlen(record->name),
-                             record->fields);
+    asked = checked.version == NERUPAZHIL_VERSION_4 ? NERUPAZHIL_VERSION_4 : NERUPAZHIL_VERSION_LOWEST;
+    nerupazhil_put(NERUPAZHIL_SHA1, file.data, file.length, work, sizeof work, out->data, NERUPAZHIL_FILE, asked,
+                   (const uint8_t *)record->name, strlen(record->name), &record->fields, record->object, &written);
     if (written.refusal != NERUPAZHIL_DONE)
         return refuse(path, written.refusal, written.place);
-    out->length = written.length;
+    out->length = (size_t)written.length;
     return 0;
 }
 

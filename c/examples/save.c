@@ -4,6 +4,7 @@
 
 #include <errno.h>
 #include <fcntl.h>
+#include <inttypes.h>
 #include <stdlib.h>
 #include <string.h>
 #include <sys/stat.h>
@@ -144,7 +145,7 @@ enum save_result save_commit(struct save *save, const uint8_t *bytes, size_t len
     uint8_t work[NERUPAZHIL_WORKSPACE];
 
     /* Whatever made these bytes: what is no sound index does not replace one. */
-    save->check = nerupazhil_check(bytes, length, work, sizeof work);
+    nerupazhil_check(NERUPAZHIL_SHA1, bytes, length, work, sizeof work, &save->check);
     if (save->check.refusal != NERUPAZHIL_DONE)
         return give_up(save, SAVE_REFUSED);
     /* The bytes are on the disk before the name leads to them: else a loss of power after the rename could leave an
@@ -174,7 +175,7 @@ void save_explain(const struct save *save, const char *path, FILE *stream)
         fprintf(stream, "if none is at work, remove that file and try again");
         break;
     case SAVE_REFUSED:
-        fprintf(stream, "not changed: the new index is refused %lu at %zu: %s", (unsigned long)save->check.refusal,
+        fprintf(stream, "not changed: the new index is refused %" PRIu64 " at %" PRIu64 ": %s", save->check.refusal,
                 save->check.place, nerupazhil_refusal_text(save->check.refusal));
         break;
     case SAVE_FAILED:
