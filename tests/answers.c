@@ -8,8 +8,8 @@
  * printed or hashed afterwards. A number that is still the mark is printed as a full stop.
  *
  *   answers            prints the answers
- *   answers PART       prints them with one bit changed in the first PART that a call gave: reply, fields, object, work,
- *                      output or guard (a byte behind the output); for the test that a difference is noticed
+ *   answers PART       prints them with one bit changed in the first PART that a call gave: reply, fields, object,
+ * work, output or guard (a byte behind the output); for the test that a difference is noticed
  */
 #include <stdio.h>
 #include <stdlib.h>
@@ -18,10 +18,10 @@
 #include "nerupazhil.h"
 
 #define MARK 0xa5
-#define GUARD 64     /* bytes before and after what is lent */
-#define SPARE 100    /* bytes of a workspace that are too many */
-#define STEPS 40     /* of a walk, at most */
-#define LARGE 10000  /* bytes of a file with which few calls are made */
+#define GUARD 64    /* bytes before and after what is lent */
+#define SPARE 100   /* bytes of a workspace that are too many */
+#define STEPS 40    /* of a walk, at most */
+#define LARGE 10000 /* bytes of a file with which few calls are made */
 #define NAME_MOST (NERUPAZHIL_NAME + 1)
 
 /* ---- what is lent */

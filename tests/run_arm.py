@@ -9,7 +9,8 @@
     stack      every call in threads with as little stack as the header promises (stack.c)
 
 PROGRAM is the harness's stack_files, which writes files with deep trees. It needs gcc and qemu-user for AArch64, and
-the archives (see build_c). The last line is 'N passed, M failed', and the exit status is 0 only where M is 0.
+what './archives aarch64-linux-android21' makes (see build_c). The last line is 'N passed, M failed', and the exit status
+is 0 only where M is 0.
 """
 
 import argparse
@@ -17,7 +18,6 @@ import os
 import re
 import shutil
 import signal
-import subprocess
 import sys
 import tempfile
 import time
@@ -33,7 +33,7 @@ from report import Program, Report
 
 ROOT = build_c.ROOT
 CROSS = "aarch64-linux-gnu-"
-TOOLS = {OURS: "", OTHER: CROSS}  # what stands before the names of nm and readelf
+OURS_FOLDER, OTHER_FOLDER, ANDROID = "x86_64-linux", "aarch64-linux", "aarch64-linux-android21"  # of the archives
 OBJECT = "ce013625030ba8dba906f756967f9e9ca394464a"
 
 
@@ -58,15 +58,15 @@ def built(report: Report, name: str, sources: list):
 # ---- the archives
 
 
-def archive(processor: str) -> str:
-    """The archive that ./archives has made."""
+def archive(folder: str) -> str:
+    """An archive that ./archives has made, by the folder's name."""
     folders = os.path.dirname(os.path.dirname(build_c.archive(OTHER)))
-    return os.path.join(folders, f"{processor}-linux", "libnerupazhil.a")
+    return os.path.join(folders, folder, "libnerupazhil.a")
 
 
 def load(path: str) -> bytes:
-    with open(path, "rb") as stream_:
-        return stream_.read()
+    with open(path, "rb") as data:
+        return data.read()
 
 
 def exported() -> list:
@@ -75,64 +75,79 @@ def exported() -> list:
     return sorted(re.findall(r'^pub extern "C" fn (\w+)', text, re.MULTILINE))
 
 
-def symbols(processor: str, *options: str) -> list:
+def symbols(folder: str, *options: str) -> list:
     """The names that nm prints, sorted."""
-    lines = build_c.run(TOOLS[processor] + "nm", "--format=just-symbols", *options, archive(processor)).decode().split("\n")
+    lines = build_c.run(CROSS + "nm", "--format=just-symbols", *options, archive(folder)).decode().splitlines()
     return sorted(line for line in lines if line and not line.endswith(":"))
 
 
 def archives(report: Report, given: Given) -> None:
-    report.same("the archive for x86-64 is rt's", load(build_c.archive()), load(archive(OURS)))
-    machines = {OURS: "Advanced Micro Devices X86-64", OTHER: "AArch64"}
-    for processor in PROCESSORS:
-        header = build_c.run(TOOLS[processor] + "readelf", "-h", archive(processor)).decode()
-        for name, value in (("Machine", machines[processor]), ("Class", "ELF64"), ("Data", "2's complement, little endian")):
-            report.same(f"{processor}: {name}", [value], re.findall(rf"{name}: +(.*)", header))
-        report.same(f"{processor}: exports", exported(), symbols(processor, "--defined-only", "--extern-only"))
-        report.same(f"{processor}: what is needed", ["memcpy", "memset"], symbols(processor, "--undefined-only"))
+    report.same("the archive for x86-64 is rt's", load(build_c.archive()), load(archive(OURS_FOLDER)))
     report.test("ten functions are exported", len(exported()) == 10, exported())
-    registers(report)
-    position_independent(report, given.folder)
+    machines = {OURS_FOLDER: "Advanced Micro Devices X86-64", OTHER_FOLDER: "AArch64", ANDROID: "AArch64"}
+    for folder, machine in machines.items():
+        header = build_c.run(CROSS + "readelf", "-h", archive(folder)).decode()
+        for name, value in (("Machine", machine), ("Class", "ELF64"), ("Data", "2's complement, little endian")):
+            report.same(f"{folder}: {name}", [value], re.findall(rf"{name}: +(.*)", header))
+        report.same(f"{folder}: exports", exported(), symbols(folder, "--defined-only", "--extern-only"))
+        report.same(f"{folder}: what is needed", ["memcpy", "memset"], symbols(folder, "--undefined-only"))
+    for folder in (OTHER_FOLDER, ANDROID):
+        registers(report, folder)
+        position_independent(report, folder, os.path.join(given.folder, "library.so"))
     refusals(report)
 
 
-def registers(report: Report) -> None:
+def registers(report: Report, folder: str) -> None:
     """Android keeps register x18 for itself."""
-    code = build_c.run(CROSS + "objdump", "-d", "--no-show-raw-insn", archive(OTHER)).decode()
-    report.test("the code can be read", len(re.findall(r"\b[xw]19\b", code)) > 100)
-    report.same("register x18 is left alone", [], re.findall(r".*\b[xw]18\b.*", code)[:3])
+    code = build_c.run(CROSS + "objdump", "-d", "--no-show-raw-insn", archive(folder)).decode()
+    report.test(f"{folder}: the code can be read", len(re.findall(r"\b[xw]19\b", code)) > 100)
+    report.same(f"{folder}: register x18 is left alone", [], re.findall(r".*\b[xw]18\b.*", code)[:3])
 
 
-def position_independent(report: Report, folder: str) -> None:
+def position_independent(report: Report, folder: str, path: str) -> None:
     """The archive can be a part of a library that is loaded anywhere, as an app for Android has it."""
-    path = os.path.join(folder, "library.so")
-    whole = ("-Wl,--whole-archive", archive(OTHER), "-Wl,--no-whole-archive")
+    whole = ("-Wl,--whole-archive", archive(folder), "-Wl,--no-whole-archive")
     try:
         build_c.run(CROSS + "gcc", "-shared", "-Wl,-z,text", "-Wl,--fatal-warnings", *whole, "-o", path)
     except build_c.BuildFailed as failure:
-        report.test("a shared library for AArch64", False, str(failure)[:2000])
+        report.test(f"{folder}: a shared library", False, str(failure)[:2000])
         return
     lines = build_c.run(CROSS + "nm", "--dynamic", "--defined-only", path).decode().splitlines()
-    report.same("a shared library for AArch64", exported(), sorted(line.split()[-1] for line in lines))
+    report.same(f"{folder}: a shared library", exported(), sorted(line.split()[-1] for line in lines))
+
+
+REFUSED = {
+    "does not fit the module, whose pointers have 64 bits": (
+        "armv7a-linux-androideabi21",
+        "i686-linux-gnu",
+        "x86_64-linux-gnux32",
+    ),
+    "does not fit the module, whose numbers have the low byte first": (
+        "aarch64_be-linux-gnu",
+        "powerpc64-linux-gnu",
+        "s390x-linux-gnu",
+    ),
+    "is neither Linux nor Android, and what is made for it could not be linked here": (
+        "arm64-apple-ios13.0",
+        "x86_64-pc-windows-msvc",
+        "wasm64",
+    ),
+}
 
 
 def refusals(report: Report) -> None:
     """Targets that ./archives refuses before it proves anything; what was made before stays."""
-    bits, order = "does not fit the module, whose pointers have 64 bits", "does not fit the module, whose numbers have the low byte first"
-    system = "is neither Linux nor Android, and what is made for it could not be linked here"
-    rows = [(target, f"{target} {bits}") for target in ("armv7a-linux-androideabi21", "i686-linux-gnu", "x86_64-linux-gnux32")]
-    rows += [(target, f"{target} {order}") for target in ("aarch64_be-linux-gnu", "powerpc64-linux-gnu", "s390x-linux-gnu")]
-    rows += [(target, f"{target} {system}") for target in ("arm64-apple-ios13.0", "x86_64-pc-windows-msvc", "wasm64")]
+    rows = [(target, f"{target} {told}") for told, targets in REFUSED.items() for target in targets]
     rows += [("powerpc64le-linux-gnu", "powerpc64le-linux-gnu: the kit's clang makes no code for this processor")]
     rows += [("no-such-target", "no-such-target: the kit's clang does not know this target")]
     for name in ("", "../x86_64-linux", "--help", "a b"):
         rows.append((name, f"'{name}' is not the name of a target; usage: archives [TRIPLE...]"))
-    before = [load(archive(processor)) for processor in PROCESSORS]
+    folders = (OURS_FOLDER, OTHER_FOLDER, ANDROID)
+    before = [load(archive(folder)) for folder in folders]
     for target, told in rows:
-        done = run([os.path.join(ROOT, "archives")], "aarch64-linux-android21", target)
-        expected = (2, b"", f"archives: {told}\n".encode())
-        report.same(f"archives {target}", expected, tuple(done))
-    report.test("the archives stay", before == [load(archive(processor)) for processor in PROCESSORS])
+        done = run([os.path.join(ROOT, "archives")], ANDROID, target)
+        report.same(f"archives {target}", (2, b"", f"archives: {told}\n".encode()), tuple(done))
+    report.test("the archives stay", before == [load(archive(folder)) for folder in folders])
 
 
 # ---- the programs
@@ -166,23 +181,57 @@ def list_vectors(report: Report) -> None:
         report.same(f"list {case.name}: the rest", (ours.status, ours.err), (other.status, other.err))
 
 
+# To be put one after the other: the last three are refused, by the library and by the program.
+RECORDS = (
+    ("100644", OBJECT, "new/in/folder"),
+    ("100755", OBJECT, "a"),
+    ("120000", OBJECT, "new/in/folder"),
+    ("160000", OBJECT, "conflict", "2"),
+    ("100644", OBJECT, ".git"),
+    ("100600", OBJECT, "a"),
+    ("100644", OBJECT),
+)
+# All but the last are sound.
+INDEXES = (
+    "real/empty",
+    "real/v2-committed",
+    "real/v4-committed",
+    "real/v2-conflict",
+    "real/v4-extended",
+    "real/v4-resolve-undo",
+    "real/deep-127",
+    "made/damaged-7000-33",
+)
+
+
+def contents(folder: str) -> dict:
+    """The files of a folder."""
+    return {name: load(os.path.join(folder, name)) for name in os.listdir(folder)}
+
+
+def put_record(command: list, folder: str, record: tuple) -> tuple:
+    """Puts a record into the index of a folder, whose path is left out of what is told."""
+    done = run(command, "index", *record, folder=folder)
+    return (done.status, done.out, done.err.replace(os.fsencode(folder), b""))
+
+
 def put_records(report: Report, folder: str) -> None:
     """Puts the same records, one after the other, into the same index in two folders."""
     commands = built(report, "put", build_c.example_sources("put"))
     if commands is None:
         return
-    records = [("100644", OBJECT, "new/in/folder"), ("100755", OBJECT, "a"), ("120000", OBJECT, "new/in/folder")]
-    records += [("160000", OBJECT, "conflict", "2"), ("100644", OBJECT, ".git"), ("100600", OBJECT, "a"), ("100644", OBJECT)]
-    names = ("real/empty", "real/v2-committed", "real/v4-committed", "real/v2-conflict", "real/v4-extended", "real/deep-128")
-    for name in (*names, "real/v4-resolve-undo", "made/damaged-7000-33"):
+    done = 0
+    for name in INDEXES:
         paths = {processor: tempfile.mkdtemp(dir=folder) for processor in PROCESSORS}
         for path in paths.values():
             shutil.copy(os.path.join(run_listing.VECTORS, f"{name}.index"), os.path.join(path, "index"))
-        for record in records:
-            ours, other = (run(commands[one], "index", *record, folder=paths[one]) for one in PROCESSORS)
-            report.same(f"put {record} into {name}", tuple(ours), tuple(other))
-            left = [{path: load(os.path.join(paths[one], path)) for path in os.listdir(paths[one])} for one in PROCESSORS]
-            report.test(f"the index after put {record} into {name}", left[0] == left[1] and len(left[0]) == 1)
+        for record in RECORDS:
+            ours, other = (put_record(commands[one], paths[one], record) for one in PROCESSORS)
+            report.same(f"put {record} into {name}", ours, other)
+            done += ours[0] == 0
+            left, right = (contents(paths[one]) for one in PROCESSORS)
+            report.test(f"the index after put {record} into {name}", left == right and list(left) == ["index"])
+    report.same("records that are put", 4 * (len(INDEXES) - 1), done)
 
 
 # ---- the answers of every call
@@ -253,10 +302,14 @@ def stack(report: Report, given: Given) -> None:
     report.test("files of every depth", len(shallow) > 50 and {file.levels for file in deep} == {32, 64, 128})
     tasks = [(LITTLE, shallow[k::4]) for k in range(4)] + [(ENOUGH, deep[k::4]) for k in range(4)]
     with ThreadPoolExecutor(os.cpu_count()) as pool:
-        results = pool.map(lambda task: run(commands[OTHER], str(task[0]), data=stream(f.data for f in task[1])), tasks)
-        for (kib, files), done in zip(tasks, results):
+        for (kib, files), done in zip(tasks, pool.map(lambda task: threads(commands[OTHER], *task), tasks)):
             in_thread(report, kib, files, done)
     too_little(report, commands, [file for file in deep if file.levels == 128][:1])
+
+
+def threads(command: list, kib: int, files: list):
+    """Makes all calls on each file in a thread with so much stack."""
+    return run(command, str(kib), data=stream(file.data for file in files))
 
 
 def in_thread(report: Report, kib: int, files: list, done) -> None:
@@ -271,7 +324,7 @@ def in_thread(report: Report, kib: int, files: list, done) -> None:
 def too_little(report: Report, commands: dict, files: list) -> None:
     """The threads have no more than that: less than what a call takes ends the program."""
     for processor in PROCESSORS:
-        done = run(commands[processor], "24", data=stream(file.data for file in files))
+        done = threads(commands[processor], 24, files)
         report.same(f"{processor}: a thread with too little", (-signal.SIGSEGV, b""), (done.status, done.out))
 
 
@@ -282,7 +335,7 @@ GROUPS = {"archives": archives, "programs": programs, "answers": answers, "stack
 
 def ready(report: Report) -> bool:
     """Whether the archives and the programs that the tests need are there."""
-    paths = [archive(processor) for processor in PROCESSORS] + [build_c.archive()]
+    paths = [archive(folder) for folder in (OURS_FOLDER, OTHER_FOLDER, ANDROID)] + [build_c.archive()]
     there = [report.test(f"{path} is there", os.path.isfile(path)) for path in paths]
     for command in ("gcc", CROSS + "gcc", processors.EMULATOR):
         there.append(report.test(f"{command} is installed", shutil.which(command) is not None))

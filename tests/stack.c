@@ -1,11 +1,10 @@
 /*
  * Makes the library's calls on each file of a stream, as answers.c reads it, with a stack of their own.
  *
- *   stack            prints how many bytes of stack each call takes: a line with the names of the calls, then a line for
- *                    each file. A call runs on a stack that was painted before, and what lost the paint is counted.
- *   stack KIB        makes all calls on a file in a thread that has so many KiB, its start included, and prints a line
- *                    with their refusals. Below the stack is memory that can't be used: a call that needs more ends the
- *                    program with a signal.
+ *   stack            prints how many bytes of stack each call takes: a line with the names of the calls, then a line
+ * for each file. A call runs on a stack that was painted before, and what lost the paint is counted. stack KIB makes
+ * all calls on a file in a thread that has so many KiB, its start included, and prints a line with their refusals.
+ * Below the stack is memory that can't be used: a call that needs more ends the program with a signal.
  */
 #define _GNU_SOURCE
 
@@ -108,12 +107,30 @@ static void remove_entry(uint32_t asked)
     nerupazhil_remove(GIVEN_FILE, out, NERUPAZHIL_FILE, asked, old_name, name_length, 0, &reply.write);
 }
 
-static void rewrite_in_2(void) { rewrite(2); }
-static void rewrite_in_4(void) { rewrite(4); }
-static void put_in_2(void) { put(2); }
-static void put_in_4(void) { put(4); }
-static void remove_in_2(void) { remove_entry(2); }
-static void remove_in_4(void) { remove_entry(4); }
+static void rewrite_in_2(void)
+{
+    rewrite(2);
+}
+static void rewrite_in_4(void)
+{
+    rewrite(4);
+}
+static void put_in_2(void)
+{
+    put(2);
+}
+static void put_in_4(void)
+{
+    put(4);
+}
+static void remove_in_2(void)
+{
+    remove_entry(2);
+}
+static void remove_in_4(void)
+{
+    remove_entry(4);
+}
 
 static void sha1(void)
 {

@@ -37,7 +37,7 @@ def depths(command: list, file) -> dict:
 def measure(commands: dict, files: list) -> dict:
     """For each processor a list with the depths on each file."""
     with ThreadPoolExecutor(os.cpu_count()) as pool:
-        tasks = {processor: [pool.submit(depths, commands[processor], file) for file in files] for processor in PROCESSORS}
+        tasks = {one: [pool.submit(depths, commands[one], file) for file in files] for one in PROCESSORS}
         for number, (task, file) in enumerate(zip(tasks[OTHER], files)):
             task.result()
             print(f"bench: stack-arm: {number + 1} of {len(files)}: {file.name}", file=sys.stderr)
