@@ -94,14 +94,22 @@ def archives(report: Report, given: Given) -> None:
     for folder in (OTHER_FOLDER, ANDROID):
         registers(report, folder)
         position_independent(report, folder, os.path.join(given.folder, "library.so"))
+    # So what is run here of the one is true of the other.
+    report.same("the code for Linux and for Android", code(OTHER_FOLDER), code(ANDROID))
     refusals(report)
+
+
+def code(folder: str) -> bytes:
+    """The instructions of an archive, without its name."""
+    text = build_c.run(CROSS + "objdump", "-d", "-r", archive(folder))
+    return text[text.index(b"Disassembly") :]
 
 
 def registers(report: Report, folder: str) -> None:
     """Android keeps register x18 for itself."""
-    code = build_c.run(CROSS + "objdump", "-d", "--no-show-raw-insn", archive(folder)).decode()
-    report.test(f"{folder}: the code can be read", len(re.findall(r"\b[xw]19\b", code)) > 100)
-    report.same(f"{folder}: register x18 is left alone", [], re.findall(r".*\b[xw]18\b.*", code)[:3])
+    text = code(folder).decode()
+    report.test(f"{folder}: the code can be read", len(re.findall(r"\b[xw]19\b", text)) > 100)
+    report.same(f"{folder}: register x18 is left alone", [], re.findall(r".*\b[xw]18\b.*", text)[:3])
 
 
 def position_independent(report: Report, folder: str, path: str) -> None:
