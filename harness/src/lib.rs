@@ -5,6 +5,7 @@
 
 pub mod boundary;
 pub mod comparison;
+pub mod deepest;
 pub mod edits;
 pub mod ffi;
 pub mod hostile;

@@ -4,17 +4,12 @@ use crate::calls::depth;
 use crate::part::progress;
 use crate::plot::{Limit, Line, Panel, Spacing, BLUE, RED};
 use crate::table::{kib, Table};
+use harness::deepest::{LEVELS, SHALLOW, SHORT};
 use harness::{ffi, hostile};
 
 pub const TEXT: &str = "Check by the levels of the tree: on a plain file, with one entry on the last level, and on the \
     file that takes most. The plot shows the same figures.";
 
-/// How long the files are whose length does not matter.
-pub const SHORT: usize = 1 << 16;
-/// The levels of the trees.
-pub const LEVELS: [usize; 8] = [1, 2, 4, 8, 16, 32, 64, hostile::LEVELS];
-/// Trees of at most the given number of levels are shallow.
-pub const SHALLOW: usize = 16;
 /// How many KiB a call shall take at most, on any file and on one with a shallow tree.
 pub const AIM: f64 = 64.0;
 pub const SHALLOW_AIM: f64 = 32.0;

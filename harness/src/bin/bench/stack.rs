@@ -1,21 +1,15 @@
 //! The deepest stack of each call over the files that take most.
 
 use crate::calls::{Request, CALLS};
-use crate::levels::{self, AIM, LEVELS, SHALLOW, SHALLOW_AIM, SHORT};
+use crate::levels::{self, AIM, SHALLOW_AIM};
 use crate::part::{progress, Part};
 use crate::table::{kib, Table};
-use harness::hostile::{self, Case};
+use harness::deepest::{files, SHALLOW};
 
 const TEXT: &str = "The deepest stack of each call in KiB: on files of every depth, whose cache trees have up to 128 levels, \
     and on those of at most 16 levels; the root is the first. The files are chains of directories, searches of every \
     kind for a sibling, long names, and short ones of the files that were made to be slow. A call runs on a stack that \
     was painted before, and what lost the paint is counted.";
-
-/// A file, and how many levels its tree has at most.
-struct File {
-    levels: usize,
-    case: Case,
-}
 
 pub fn figures() -> Result<Part, String> {
     let (any, shallow) = deepest()?;
@@ -72,21 +66,6 @@ fn keep(deepest: &mut Deepest, depths: &[usize], name: &str) {
             *most = (bytes, name.to_string());
         }
     }
-}
-
-fn files() -> Vec<File> {
-    let mut files = Vec::new();
-    let mut add = |levels, cases: Vec<Case>| {
-        files.extend(cases.into_iter().map(|case| File { levels, case }));
-    };
-    for levels in LEVELS {
-        add(levels, hostile::deep_cases(levels, SHORT));
-        add(levels, hostile::search_cases(levels));
-    }
-    add(hostile::SHORT_LEVELS, hostile::short_cases());
-    add(1, hostile::long_name_cases(SHORT));
-    add(1, vec![hostile::undo_case(SHORT)]);
-    files
 }
 
 fn call_table(any: &Deepest, shallow: &Deepest) -> Table {

@@ -1,0 +1,35 @@
+//! Writes the files that take most stack to a folder, for the measurement in C on other processors.
+//!
+//!     stack_files FOLDER
+//!
+//! The folder's files.tsv has a line for each file: how many levels its tree has at most, the file, what it is.
+
+#![deny(warnings)]
+
+use harness::deepest;
+use std::path::Path;
+use std::process::exit;
+use std::{env, fs, io};
+
+fn write(folder: &Path) -> io::Result<()> {
+    fs::create_dir_all(folder)?;
+    let mut rows = String::new();
+    for (number, file) in deepest::files().iter().enumerate() {
+        let name = format!("{number:03}.index");
+        fs::write(folder.join(&name), &file.case.bytes)?;
+        rows += &format!("{}\t{name}\t{}\n", file.levels, file.case.name);
+    }
+    fs::write(folder.join("files.tsv"), rows)
+}
+
+fn main() {
+    let arguments: Vec<String> = env::args().skip(1).collect();
+    if arguments.len() != 1 {
+        eprintln!("usage: stack_files FOLDER");
+        exit(2);
+    }
+    if let Err(error) = write(Path::new(&arguments[0])) {
+        eprintln!("stack_files: {}: {error}", arguments[0]);
+        exit(1);
+    }
+}

@@ -1,0 +1,77 @@
+"""Programs in C for two processors: built by build_c, run here or, for AArch64, under the emulator qemu-aarch64.
+
+Each program has the processor in its name, so that a test beside this one does not build the same file.
+"""
+
+import os
+import resource
+import struct
+import subprocess
+from typing import NamedTuple
+
+import build_c
+
+HERE = os.path.dirname(os.path.abspath(__file__))
+OURS, OTHER = PROCESSORS = ("x86_64", "aarch64")
+EMULATOR = "qemu-aarch64"
+SECONDS = 600  # for one run of a program
+
+
+class Done(NamedTuple):
+    status: int
+    out: bytes
+    err: bytes
+
+
+class StackFile(NamedTuple):
+    """A file that takes much stack, and how many levels its cache tree has at most."""
+
+    levels: int
+    name: str
+    data: bytes
+
+
+def source(name: str) -> list:
+    return [os.path.join(HERE, name)]
+
+
+def build(name: str, sources: list) -> dict:
+    """Builds a program for each processor. Answers the commands that run them."""
+    ours = build_c.build(f"{name}-{OURS}", sources)
+    other = build_c.build(name, sources, target=OTHER)
+    return {OURS: [ours], OTHER: [EMULATOR, other]}
+
+
+def no_core() -> None:
+    resource.setrlimit(resource.RLIMIT_CORE, (0, 0))
+
+
+def run(command: list, *arguments: str, data: bytes = b"", folder=None) -> Done:
+    """Runs a program on a standard input."""
+    done = subprocess.run(
+        [*command, *arguments],
+        input=data,
+        capture_output=True,
+        timeout=SECONDS,
+        check=False,
+        cwd=folder,
+        preexec_fn=no_core,
+    )
+    return Done(done.returncode, done.stdout, done.stderr)
+
+
+def stream(files) -> bytes:
+    """Files as answers.c and stack.c read them."""
+    return b"".join(struct.pack("<I", len(data)) + data for data in files)
+
+
+def stack_files(program: str, folder: str) -> list:
+    """The files that the harness's program stack_files writes."""
+    subprocess.run([program, folder], check=True)
+    with open(os.path.join(folder, "files.tsv"), encoding="utf-8") as rows:
+        fields = [line.rstrip("\n").split("\t") for line in rows]
+    files = []
+    for levels, path, name in fields:
+        with open(os.path.join(folder, path), "rb") as data:
+            files.append(StackFile(int(levels), name, data.read()))
+    return files
