@@ -2,14 +2,14 @@
  * Makes every call of the library on each file of a stream, and prints all that a call gave, so that two processors can
  * be compared. Standard input has for each file its number of bytes, in four bytes with the lowest first, and then the
  * bytes. Standard output has a line for each file, and a line for each call: what was called; the numbers of the reply
- * and of the fields; the object names; a hash of the workspace, and one of the output.
+ * and of the fields; the object names; a hash of the workspace, one of the output, and one of all the rest.
  *
  * Before a call all that it may write is filled with a mark, and so are the bytes before and after it. All of them are
  * printed or hashed afterwards. A number that is still the mark is printed as a full stop.
  *
- *   answers            prints the answers
- *   answers PART       prints them with one bit changed in the first PART that a call gave: reply, fields, object,
- * work, output or guard (a byte behind the output); for the test that a difference is noticed
+ *   answers         prints the answers
+ *   answers PART    prints them with one bit changed in the first PART that a call gave: reply, fields, object, work,
+ *                   output or guard (a byte behind the output); for the test that a difference is noticed
  */
 #include <stdio.h>
 #include <stdlib.h>
@@ -33,6 +33,7 @@ static uint8_t *out; /* GUARD, NERUPAZHIL_FILE and GUARD bytes, of which `room` 
 static size_t room;
 
 static struct {
+    uint8_t before[GUARD];
     union {
         uint64_t numbers[18];
         struct nerupazhil_check_reply check;
@@ -43,6 +44,7 @@ static struct {
         struct nerupazhil_step_reply step;
         struct nerupazhil_write_reply write;
     } reply;
+    uint8_t between[GUARD];
     union {
         uint32_t numbers[16];
         struct nerupazhil_fields fields;
@@ -186,6 +188,8 @@ static void tell(const char *call, uint64_t first, uint64_t second, int parts)
         put_text(" out");
         put_number(hash(out, room + 2 * GUARD));
     }
+    put_text(" all");
+    put_number(hash((const uint8_t *)&given, sizeof given));
     put_text("\n");
     if (text_length > sizeof text / 2)
         flush();
@@ -316,7 +320,7 @@ static void find_old(uint32_t entries)
     old_stage = given.fields.fields.stage;
 }
 
-/* One call of each, or the calls with a large file: the last entry, node and record. */
+/* One call of each: for the last entry, node and record. */
 static void each_call(struct nerupazhil_check_reply counts, uint32_t asked)
 {
     check();
@@ -455,10 +459,9 @@ static void other_settings(struct nerupazhil_check_reply counts)
     each_call(counts, 0);
 }
 
-/* Sets `room` so that it is enough for every call that is made, and prints the longest rewriting. */
+/* Sets `room` so that it is enough for every call that is made. */
 static void find_room(void)
 {
-    room = 0;
     nerupazhil_rewrite(GIVEN_FILE, out + GUARD, NERUPAZHIL_FILE, NERUPAZHIL_VERSION_3, &given.reply.write);
     room = (size_t)given.reply.write.length + NERUPAZHIL_NAME + 200;
     if (room > NERUPAZHIL_FILE)

@@ -42,21 +42,15 @@ def build(name: str, sources: list) -> dict:
     return {OURS: [ours], OTHER: [EMULATOR, other]}
 
 
-def no_core() -> None:
+def leave_no_core() -> None:
+    """No program that is run from here on leaves a file with its memory where a signal ends it."""
     resource.setrlimit(resource.RLIMIT_CORE, (0, 0))
 
 
 def run(command: list, *arguments: str, data: bytes = b"", folder=None) -> Done:
     """Runs a program on a standard input."""
-    done = subprocess.run(
-        [*command, *arguments],
-        input=data,
-        capture_output=True,
-        timeout=SECONDS,
-        check=False,
-        cwd=folder,
-        preexec_fn=no_core,
-    )
+    command = [*command, *arguments]
+    done = subprocess.run(command, input=data, capture_output=True, timeout=SECONDS, check=False, cwd=folder)
     return Done(done.returncode, done.stdout, done.stderr)
 
 

@@ -355,6 +355,7 @@ def main() -> int:
     parser.add_argument("program", help="the harness's stack_files")
     parser.add_argument("--only", choices=GROUPS, help="run one group of tests")
     options = parser.parse_args()
+    processors.leave_no_core()
     report = Report()
     program = Program(options.program)
     if not ready(report) or not program.usable(report):

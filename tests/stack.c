@@ -1,10 +1,11 @@
 /*
  * Makes the library's calls on each file of a stream, as answers.c reads it, with a stack of their own.
  *
- *   stack            prints how many bytes of stack each call takes: a line with the names of the calls, then a line
- * for each file. A call runs on a stack that was painted before, and what lost the paint is counted. stack KIB makes
- * all calls on a file in a thread that has so many KiB, its start included, and prints a line with their refusals.
- * Below the stack is memory that can't be used: a call that needs more ends the program with a signal.
+ *   stack        prints how many bytes of stack each call takes: a line with the names of the calls, then a line for
+ *                each file. A call runs on a stack that was painted before, and what lost the paint is counted.
+ *   stack KIB    makes all calls on a file in a thread that has so many KiB, its start included, and prints a line with
+ *                their refusals. Below the stack is memory that can't be used: a call that needs more ends the program
+ *                with a signal.
  */
 #define _GNU_SOURCE
 
