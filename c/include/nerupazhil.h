@@ -3,9 +3,9 @@
  * Link with libnerupazhil.a, which needs memcpy and memset and nothing else. c/examples has two programs.
  *
  * The boundary. Only integers and pointers to bytes and to numbers of one width cross it, and no struct goes by value:
- * these prototypes are right under every C calling convention with 64-bit pointers. A struct below is laid over an array
- * of numbers; its size and the place of each member are asserted. Bindings from Swift, Kotlin or Dart can lend plain
- * arrays: of uint64_t for a reply, of uint32_t for the fields of an entry, of uint8_t for bytes.
+ * these prototypes are right under every C calling convention with 64-bit pointers. A struct below is laid over an
+ * array of numbers; its size and the place of each member are asserted. Bindings from Swift, Kotlin or Dart can lend
+ * plain arrays: of uint64_t for a reply, of uint32_t for the fields of an entry, of uint8_t for bytes.
  *
  * Kind. Which function gives the object names of a repository: NERUPAZHIL_SHA1. Any other number is refused with 29.
  *
@@ -15,10 +15,10 @@
  *   out     where a call that writes puts the new index; NERUPAZHIL_FILE bytes are always enough
  *   name    the name of an entry, 1 to NERUPAZHIL_NAME bytes, no NUL at its end
  *
- * Replies. Each call but nerupazhil_sha1 writes all of its `reply`, whatever was there. `refusal` is 0 of a success; else
- * it is a number of enum nerupazhil_refusal and `place` says where: the first byte of the entry, extension or checksum
- * in the file, or 0. All members that do not apply are 0; on a refusal that is all but these two, `fields` and object
- * names included. A member that says yes or no is 1 or 0.
+ * Replies. Each call but nerupazhil_sha1 writes all of its `reply`, whatever was there. `refusal` is 0 of a success;
+ * else it is a number of enum nerupazhil_refusal and `place` says where: the first byte of the entry, extension or
+ * checksum in the file, or 0. All members that do not apply are 0; on a refusal that is all but these two, `fields` and
+ * object names included. A member that says yes or no is 1 or 0.
  *
  * Object names. NERUPAZHIL_OBJECT bytes are lent for each. A SHA-1 name is the first 20 of them, and the last 12 are
  * zero; in a record that is given to nerupazhil_put these 12 are not read.
@@ -41,12 +41,12 @@
  *   - no other thread changes a buffer during a call
  *   - a reply, fields and an object name are not NULL, aligned as their type, and as long as it says
  *   - there is enough stack: in tests, a thread with 64 KiB runs every call on the files that take most of those tried,
- *     and one with 32 KiB on those whose cache tree has at most 16 levels, the root included (Linux on x86-64; a
- *     thread's start takes 5 KiB of these)
+ *     and one with 32 KiB on those whose cache tree has at most 16 levels, the root included (Linux on x86-64, and on
+ *     AArch64 under an emulator; a thread's start takes 5 KiB of these on x86-64)
  *
- * What will be added, without a change of a prototype or a struct: another kind; the version 1 that may be asked for; a
- * wish for the EOIE extension, as a bit of the version that is asked for (today every number above 4 is refused with 4);
- * what check tells more, in the last numbers of its reply, which are 0 today.
+ * What can be added without a change of a prototype or a struct: another kind; another version that may be asked for,
+ * and a wish beside it as a bit of the same number (every number above 4 is refused with 4); what check tells more, in
+ * the last numbers of its reply, which are 0. So ask for the lowest version by its name, not by its number.
  */
 #ifndef NERUPAZHIL_H
 #define NERUPAZHIL_H
