@@ -428,7 +428,8 @@ def axioms(page: Page):
 
 def tests(page: Page):
     """Every test of the page: its name, whether it passed, and what is wrong."""
-    for group in (names, figures, files, quotes, commands, complete, calls, fields, replies, no_reader, refusals, axioms):
+    groups = (names, figures, files, quotes, commands, complete, calls, fields, replies, no_reader, refusals, axioms)
+    for group in groups:
         try:
             yield from group(page)
         except LookupError as error:

@@ -42,7 +42,7 @@
  *   - a reply, fields and an object name are not NULL, aligned as their type, and as long as it says
  *   - there is enough stack: in tests, a thread with 64 KiB runs every call on the files that take most of those tried,
  *     and one with 32 KiB on those whose cache tree has at most 16 levels, the root included (Linux on x86-64, and on
- *     AArch64 under an emulator; a thread's start takes 5 KiB of these on x86-64)
+ *     AArch64 under an emulator; a thread's start takes 4 to 6 KiB of these)
  *
  * What can be added without a change of a prototype or a struct: another kind; another version that may be asked for,
  * and a wish beside it as a bit of the same number (every number above 4 is refused with 4); what check tells more, in
