@@ -12,12 +12,14 @@ ghost use Rattle.index.specs.Calls.{EntryShows, NodeShows, UndoShows};
 ghost use Rattle.index_write.specs.Calls.{Saves};
 ghost use Rattle.walk.specs.Walks.{startAnswer, placeAfter, StepShows};
 ghost use Rattle.nerupazhil.specs.Kinds.{ofKind, unknownNumber, stepAnswer};
+ghost use Rattle.nerupazhil.specs.Replies.{nextNumbers};
 use answers::Checked;
 use answers::EntryAnswer;
 use answers::NodeAnswer;
 use answers::UndoAnswer;
 use answers::Written;
 use entries::record::Fields;
+use walk::Place;
 use walk::Started;
 use walk::Step;
 
@@ -122,14 +124,14 @@ pub fn walk_start(kind: u32, file: &[u8], work: &mut [u8]) -> Started
     walk::start(file, work)
 }
 
-// A step takes no workspace.
+// A step takes no workspace. Where it is refused, the place after it is not told.
 pub fn walk_next(kind: u32, file: &[u8], at: usize, left: u32) -> Step
-    ensures { λ r. ⌜ StepShows (namePlace 20 at (bodyIn 20 (now (file .entry)))) (stepAnswer kind (now (file .entry)) at left) (now (file .entry)) (r .answer) × (r .next ≡ placeAfter 20 (now (file .entry)) at left) ⌝ }
+    ensures { λ r. ⌜ StepShows (namePlace 20 at (bodyIn 20 (now (file .entry)))) (stepAnswer kind (now (file .entry)) at left) (now (file .entry)) (r .answer) × (nextNumbers (r .answer .shown) (r .next) ≡ nextNumbers (r .answer .shown) (placeAfter 20 (now (file .entry)) at left)) ⌝ }
 {
     if kind != SHA1 {
         return Step {
             answer: answers::refused_entry(29, 0),
-            next: walk::place_after(file, at, left),
+            next: Place { at: at, left: left },
         };
     }
     walk::step_at(file, at, left)

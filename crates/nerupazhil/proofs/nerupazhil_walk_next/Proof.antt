@@ -1,4 +1,7 @@
 -- The proof that `nerupazhil_walk_next` meets its contract.
+use mathlib.Core.Path.{ap, _∙_}
+use mathlib.Core.List.{_++_}
+use Rattle.nerupazhil.specs.Replies.{shownReply}
 use Rattle.nerupazhil.proofs.Laws.{step-replies}
 use borrow.Author.Needs.{needs}
 use Rattle.nerupazhil.proofs.nerupazhil_walk_next.Statement.{statement}
@@ -18,8 +21,8 @@ wide-object-requires c κs = search needs
 
 returns : tie.Need-returns
 returns c =
-    let q = c .before .before .before .before .before .before .before .walk-next .ensures in
-    step-replies _ _ _ _ _ _ (c .before .field-numbers .ensures) (record { whole = c .wide-object .ensures .0; width = c .wide-object .ensures .1 }) _ _ (q .0) (rw (← q .1) (c .before .before .step-reply .ensures))
+    let w = c .before .before .before .before .before .before .before .walk-next in
+    step-replies _ _ _ _ _ _ (c .before .field-numbers .ensures) (record { whole = c .wide-object .ensures .0; width = c .wide-object .ensures .1 }) _ _ (w .ensures .0) (c .before .before .step-reply .ensures ∙ ap (λ n. shownReply (w .result .answer .shown) ++ n) (w .ensures .1))
 
 pub nerupazhil-walk-next-spec : {M : Type 1} → statement M
 nerupazhil-walk-next-spec =
