@@ -1,11 +1,11 @@
 -- Laws of the kinds: of one that is known the file is read; any other refuses whatever is asked.
-use mathlib.Core.Path.{_≡_, refl, sym, ap, _∙_}
+use mathlib.Core.Path.{_≡_, refl, sym, ap}
 use mathlib.Core.List.{List}
 use mathlib.Core.Bool.{Bool, true, false, cond}
 use Prim.Native.Nat.{ℕ}
 use borrow.Author.Tests.{ne-eqb}
 use Rattle.format.specs.Records as F
-use Rattle.format.specs.Reading.{Read, bad, good, need}
+use Rattle.format.specs.Reading.{Read, bad, need}
 use Rattle.format.specs.Reader.{Contents}
 use Rattle.format_laws.proofs.Readings.{bad-good}
 use Rattle.answers.specs.declared.Checked.the-variants as K

@@ -7,8 +7,6 @@ use native.Mathlib.Omega.{arith}
 use lib.ListN.{length, take, drop, getD, replicate}
 use Rattle.format.specs.Records as F
 use Rattle.format.specs.Reading.{Read}
-use Rattle.entries.specs.declared.record.Fields.{Fields}
-use Rattle.entries.specs.Record.{entryWith}
 use Rattle.answers.specs.declared.Shown.{Shown}
 use Rattle.answers.specs.declared.Shown.the-variants as S
 use Rattle.answers.specs.declared.EntryAnswer.{EntryAnswer}

@@ -1,5 +1,5 @@
 -- What a program reads from a reply: a refusal's number and place, or the item that its numbers, its object names and the bytes of its name make.
-use mathlib.Core.Path.{_≡_, refl, sym, ap, _∙_}
+use mathlib.Core.Path.{_≡_, refl, ap, _∙_}
 use mathlib.Core.List.{List, [], _∷_, _++_}
 use mathlib.Core.Bool.{Bool, true, false, not}
 use Prim.Native.Nat.{ℕ}
@@ -15,7 +15,7 @@ use Rattle.answers.specs.declared.Shown.{Shown}
 use Rattle.answers.specs.declared.Shown.the-variants as S
 use Rattle.answers.specs.Answers.{View, refused, inFile, inWorkspace, partIn, nameIn, viewOf, entrySaid, countWith, nodeSaid, stageWith, undoSaid, entryShown, nodeShown, undoShown}
 use Rattle.walk.specs.declared.Place.{Place}
-use Rattle.nerupazhil.specs.Replies.{shownReply, wideObject, fieldNumbers, nodeReply, undoReply, nextNumbers, stepReply, refusalIn, placeIn, bufferIn, bytesIn, objectIn, givenFields, Told, EntryReplies, NodeReplies, UndoReplies, StepReplies}
+use Rattle.nerupazhil.specs.Replies.{shownReply, fieldNumbers, nextNumbers, refusalIn, placeIn, bufferIn, bytesIn, objectIn, givenFields, Told, EntryReplies, NodeReplies, UndoReplies, StepReplies}
 use Rattle.nerupazhil.proofs.Laws.{shown-alone}
 
 -- ---- parts of a reply
@@ -145,7 +145,3 @@ undo-tells at v f reply first second third h work =
     let (p, q, r) = h .objects in
     rw (h .whole, x, y, z, object-back (a .first) first p, object-back (a .second) second q, object-back (a .third) third r)
     (shown-tells _ (λ path. record { path = path; first = stageWith (a .«first_mode») (a .first); second = stageWith (a .«second_mode») (a .second); third = stageWith (a .«third_mode») (a .third) }) (a .shown) f work v (h .said work))
-
--- the name alone, and the fields with the name of the entry that is told
-pub entry-parts : (x : Fields) (name : List ℕ) (e : F.Entry) → entryWith x name ≡ e → (name ≡ e .name) × (entryWith x (e .name) ≡ e)
-entry-parts x name e q = let n : name ≡ e .name = ap (λ (y : F.Entry). y .name) q in (n, ap (entryWith x) (sym n) ∙ q)

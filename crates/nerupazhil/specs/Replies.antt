@@ -28,7 +28,7 @@ use Rattle.walk.specs.declared.Started.{Started}
 use Rattle.walk.specs.declared.Started.the-variants as T
 use Rattle.walk.specs.declared.Place.{Place}
 
--- ---- check: 16 numbers, of which 7 are for what later calls may tell
+-- ---- check: 16 numbers, of which 7 are for what check may tell later
 
 abbrev pub isPresent : Count → ℕ
 isPresent Absent = 0

@@ -1,5 +1,5 @@
 -- The proof that `unknown` meets its contract.
-use mathlib.Core.Path.{_≡_, refl, sym, _∙_}
+use mathlib.Core.Path.{refl, sym, _∙_}
 use Rattle.answers.proofs.Laws.{small, large, cleared-small, cleared-large}
 use Rattle.nerupazhil.specs.Kinds.{unknownNumber}
 use borrow.Author.Needs.{needs}
