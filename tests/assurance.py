@@ -47,6 +47,8 @@ MADE = ("target/", ".ci/log/")  # by a run
 SHELLS = ("rt", "bash", "python3")
 CALLS = ("index", "index_write", "walk", "nerupazhil")
 RULE_OF_FILES = ("crates/format/specs/Layout.antt", "Spells")
+HASHES = "crates/hash*/src/*.rt"
+WORDS = 16  # of a block, held at a time
 READERS = ("crates/format/specs/Reading.antt", "crates/format/specs/Reader.antt")
 
 REFERENCE = re.compile(r"(?<!^#### )\[(?P<name>[^\]]+)\]\(\.\./(?P<path>[^)#]+\.(?:antt|rt))\)", re.M)
@@ -55,6 +57,7 @@ LINK = re.compile(r"\]\((?P<path>[^)#]+)(?P<anchor>#[^)]*)?\)")
 SECTION = re.compile(r"\]\((?P<path>[^)#]+\.md)#(?P<anchor>[^)]+)\)(?P<quotes>(?:;? \"[^\"]+\")*)")
 BLOCK = re.compile(r"^```sh\n(.*?)^```$", re.M | re.S)
 FILE = re.compile(r"^#### \[[^\]]+\]\(\.\./(?P<path>[^)]+)\)$", re.M)
+ARRAY = re.compile(r"\[\w*u32; (\d+)\]")
 AXIOMS = re.compile(r"`axioms=\d+` on the line of `(?P<crate>\w+)`")
 
 
@@ -217,12 +220,22 @@ def right_slowest(page: Page, match: re.Match) -> str:
     return f"took some {5 * round(max(seconds) / 5)} seconds"
 
 
+def right_words(page: Page, match: re.Match) -> str:
+    """The arrays of words in the sources of the hashes, as types or with their first value. Too long a one has no figure."""
+    lines = (line for path in glob.glob(HASHES, root_dir=ROOT) for line in definitions.lines_of(path))
+    longest = max((int(size) for line in lines for size in ARRAY.findall(line)), default=0)
+    if not 0 < longest <= WORDS:
+        raise LookupError(f"the sources have an array of {longest} words")
+    return f"the longest array of words has {longest}"
+
+
 RULES = (
     (re.compile(r"In all: \d+ definitions?, \d+ lines?\."), right_whole),
     (re.compile(rf"(?P<link>{REFERENCE.pattern}) rests on \d+ definitions?, \d+ lines?"), right_closure),
     (re.compile(r"\d+ must-fail edits"), right_edits),
     (re.compile(r"\d+ functions proved in all"), right_functions),
     (re.compile(r"took some \d+ seconds"), right_slowest),
+    (re.compile(r"the longest array of words has \d+"), right_words),
     (AXIOMS, right_axioms),
 )
 

@@ -22,6 +22,7 @@ WRONG_FIGURES = (
     ("a wrong number of lines of a statement", r"(rests on \d+ definitions, )(\d+)", r"\g<1>1\2"),
     ("a wrong number of edits", r"(\d+) must-fail edits", r"1\1 must-fail edits"),
     ("a wrong number of seconds", r"took some (\d+) seconds", r"took some 1\1 seconds"),
+    ("a wrong number of words", r"array of words has (\d+)", r"array of words has 1\1"),
 )
 
 # Names of statements: what, old, new, said.
@@ -81,14 +82,16 @@ WRONG_PAGES = (
     ("no list of definitions", r"## The definitions", "## Definitions"),
 )
 
-# Edits of one source: what, old, new, said. Where nothing is said, the page is still right.
-SOURCE = assurance.RULE_OF_FILES[0]
+# Edits of one source: where, what, old, new, said. Where nothing is said, the page is still right.
+LAYOUT, HASH = assurance.RULE_OF_FILES[0], "crates/hash/src/lib.rt"
 WRONG_SOURCES = (
-    ("lines that moved", r"\A", "-- one\n-- two\n", None),
-    ("a definition that is gone", r"(?m)^(.*\b)okMode( : .*)$", r"\1goodMode\2", "declares okMode 0 times"),
-    ("a definition that is declared twice", r"(?m)^(.*\bokMode : .*)$", r"\1\n\1", "declares okMode 2 times"),
-    ("a new definition that a statement rests on", r"(?m)^(okMode .*)$", r"\1 newMode\nnewMode : Bool",
+    (LAYOUT, "lines that moved", r"\A", "-- one\n-- two\n", None),
+    (LAYOUT, "a definition that is gone", r"(?m)^(.*\b)okMode( : .*)$", r"\1goodMode\2", "declares okMode 0 times"),
+    (LAYOUT, "a definition that is declared twice", r"(?m)^(.*\bokMode : .*)$", r"\1\n\1", "declares okMode 2 times"),
+    (LAYOUT, "a new definition that a statement rests on", r"(?m)^(okMode .*)$", r"\1 newMode\nnewMode : Bool",
      "a statement rests on it"),
+    (HASH, "an array of words that is too long", r"let mut w = load", "let v = [0u32; 80];\n    let mut w = load",
+     "an array of 80 words"),
 )
 
 # What the log of a crate says in place of what is right.
@@ -150,11 +153,11 @@ def edited(path: str, text: str):
 
 
 def sources(report: Report) -> None:
-    page, source = load(), "\n".join(definitions.lines_of(SOURCE))
+    page = load()
     known = failures(assurance.Page(page))
-    for what, old, new, said in WRONG_SOURCES:
-        text, edits = re.subn(old, new, source)
-        with edited(SOURCE, text):
+    for path, what, old, new, said in WRONG_SOURCES:
+        text, edits = re.subn(old, new, "\n".join(definitions.lines_of(path)))
+        with edited(path, text):
             noticed = failures(assurance.Page(page)).items() - known.items()
         good = any(said in detail for _, detail in noticed) if said else not noticed
         report.test(f"source: {what}", edits == 1 and good, f"{edits} edits", noticed)

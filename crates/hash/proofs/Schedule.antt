@@ -2,7 +2,7 @@
 use mathlib.Core.List.{List, []}
 use mathlib.Core.Path.{_≡_, refl, ap, sym, subst, _∙_}
 use Prim.Native.Nat.{ℕ, zero, suc, _+_, _-_, _%_, _≤_, _<_, max}
-use native.Mathlib.Decide.{le-ind, ℕ-discrete}
+use native.Mathlib.Decide.{le-ind, decLt, ℕ-discrete}
 use native.Mathlib.Nat.{add-assoc}
 use native.Mathlib.Numerals.{add-one}
 use native.Mathlib.Omega.{arith}
@@ -56,12 +56,15 @@ module _ (m : List ℕ) (sized : length m ≡ 16) where
 
 -- ---- the window
 -- the block itself is the first window
-pub loaded : (p : List ℕ) (i : ℕ) → Holds (words p i 16) 0 (words p i 16)
-loaded p i = record {
-  sized = length-words p i 16;
-  long = length-words p i 16;
-  window = λ k a b. let q : k % 16 ≡ k = omega arith in rw q (sym (first-words (words p i 16) (length-words p i 16) k (omega arith)));
+first-window : (m : List ℕ) → length m ≡ 16 → Holds m 0 m
+first-window m l = record {
+  sized = l;
+  long = l;
+  window = λ k a b. let q : k % 16 ≡ k = omega arith in rw q (sym (first-words m l k (omega arith)));
 }
+
+pub loaded : (p : List ℕ) (i : ℕ) → Holds (words p i 16) 0 (words p i 16)
+loaded p i = first-window (words p i 16) (length-words p i 16)
 
 -- the next word, from the window
 abbrev pub nextIn : List ℕ → ℕ → ℕ
@@ -101,6 +104,16 @@ module _ (m : List ℕ) (t : ℕ) (w : List ℕ) (hi : t < 80) (h : Holds m t w)
           ];
         },
       )
+
+-- every block has such a window before every round
+pub window-before : (m : List ℕ) → length m ≡ 16 → (t : ℕ) → t ≤ 80 → (w : List ℕ) × Holds m t w
+window-before m l zero h = (m, first-window m l)
+window-before m l (suc t) h =
+    let before = window-before m l t (omega arith) in
+    subst (λ (n : ℕ). (w : List ℕ) × Holds m n w) (add-one t) (elim (decLt t 16) [
+      | yes lo ↦ (before .0, word-held m t (before .0) (omega arith) (before .1) lo .1)
+      | no n ↦ (_, word-made m t (before .0) (omega arith) (before .1) (omega arith) _ refl .1)
+    ])
 
 -- ---- rounds
 -- one more, with the word of the schedule

@@ -1,4 +1,4 @@
--- The schedule in sixteen words: word k of the schedule is at k % 16, until word k + 16 takes its place.
+-- The schedule in sixteen words (6.1.3): word k of the schedule is at k % 16, until word k + 16 takes its place.
 use mathlib.Core.List.{List}
 use mathlib.Core.Path.{_≡_}
 use Prim.Native.Nat.{ℕ, _+_, _%_, _≤_, _<_, max}

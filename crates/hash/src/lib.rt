@@ -62,7 +62,7 @@ fn constant(t: usize) -> u32
     0xca62c1d6
 }
 
-// The word of round t (6.1.2, step 1): from round 16 on it takes the place of the oldest in the window.
+// The word of round t (6.1.2, step 1), with room for sixteen (6.1.3): from round 16 on it takes the place of the oldest in the window.
 fn word_of(w: &mut [u32; 16], t: usize) -> u32
     requires { ⌜ t < 80 ⌝ }
     ensures { λ r. ⌜ ((m : List ℕ) → Holds m t (now (w .entry)) → (r ≡ getD (F.schedule m) t 0) × Holds m (t + 1) (now (w .exit))) ⌝ }
