@@ -1,8 +1,7 @@
 /*
  * Makes every call of the library on each file of a stream, and prints all that a call gave, so that two processors can
- * be compared. Standard input has for each file its number of bytes, in four bytes with the lowest first, and then the
- * bytes. Standard output has a line for each file, and a line for each call: what was called; the numbers of the reply
- * and of the fields; the object names; a hash of the workspace, one of the output, and one of all the rest.
+ * be compared. Standard output has a line for each file, and a line for each call: what was called; the numbers of the
+ * reply and of the fields; the object names; a hash of the workspace, one of the output, and one of all the rest.
  *
  * Before a call all that it may write is filled with a mark, and so are the bytes before and after it. All of them are
  * printed or hashed afterwards. A number that is still the mark is printed as a full stop.
@@ -16,6 +15,8 @@
 #include <string.h>
 
 #include "nerupazhil.h"
+#include "reply.h"
+#include "stream.h"
 
 #define MARK 0xa5
 #define GUARD 64    /* bytes before and after what is lent */
@@ -26,24 +27,13 @@
 
 /* ---- what is lent */
 
-static uint8_t *file;
-static size_t file_length;
 static uint8_t work[GUARD + NERUPAZHIL_WORKSPACE + SPARE + GUARD];
 static uint8_t *out; /* GUARD, NERUPAZHIL_FILE and GUARD bytes, of which `room` and the guards are used */
 static size_t room;
 
 static struct {
     uint8_t before[GUARD];
-    union {
-        uint64_t numbers[18];
-        struct nerupazhil_check_reply check;
-        struct nerupazhil_entry_reply entry;
-        struct nerupazhil_node_reply node;
-        struct nerupazhil_undo_reply undo;
-        struct nerupazhil_start_reply start;
-        struct nerupazhil_step_reply step;
-        struct nerupazhil_write_reply write;
-    } reply;
+    union reply reply;
     uint8_t between[GUARD];
     union {
         uint32_t numbers[16];
@@ -500,25 +490,6 @@ static void all_calls(uint64_t number)
     put_text("unchanged");
     put_number(hash(file, file_length));
     put_text("\n");
-}
-
-/* ---- the stream */
-
-/* Reads the next file. 0 says that there is none. */
-static int next_file(void)
-{
-    uint8_t head[4];
-
-    if (fread(head, 1, sizeof head, stdin) != sizeof head)
-        return 0;
-    file_length = head[0] | (size_t)head[1] << 8 | (size_t)head[2] << 16 | (size_t)head[3] << 24;
-    free(file);
-    file = (uint8_t *)malloc(file_length + 1);
-    if (file == NULL || fread(file, 1, file_length, stdin) != file_length) {
-        fputs("answers: a file of the stream is cut\n", stderr);
-        exit(1);
-    }
-    return 1;
 }
 
 int main(int count, char **arguments)

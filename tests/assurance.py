@@ -47,8 +47,7 @@ MADE = ("target/", ".ci/log/")  # by a run
 SHELLS = ("rt", "bash", "python3")
 CALLS = ("index", "index_write", "walk", "nerupazhil")
 RULE_OF_FILES = ("crates/format/specs/Layout.antt", "Spells")
-HASHES = "crates/hash*/src/*.rt"
-WORDS = 16  # of a block, held at a time
+WORDS = ("hash_words", 16)  # the crate that loads a block's message words, and how many may be held at a time
 READERS = ("crates/format/specs/Reading.antt", "crates/format/specs/Reader.antt")
 
 REFERENCE = re.compile(r"(?<!^#### )\[(?P<name>[^\]]+)\]\(\.\./(?P<path>[^)#]+\.(?:antt|rt))\)", re.M)
@@ -57,7 +56,7 @@ LINK = re.compile(r"\]\((?P<path>[^)#]+)(?P<anchor>#[^)]*)?\)")
 SECTION = re.compile(r"\]\((?P<path>[^)#]+\.md)#(?P<anchor>[^)]+)\)(?P<quotes>(?:;? \"[^\"]+\")*)")
 BLOCK = re.compile(r"^```sh\n(.*?)^```$", re.M | re.S)
 FILE = re.compile(r"^#### \[[^\]]+\]\(\.\./(?P<path>[^)]+)\)$", re.M)
-ARRAY = re.compile(r"\[\w*u32; (\d+)\]")
+ARRAY = re.compile(r"\[(?!\w*u8;)[^\[\];]+; (\w+)\]")  # its type, or its first value; none of bytes
 AXIOMS = re.compile(r"`axioms=\d+` on the line of `(?P<crate>\w+)`")
 
 
@@ -133,6 +132,12 @@ def is_declared(one: tuple) -> bool:
 
 def crates() -> set:
     return {line.partition(":")[0] for line in lines_of("crates.txt") if re.match(r"^\w+:", line)}
+
+
+def over(crate: str) -> set:
+    """The crate and those that depend on it."""
+    rows = (line.partition(":") for line in lines_of("crates.txt") if re.match(r"^\w+:", line))
+    return {name for name, _, below in rows if crate in (name, *below.split())}
 
 
 def verdicts(folder: str) -> dict:
@@ -221,12 +226,16 @@ def right_slowest(page: Page, match: re.Match) -> str:
 
 
 def right_words(page: Page, match: re.Match) -> str:
-    """The arrays of words in the sources of the hashes, as types or with their first value. Too long a one has no figure."""
-    lines = (line for path in glob.glob(HASHES, root_dir=ROOT) for line in definitions.lines_of(path))
-    longest = max((int(size) for line in lines for size in ARRAY.findall(line)), default=0)
-    if not 0 < longest <= WORDS:
-        raise LookupError(f"the sources have an array of {longest} words")
-    return f"the longest array of words has {longest}"
+    """Of all crates that can hold message words. An array that is too long, or whose length is no numeral, has no figure."""
+    loads, most = WORDS
+    sizes = []
+    for crate in over(loads):
+        for path in glob.glob(f"crates/{crate}/src/**/*.rt", root_dir=ROOT, recursive=True):
+            sizes += ARRAY.findall("\n".join(definitions.lines_of(path)))
+    for size in sizes:
+        if not size.isdecimal() or int(size) > most:
+            raise LookupError(f"a hash has an array of {size} words")
+    return f"the longest array of words has {max(map(int, sizes), default=0)}"
 
 
 RULES = (

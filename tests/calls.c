@@ -7,6 +7,7 @@
 #include <string.h>
 
 #include "nerupazhil.h"
+#include "reply.h"
 
 #define MARK 0xa5
 #define SPARE 64 /* bytes around what a call may write */
@@ -186,17 +187,6 @@ static void lay_files(void)
 }
 
 /* ---- what a call may write to, as it is after the call and as it should be */
-
-union reply {
-    uint64_t numbers[20];
-    struct nerupazhil_check_reply check;
-    struct nerupazhil_entry_reply entry;
-    struct nerupazhil_node_reply node;
-    struct nerupazhil_undo_reply undo;
-    struct nerupazhil_start_reply start;
-    struct nerupazhil_step_reply step;
-    struct nerupazhil_write_reply write;
-};
 
 static struct memory {
     uint8_t before[SPARE];

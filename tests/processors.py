@@ -55,7 +55,7 @@ def run(command: list, *arguments: str, data: bytes = b"", folder=None) -> Done:
 
 
 def stream(files) -> bytes:
-    """Files as answers.c and stack.c read them."""
+    """Files as answers.c and stack.c read them (stream.h)."""
     return b"".join(struct.pack("<I", len(data)) + data for data in files)
 
 

@@ -1,5 +1,5 @@
 /*
- * Makes the library's calls on each file of a stream, as answers.c reads it, with a stack of their own.
+ * Makes the library's calls on each file of a stream, with a stack of their own.
  *
  *   stack        prints how many bytes of stack each call takes: a line with the names of the calls, then a line for
  *                each file. A call runs on a stack that was painted before, and what lost the paint is counted.
@@ -17,6 +17,8 @@
 #include <ucontext.h>
 
 #include "nerupazhil.h"
+#include "reply.h"
+#include "stream.h"
 
 #define ROOM (256u << 10) /* bytes of stack: far more than any call takes */
 #define COUNT(array) (sizeof(array) / sizeof(array)[0])
@@ -29,8 +31,6 @@ static void stop(const char *words)
 
 /* ---- what the calls are asked */
 
-static uint8_t *file;
-static size_t file_length;
 static uint8_t work[NERUPAZHIL_WORKSPACE];
 static uint8_t *out;
 static struct nerupazhil_check_reply counts;
@@ -38,16 +38,7 @@ static uint8_t old_name[NERUPAZHIL_NAME]; /* the last entry, or a file in the de
 static uint8_t new_name[NERUPAZHIL_NAME]; /* one beside it */
 static size_t name_length;
 
-static union {
-    struct nerupazhil_check_reply check;
-    struct nerupazhil_entry_reply entry;
-    struct nerupazhil_node_reply node;
-    struct nerupazhil_undo_reply undo;
-    struct nerupazhil_start_reply start;
-    struct nerupazhil_step_reply step;
-    struct nerupazhil_write_reply write;
-    uint64_t refusal;
-} reply;
+static union reply reply;
 static struct nerupazhil_fields fields;
 static uint8_t object[3][NERUPAZHIL_OBJECT];
 
@@ -136,7 +127,7 @@ static void remove_in_4(void)
 static void sha1(void)
 {
     nerupazhil_sha1(file, file_length, object[0]);
-    reply.refusal = 0;
+    reply.numbers[0] = 0;
 }
 
 static const struct call {
@@ -188,18 +179,11 @@ static void choose_names(void)
     new_name[name_length - 1] = '~';
 }
 
-/* Reads the next file. 0 says that there is none. */
-static int next_file(void)
+/* Reads the next file, and chooses what the calls are asked. 0 says that there is none. */
+static int next_request(void)
 {
-    uint8_t head[4];
-
-    if (fread(head, 1, sizeof head, stdin) != sizeof head)
+    if (!next_file())
         return 0;
-    file_length = head[0] | (size_t)head[1] << 8 | (size_t)head[2] << 16 | (size_t)head[3] << 24;
-    free(file);
-    file = (uint8_t *)malloc(file_length + 1);
-    if (file == NULL || fread(file, 1, file_length, stdin) != file_length)
-        stop("a file of the stream is cut");
     nerupazhil_check(GIVEN_FILE, &counts);
     if (counts.refusal != 0)
         stop("a file is refused");
@@ -248,7 +232,7 @@ static void measure(void)
 {
     for (size_t k = 0; k < COUNT(calls); k++)
         printf("%s%c", calls[k].name, k + 1 < COUNT(calls) ? ' ' : '\n');
-    for (int first = 1; next_file(); first = 0) {
+    for (int first = 1; next_request(); first = 0) {
         /* At its first use a function of the C library may be looked for, which takes stack of the caller. */
         for (size_t k = 0; first && k < COUNT(calls); k++)
             calls[k].make();
@@ -264,7 +248,7 @@ static void *all_calls(void *refusals)
 {
     for (size_t k = 0; k < COUNT(calls); k++) {
         calls[k].make();
-        ((uint64_t *)refusals)[k] = reply.refusal;
+        ((uint64_t *)refusals)[k] = reply.numbers[0];
     }
     return NULL;
 }
@@ -281,7 +265,7 @@ static void in_threads(size_t bytes)
     pthread_attr_init(&attributes);
     if (pthread_attr_setstack(&attributes, stack, ROOM) != 0)
         stop("no thread with a stack of its own");
-    while (next_file()) {
+    while (next_request()) {
         if (pthread_create(&thread, &attributes, all_calls, refusals) != 0 || pthread_join(thread, NULL) != 0)
             stop("no thread");
         for (size_t k = 0; k < COUNT(calls); k++)

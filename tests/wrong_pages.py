@@ -92,6 +92,8 @@ WRONG_SOURCES = (
      "a statement rests on it"),
     (HASH, "an array of words that is too long", r"let mut w = load", "let v = [0u32; 80];\n    let mut w = load",
      "an array of 80 words"),
+    (HASH, "an array of words of a length with a name", r"let mut w = load", "let v = [0; ROOM];\n    let mut w = load",
+     "an array of ROOM words"),
 )
 
 # What the log of a crate says in place of what is right.
