@@ -1,4 +1,4 @@
--- What is before the name of an entry, and how answers of code belong to answers of readers.
+-- What is before the name of an entry, and how answers of code belong to answers of readers. w is the width of an object name.
 use mathlib.Core.List.{List}
 use mathlib.Core.Bool.{true, false, cond, not, _&&_}
 use mathlib.Core.Path.{_≡_}
@@ -39,16 +39,16 @@ headLength (F.Bad n) = 0
 headLength (F.Good h) = h .length
 
 -- how long it is, at the start of the bytes s, whose flags it has
-pub record Size (s : List ℕ) (h : Head) : Type 0 where
-  pub flags : h .flags ≡ be16 s 60
-  pub is : h .length ≡ fixedLength 20 (isSet 16384 (h .flags))
-  pub least : 62 ≤ h .length
-  pub most : h .length ≤ 64
+pub record Size (w : ℕ) (s : List ℕ) (h : Head) : Type 0 where
+  pub flags : h .flags ≡ be16 s (40 + w)
+  pub is : h .length ≡ fixedLength w (isSet 16384 (h .flags))
+  pub least : 40 + w + 2 ≤ h .length
+  pub most : h .length ≤ 40 + w + 4
 
 -- at a place of the body b, where readHead reads it, the same without its tests
-pub record HeadPassed (b : List ℕ) (at : ℕ) (r : Fixed) : Type 0 where
-  pub same : (v p : ℕ) (h : Head) → fixedOf (readHead 20 v p (drop at b)) ≡ F.Good h → r ≡ F.Good h
-  pub sized : (h : Head) → r ≡ F.Good h → Size (drop at b) h
+pub record HeadPassed (w : ℕ) (b : List ℕ) (at : ℕ) (r : Fixed) : Type 0 where
+  pub same : (v p : ℕ) (h : Head) → fixedOf (readHead w v p (drop at b)) ≡ F.Good h → r ≡ F.Good h
+  pub sized : (h : Head) → r ≡ F.Good h → Size w (drop at b) h
   pub there : at + headLength r ≤ length b
 
 -- a name by its length, with the bytes taken

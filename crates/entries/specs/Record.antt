@@ -1,17 +1,24 @@
--- The fields of an entry as the code has them, and the entry that they make with a name.
-use mathlib.Core.List.{List, [], _∷_}
+-- The fields of an entry as the code has them, and the entry that they make with a name. w is the width of an object name, at most 32.
+use mathlib.Core.Path.{_≡_}
+use mathlib.Core.List.{List, [], _∷_, _++_}
 use mathlib.Core.Bool.{false}
 use Prim.Native.Nat.{ℕ, _-_}
-use lib.ListN.{getD, replicate}
+use lib.ListN.{length, take, getD, replicate}
 use Rattle.entries.specs.declared.record.Fields.{Fields}
 use Rattle.format.specs.Records as F
+use Rattle.format.specs.Reader.{entryOf}
 
-abbrev pub entryWith : Fields → List ℕ → F.Entry
-entryWith x name = record {
+-- an object name in 32 bytes, zeros after it
+abbrev pub wideObject : List ℕ → List ℕ
+wideObject o = o ++ replicate (32 - length o) 0
+
+-- of the 32 bytes only the first w are read
+abbrev pub entryWith : ℕ → Fields → List ℕ → F.Entry
+entryWith w x name = record {
   numbers =
       x .«ctime_seconds» ∷ x .«ctime_nanoseconds» ∷ x .«mtime_seconds» ∷ x .«mtime_nanoseconds» ∷ x .dev ∷ x .ino ∷ x .mode ∷ x .uid ∷ x .gid ∷ x .size
       ∷ [];
-  object = x .object;
+  object = take w (x .object);
   assumeValid = x .«assume_valid»;
   stage = x .stage;
   skipWorktree = x .«skip_worktree»;
@@ -31,7 +38,7 @@ noFields = record {
   uid = 0;
   gid = 0;
   size = 0;
-  object = replicate 20 0;
+  object = replicate 32 0;
   «assume_valid» = false;
   stage = 0;
   «skip_worktree» = false;
@@ -51,9 +58,14 @@ fieldsOf e = record {
   uid = getD (e .numbers) 7 0;
   gid = getD (e .numbers) 8 0;
   size = getD (e .numbers) 9 0;
-  object = e .object;
+  object = wideObject (e .object);
   «assume_valid» = e .assumeValid;
   stage = e .stage;
   «skip_worktree» = e .skipWorktree;
   «intent_to_add» = e .intentToAdd;
 }
+
+-- the fields of an entry whose bytes are s, whose flags are x and whose extended word is y: they make that entry, and they are all that it has
+pub record FieldsRead (w : ℕ) (s : List ℕ) (x y : ℕ) (f : Fields) : Type 0 where
+  pub entry : (name : List ℕ) → entryWith w f name ≡ entryOf w s x y name
+  pub whole : (name : List ℕ) → f ≡ fieldsOf (entryOf w s x y name)

@@ -60,28 +60,29 @@ pub fn word_ok(x: u32) -> bool
     false
 }
 
-// What is before the name of the entry of version v at a place.
-pub fn read_fixed(b: &[u8], at: usize, v: u32) -> Fixed
-    requires { ⌜ at ≤ length (now b) ⌝ }
-    ensures { λ r. ⌜ ((p : ℕ) → r ≡ fixedOf (readHead 20 v p (drop at (now (b .entry))))) × (at + headLength r ≤ length (now (b .entry))) ⌝ }
+// What is before the name of the entry of version v at a place; w is the width of an object name.
+pub fn read_fixed(b: &[u8], at: usize, v: u32, w: usize) -> Fixed
+    requires { ⌜ (at ≤ length (now b)) × (w ≤ 32) ⌝ }
+    ensures { λ r. ⌜ ((p : ℕ) → r ≡ fixedOf (readHead w v p (drop at (now (b .entry))))) × (at + headLength r ≤ length (now (b .entry))) ⌝ }
 {
-    if b.len() - at < 62 {
+    let f = 40 + w;
+    if b.len() - at < f + 2 {
         return Fixed::Bad(6);
     }
     let m = fields::read32(b, at + 24);
     if mode_ok(m) {
-        let x = fields::read16(b, at + 60);
+        let x = fields::read16(b, at + f);
         if x / 16384 % 2 == 1 {
             if v == 2 {
                 return Fixed::Bad(8);
             }
-            if b.len() - at < 64 {
+            if b.len() - at < f + 4 {
                 return Fixed::Bad(6);
             }
-            let y = fields::read16(b, at + 62);
+            let y = fields::read16(b, at + (42 + w));
             if word_ok(y) {
                 return Fixed::Good(Head {
-                    length: 64,
+                    length: f + 4,
                     flags: x,
                     word: y,
                 });
@@ -89,7 +90,7 @@ pub fn read_fixed(b: &[u8], at: usize, v: u32) -> Fixed
             return Fixed::Bad(8);
         }
         return Fixed::Good(Head {
-            length: 62,
+            length: f + 2,
             flags: x,
             word: 0,
         });
@@ -98,27 +99,28 @@ pub fn read_fixed(b: &[u8], at: usize, v: u32) -> Fixed
 }
 
 // The same where it was read before: nothing is tested but that it is there.
-pub fn pass_fixed(b: &[u8], at: usize) -> Fixed
-    requires { ⌜ at ≤ length (now b) ⌝ }
-    ensures { λ r. ⌜ HeadPassed (now (b .entry)) at r ⌝ }
+pub fn pass_fixed(b: &[u8], at: usize, w: usize) -> Fixed
+    requires { ⌜ (at ≤ length (now b)) × (w ≤ 32) ⌝ }
+    ensures { λ r. ⌜ HeadPassed w (now (b .entry)) at r ⌝ }
 {
-    if b.len() - at < 62 {
+    let f = 40 + w;
+    if b.len() - at < f + 2 {
         return Fixed::Bad(6);
     }
-    let x = fields::read16(b, at + 60);
+    let x = fields::read16(b, at + f);
     if x / 16384 % 2 == 1 {
-        if b.len() - at < 64 {
+        if b.len() - at < f + 4 {
             return Fixed::Bad(6);
         }
-        let y = fields::read16(b, at + 62);
+        let y = fields::read16(b, at + (42 + w));
         return Fixed::Good(Head {
-            length: 64,
+            length: f + 4,
             flags: x,
             word: y,
         });
     }
     Fixed::Good(Head {
-        length: 62,
+        length: f + 2,
         flags: x,
         word: 0,
     })
@@ -173,7 +175,7 @@ pub fn plain_length(b: &[u8], at: usize, field: u32) -> usize
 
 // The length of an entry with f bytes before a name of n.
 pub fn entry_length(f: usize, n: usize) -> usize
-    requires { ⌜ (f ≤ 64) × (n ≤ 16777216) ⌝ }
+    requires { ⌜ (f ≤ 76) × (n ≤ 16777216) ⌝ }
     ensures { λ r. ⌜ (r ≡ entryLength f n) × (f + n < r) × (r ≤ f + n + 8) ⌝ }
 {
     8 * ((f + n) / 8) + 8
@@ -182,7 +184,7 @@ pub fn entry_length(f: usize, n: usize) -> usize
 // The name of versions 2 and 3 at a place, which has n bytes by its length field, with the NULs after it; f bytes of its entry are before it. Its
 // first kept bytes begin a sound name.
 pub fn read_named(b: &[u8], at: usize, n: usize, f: usize, field: u32, kept: usize) -> Text
-    requires { ⌜ (at ≤ length (now b)) × (n < length (now b) - at) × (n ≡ plainLength field (drop at (now b))) × (f ≤ 64) × (kept ≤ n) × Begun (take kept (drop at (now b))) ⌝ }
+    requires { ⌜ (at ≤ length (now b)) × (n < length (now b) - at) × (n ≡ plainLength field (drop at (now b))) × (f ≤ 76) × (kept ≤ n) × Begun (take kept (drop at (now b))) ⌝ }
     ensures { λ r. ⌜ ((p : ℕ) → r ≡ textOf (readPlain f p field (drop at (now (b .entry))))) × (textLength r ≤ textTaken r) × (at + textTaken r ≤ length (now (b .entry))) × HasLength n r ⌝ }
 {
     let e = at + n;
@@ -204,7 +206,7 @@ pub fn read_named(b: &[u8], at: usize, n: usize, f: usize, field: u32, kept: usi
 
 // The same of a name of which nothing is known.
 pub fn read_plain(b: &[u8], at: usize, f: usize, field: u32) -> Text
-    requires { ⌜ (at ≤ length (now b)) × (f ≤ 64) ⌝ }
+    requires { ⌜ (at ≤ length (now b)) × (f ≤ 76) ⌝ }
     ensures { λ r. ⌜ ((p : ℕ) → r ≡ textOf (readPlain f p field (drop at (now (b .entry))))) × (textLength r ≤ textTaken r) × (at + textTaken r ≤ length (now (b .entry))) ⌝ }
 {
     let n = plain_length(b, at, field);
@@ -216,7 +218,7 @@ pub fn read_plain(b: &[u8], at: usize, f: usize, field: u32) -> Text
 
 // The same where it was read before: nothing is tested but that it is there and within the limit.
 pub fn pass_plain(b: &[u8], at: usize, f: usize, field: u32) -> Text
-    requires { ⌜ (at ≤ length (now b)) × (f ≤ 64) ⌝ }
+    requires { ⌜ (at ≤ length (now b)) × (f ≤ 76) ⌝ }
     ensures { λ r. ⌜ NamePassed (now (b .entry)) at f field r ⌝ }
 {
     let n = plain_length(b, at, field);

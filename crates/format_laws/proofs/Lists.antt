@@ -2,7 +2,8 @@
 use mathlib.Core.Path.{_≡_, refl, sym, ap, _∙_}
 use mathlib.Core.List.{List, [], _∷_, _++_, append-nil}
 use mathlib.Core.Bool.{true, false}
-use Prim.Native.Nat.{ℕ, suc, _+_, _-_, _≤_, _<_}
+use Prim.Native.Nat.{ℕ, zero, suc, _+_, _-_, _≤_, _<_}
+use native.Mathlib.Nat.{sub-zero}
 use native.Mathlib.Numerals.{add-one}
 use native.Mathlib.Omega.{arith}
 use lib.ListN.{length, getD, take, drop, replicate, length-drop, drop-of-length-le, length-replicate}
@@ -94,11 +95,17 @@ drop-to d at m next e = drop-drop m at d ∙ ap (λ (n : ℕ). drop n d) (sym e)
 pub past-zeros : (n : ℕ) (s : List ℕ) → drop n (replicate n 0 ++ s) ≡ s
 past-zeros n s = drop-at (replicate n 0) s n (length-replicate {A = ℕ} n 0)
 
--- an array of w bytes, with w bytes of d copied over it
-pub copied-over : (w at e : ℕ) (d o : List ℕ) → length o ≡ w → e ≡ at + w → e ≤ length d
-    → take 0 o ++ (take (e - at) (drop at d) ++ drop (0 + length (take (e - at) (drop at d))) o) ≡ take w (drop at d)
-copied-over w at e d o wide is fits =
+-- zeros without the first of them
+pub drop-zeros : (k n : ℕ) → drop k (replicate n 0) ≡ replicate {A = ℕ} (n - k) 0
+drop-zeros zero n = rw sub-zero
+drop-zeros (suc k) zero = let e : 0 - suc k ≡ 0 = omega arith in rw e
+drop-zeros (suc k) (suc n) = let e : suc n - suc k ≡ n - k = omega arith in rw e (drop-zeros k n)
+
+-- n zeros with w bytes of d copied over the first of them
+pub copied-over : (n w at e : ℕ) (d : List ℕ) → e ≡ at + w
+    → take 0 (replicate n 0) ++ (take (e - at) (drop at d) ++ drop (0 + length (take (e - at) (drop at d))) (replicate n 0))
+    ≡ take w (drop at d) ++ replicate (n - length (take w (drop at d))) 0
+copied-over n w at e d is =
     let size : e - at ≡ w = omega arith in
-    let long : length (take w (drop at d)) ≡ w = length-take-le w (drop at d) (simp length-drop (omega arith)) in
-    let all : length o ≤ 0 + w = omega arith in
-    rw (size, long, drop-of-length-le o all, append-nil)
+    let from : 0 + length (take w (drop at d)) ≡ length (take w (drop at d)) = omega arith in
+    rw (size, from, drop-zeros (length (take w (drop at d))) n)

@@ -1,5 +1,6 @@
 -- The proof that `fields_at` meets its contract.
-use Rattle.entries.proofs.Fields.{fields-entry}
+use Rattle.entries.proofs.Fields.{fields-read}
+use native.Mathlib.Omega.{arith}
 use borrow.Author.Needs.{needs}
 use Rattle.entries.proofs.record.fields_at.Statement.{statement}
 use Rattle.entries.proofs.record.fields_at.Tie as tie
@@ -68,7 +69,7 @@ object-at-requires : tie.Need-object-at-requires
 object-at-requires c κs = search needs
 
 returns : tie.Need-returns
-returns c name =
+returns c =
     let f = c .before .before .before .before .before in
     let a = f .before .before .before .before .before .before .before .args in
     rw (
@@ -84,7 +85,7 @@ returns c name =
       f .before .before .before .before .read322 .ensures,
       f .before .before .before .before .before .read32 .ensures,
     )
-    (fields-entry (a .b .now) (a .at) (a .flags) (a .word) name)
+    (fields-read (a .w) (a .b .now) (a .at) (a .flags) (a .word) (omega arith))
 
 pub fields-at-spec : {M : Type 1} → statement M
 fields-at-spec =

@@ -1,8 +1,6 @@
 -- The proof that `object_at` meets its contract.
 use mathlib.Core.Path.{refl, _∙_}
 use Prim.Native.Nat.{_+_}
-use native.Mathlib.Omega.{arith}
-use lib.ListN.{replicate}
 use borrow.Author.Needs.{needs}
 use Rattle.format_laws.proofs.Lists.{copied-over}
 use Rattle.entries.proofs.record.object_at.Statement.{statement}
@@ -29,7 +27,7 @@ copy-to-requires c κs = search needs
 returns : tie.Need-returns
 returns c =
     let a = c .before .before .before .before .before .args in
-    c .before .copy-to .ensures ∙ copied-over 20 (a .at) (a .at + 20) (a .b .now) (replicate 20 0) refl refl (omega arith)
+    c .before .copy-to .ensures ∙ copied-over 32 (a .w) (a .at) (a .at + a .w) (a .b .now) refl
 
 pub object-at-spec : {M : Type 1} → statement M
 object-at-spec =
