@@ -57,23 +57,23 @@ pub stands : (s t : List ℕ) (m n k : ℕ) (o : Order) → k ≡ common s t →
     → StandingOf s t m n (record { rises = rises o m n; common = k })
 stands s t m n k o is within order = record { rises = ap (λ (x : Order). rises x m n) (sym order); common = is; fits = within }
 
--- the first p bytes of w less their last n, then s
-module _ (w s : List ℕ) (p n : ℕ) (fits : n ≤ p) (long : p ≤ length w) where
-  kept : take p w ≡ take (p - n) w ++ take (p - (p - n)) (drop (p - n) w)
+-- the first p bytes of work less their last n, then s
+module _ (work s : List ℕ) (p n : ℕ) (fits : n ≤ p) (long : p ≤ length work) where
+  kept : take p work ≡ take (p - n) work ++ take (p - (p - n)) (drop (p - n) work)
   kept =
       let e : p ≡ p - n + (p - (p - n)) = omega arith in
-      ap (λ (k : ℕ). take k w) e ∙ take-add (p - n) (p - (p - n)) w
+      ap (λ (k : ℕ). take k work) e ∙ take-add (p - n) (p - (p - n)) work
 
   -- the replaced bytes compare to s as the old name to the new one
-  pub rebuilt : (k l : ℕ) (w′ : List ℕ) (d : Standing) → StandingOf (take (p - (p - n)) (drop (p - n) w)) s k l d
-      → w′ ≡ take (p - n) w ++ (s ++ drop (p - n + length s) w)
-      → NameRebuilt w p n s k l w′ (record { rises = d .rises; common = p - n + d .common })
-  rebuilt k l w′ d h e =
-      let q : List ℕ = take (p - n) w in
-      let dropped : List ℕ = take (p - (p - n)) (drop (p - n) w) in
-      let order : compare (take p w) (q ++ s) ≡ compare dropped s = rw kept (compare-append q dropped s) in
-      let shared : common (take p w) (q ++ s) ≡ length q + common dropped s = rw kept (common-append q dropped s) in
-      let size : length q ≡ p - n = length-take-le (p - n) w (omega arith) in
+  pub rebuilt : (k l : ℕ) (work′ : List ℕ) (d : Standing) → StandingOf (take (p - (p - n)) (drop (p - n) work)) s k l d
+      → work′ ≡ take (p - n) work ++ (s ++ drop (p - n + length s) work)
+      → NameRebuilt work p n s k l work′ (record { rises = d .rises; common = p - n + d .common })
+  rebuilt k l work′ d h e =
+      let q : List ℕ = take (p - n) work in
+      let dropped : List ℕ = take (p - (p - n)) (drop (p - n) work) in
+      let order : compare (take p work) (q ++ s) ≡ compare dropped s = rw kept (compare-append q dropped s) in
+      let shared : common (take p work) (q ++ s) ≡ length q + common dropped s = rw kept (common-append q dropped s) in
+      let size : length q ≡ p - n = length-take-le (p - n) work (omega arith) in
       record {
         rises = h .rises ∙ ap (λ (x : Order). rises x k l) (sym order);
         common = omega (arith, shared, size, h .common);

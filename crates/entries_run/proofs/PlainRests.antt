@@ -19,7 +19,7 @@ use Rattle.fields.proofs.Beginnings.{begun-common, begun-kept}
 use Rattle.fields.proofs.Workspace.{frame-same}
 use Rattle.entries.specs.declared.Head.{Head}
 use Rattle.entries.specs.declared.Text.the-variants as T
-use Rattle.entries.specs.Answers.{textOf, NamePassed}
+use Rattle.entries.specs.Answers.{textOf, NamePassed, Size}
 use Rattle.entries.proofs.Names.{readPlain-bad, readPlain-good, plain-place, bad-text}
 use Rattle.entries_run.specs.declared.Cursor.{Cursor}
 use Rattle.entries_run.specs.declared.Next.the-variants as N
@@ -55,29 +55,29 @@ pub record Compared (b : List ℕ) (c : Cursor) (h : Head) (n m : ℕ) (d : Stan
       (h .flags / 4096 % 4)
       d
 
-module _ (v : ℕ) (b w : List ℕ) (old : eqb v 4 ≡ false) where
+module _ (w : ℕ) (v : ℕ) (b work : List ℕ) (old : eqb v 4 ≡ false) where
   name-plain : (f p field : ℕ) (previous s : List ℕ) → readName v f p previous field s ≡ readPlain f p field s
   unfolding readName
   name-plain f p field previous s = rw old
 
   module _ (c : Cursor) (h : Head) where
     pub plain-bad : (n : ℕ) → ((p : ℕ) → T.Bad n ≡ textOf (readPlain (h .length) p (h .flags % 4096) (drop (c .at + h .length) b)))
-        → StepAnswered (readRest v b w c h) v b w c w (N.Bad n)
+        → StepAnswered w (readRest w v b work c h) v b work c work (N.Bad n)
     plain-bad n e =
-        answered-bad _ v b w c w (frame-same w) (λ q. refl) n λ p.
-        rest-bad v b w c h p n (name-plain _ p _ _ _ ∙ readPlain-bad _ p _ _ n (sym (e p)))
+        answered-bad w _ v b work c work (frame-same work) (λ q. refl) n λ p.
+        rest-bad w v b work c h p n (name-plain _ p _ _ _ ∙ readPlain-bad _ p _ _ n (sym (e p)))
 
-    before-is : take (c .start + c .len - c .start) (drop (c .start) b) ≡ nameAt v b w (c .start) (c .len)
-    before-is = let e : c .start + c .len - c .start ≡ c .len = omega arith in rw e (sym (nameAt-plain v b w (c .start) (c .len) old))
+    before-is : take (c .start + c .len - c .start) (drop (c .start) b) ≡ nameAt v b work (c .start) (c .len)
+    before-is = let e : c .start + c .len - c .start ≡ c .len = omega arith in rw e (sym (nameAt-plain v b work (c .start) (c .len) old))
 
     after-is : (n : ℕ) → take (c .at + h .length + n - (c .at + h .length)) (drop (c .at + h .length) b) ≡ take n (drop (c .at + h .length) b)
     after-is n = let e : c .at + h .length + n - (c .at + h .length) ≡ n = omega arith in rw e
 
     module _ (n m : ℕ) (d : Standing) (r : Compared b c h n m d) where
-      named : (p : ℕ) → nameRead v b w c h p ≡ good (take n (drop (c .at + h .length) b)) m
+      named : (p : ℕ) → nameRead v b work c h p ≡ good (take n (drop (c .at + h .length) b)) m
       named p = name-plain _ p _ _ _ ∙ readPlain-good _ p _ _ n m (sym (r .text p))
 
-      order-is : d .rises ≡ rises (compare (nameAt v b w (c .start) (c .len)) (take n (drop (c .at + h .length) b))) (c .stage) (h .flags / 4096 % 4)
+      order-is : d .rises ≡ rises (compare (nameAt v b work (c .start) (c .len)) (take n (drop (c .at + h .length) b))) (c .stage) (h .flags / 4096 % 4)
       order-is = rw (before-is, after-is n) at (r .stands .rises)
 
       sized : (1 ≤ n) × (n ≤ 8192)
@@ -86,38 +86,38 @@ module _ (v : ℕ) (b w : List ℕ) (old : eqb v 4 ≡ false) where
           let l : n ≤ length (drop (c .at + h .length) b) = rw (length-drop (c .at + h .length) b) (omega arith) in
           rw (length-take-le n (drop (c .at + h .length) b) l) at (okName-length name (name-read v _ 0 _ _ _ _ m (named 0) .2))
 
-      pub plain-order : d .rises ≡ false → StepAnswered (readRest v b w c h) v b w c w (N.Bad 11)
-      plain-order e = answered-bad _ v b w c w (frame-same w) (λ q. refl) 11 (λ p. rest-order v b w c h p _ m (named p) (sym order-is ∙ e))
+      pub plain-order : d .rises ≡ false → StepAnswered w (readRest w v b work c h) v b work c work (N.Bad 11)
+      plain-order e = answered-bad w _ v b work c work (frame-same work) (λ q. refl) 11 (λ p. rest-order w v b work c h p _ m (named p) (sym order-is ∙ e))
 
-      pub plain-good : d .rises ≡ true
-          → StepAnswered (readRest v b w c h) v b w c w
+      pub plain-good : Size w (drop (c .at) b) h → d .rises ≡ true
+          → StepAnswered w (readRest w v b work c h) v b work c work
           (N.Good (stepOf h (d .common) (c .at + h .length + m) (c .at + h .length) n))
-      plain-good e =
+      plain-good head e =
           let q : HeadAt b c h = r .headed in
           let taken : h .length + (m + 0) ≡ c .at + h .length + m - c .at = omega arith in
-          answered-good _ v b w c w (frame-same w) (λ u. refl) _
-          (λ p. rest-good v b w c h p _ m (named p) (sym order-is ∙ e) ∙ rw (nameAt-plain v b w (c .at + h .length) n old, taken))
+          answered-good w _ v b work c work (frame-same work) (λ u. refl) _
+          (λ p. rest-good w v b work c h p _ m (named p) (sym order-is ∙ e) ∙ rw (nameAt-plain v b work (c .at + h .length) n old, taken))
           (record {
             next = record { small = q .cursor .small; inside = r .more; behind = omega arith; short = sized .1 };
-            flags = q .flags;
-            head = q .is;
-            least = q .least;
+            flags = head .flags;
+            head = head .is;
+            least = head .least;
             begins = λ u. refl;
             ahead = omega (arith, sized .0);
             stage = refl;
-            common = r .stands .common ∙ rw (before-is, after-is n, nameAt-plain v b w (c .at + h .length) n old);
+            common = r .stands .common ∙ rw (before-is, after-is n, nameAt-plain v b work (c .at + h .length) n old);
           })
 
     -- of an entry that was read before
-    text-inv : {X : Type 0} (p : ℕ) (e : Entry) (m : ℕ) → readRest v b w c h p ≡ good e m
+    text-inv : {X : Type 0} (p : ℕ) (e : Entry) (m : ℕ) → readRest w v b work c h p ≡ good e m
         → ((name : List ℕ) (j : ℕ) → readPlain (h .length) p (h .flags % 4096) (drop (c .at + h .length) b) ≡ good name j
-        → rises (compare (nameAt v b w (c .start) (c .len)) name) (c .stage) (h .flags / 4096 % 4) ≡ true → X) → X
-    text-inv p e m q f = rest-inv v b w c h p e m q (λ name j named order. f name j (sym (name-plain _ p _ _ _) ∙ named) order)
+        → rises (compare (nameAt v b work (c .start) (c .len)) name) (c .stage) (h .flags / 4096 % 4) ≡ true → X) → X
+    text-inv p e m q f = rest-inv w v b work c h p e m q (λ name j named order. f name j (sym (name-plain _ p _ _ _) ∙ named) order)
 
-    pub plain-unread : (n : ℕ) → NamePassed b (c .at + h .length) (h .length) (h .flags % 4096) (T.Bad n) → StepRepeated (readRest v b w c h) v b w c w (N.Bad n)
+    pub plain-unread : (n : ℕ) → NamePassed b (c .at + h .length) (h .length) (h .flags % 4096) (T.Bad n) → StepRepeated w (readRest w v b work c h) v b work c work (N.Bad n)
     unfolding textOf
     plain-unread n t =
-        repeated-bad _ v b w c n (λ p e m q. text-inv p e m q (λ name j plain order. bad-text (t .same p (length name) j (ap textOf plain))))
+        repeated-bad w _ v b work c n (λ p e m q. text-inv p e m q (λ name j plain order. bad-text (t .same p (length name) j (ap textOf plain))))
 
     -- the name of n bytes, m with the NULs after it, has k bytes in common with the one before
     module _ (n m k : ℕ) (q : HeadAt b c h) (t : NamePassed b (c .at + h .length) (h .length) (h .flags % 4096) (T.Good n m))
@@ -130,7 +130,7 @@ module _ (v : ℕ) (b w : List ℕ) (old : eqb v 4 ≡ false) where
 
       -- it was read, so it is compared with the one before as it was then
       as-read : (p : ℕ) (name : List ℕ) (j : ℕ) → readPlain (h .length) p (h .flags % 4096) (drop (c .at + h .length) b) ≡ good name j
-          → rises (compare (nameAt v b w (c .start) (c .len)) name) (c .stage) (h .flags / 4096 % 4) ≡ true
+          → rises (compare (nameAt v b work (c .start) (c .len)) name) (c .stage) (h .flags / 4096 % 4) ≡ true
           → Compared b c h n m (record { rises = true; common = k })
       unfolding textOf
       as-read p name j plain order =
@@ -144,10 +144,10 @@ module _ (v : ℕ) (b w : List ℕ) (old : eqb v 4 ≡ false) where
             stands = record { rises = rw (before-is, after-is n, is) (sym order); common = is-k; fits = within .0 };
           }
 
-      pub plain-passed : StepRepeated (readRest v b w c h) v b w c w (N.Good (stepOf h k (c .at + h .length + m) (c .at + h .length) n))
-      plain-passed =
-          repeated-good _ v b w c w _
-          (λ p e i r. text-inv p e i r (λ name j plain order. plain-good n m _ (as-read p name j plain order) refl))
+      pub plain-passed : Size w (drop (c .at) b) h → StepRepeated w (readRest w v b work c h) v b work c work (N.Good (stepOf h k (c .at + h .length + m) (c .at + h .length) n))
+      plain-passed head =
+          repeated-good w _ v b work c work _
+          (λ p e i r. text-inv p e i r (λ name j plain order. plain-good n m _ (as-read p name j plain order) head refl))
           (record { small = q .cursor .small; inside = t .there; behind = omega (arith, t .fits); short = t .short })
           shorter
-          (frame-same w)
+          (frame-same work)

@@ -29,14 +29,14 @@ use Rattle.entries_run.proofs.Names.{nameAt-short}
 
 -- ---- what is before the name
 
-pub headed-as : (b : List ℕ) (c : Cursor) (h : Head) → Inside b c → Size (drop (c .at) b) h → c .at + h .length ≤ length b → HeadAt b c h
-headed-as b c h inside size there = record { cursor = inside; flags = size .flags; is = size .is; least = size .least; most = size .most; there = there }
+pub headed-as : (w : ℕ) (b : List ℕ) (c : Cursor) (h : Head) → Inside b c → w ≤ 32 → Size w (drop (c .at) b) h → c .at + h .length ≤ length b → HeadAt b c h
+headed-as w b c h inside narrow size there = record { cursor = inside; most = omega (arith, size .most); there = there }
 
 -- ---- what answers say
 
-module _ (read : ℕ → Read Entry) (v : ℕ) (b w : List ℕ) (c : Cursor) (w′ : List ℕ)
-    (frame : Frame w w′) (unwritten : eqb v 4 ≡ false → w′ ≡ w) where
-  pub answered-bad : (n : ℕ) → ((p : ℕ) → read p ≡ bad n p) → StepAnswered read v b w c w′ (N.Bad n)
+module _ (w : ℕ) (read : ℕ → Read Entry) (v : ℕ) (b work : List ℕ) (c : Cursor) (work′ : List ℕ)
+    (frame : Frame work work′) (unwritten : eqb v 4 ≡ false → work′ ≡ work) where
+  pub answered-bad : (n : ℕ) → ((p : ℕ) → read p ≡ bad n p) → StepAnswered w read v b work c work′ (N.Bad n)
   answered-bad n e =
       record {
         same = e;
@@ -45,11 +45,11 @@ module _ (read : ℕ → Read Entry) (v : ℕ) (b w : List ℕ) (c : Cursor) (w�
         plain = unwritten;
       }
 
-  pub answered-good : (st : Step) → ((p : ℕ) → read p ≡ readOf v b w′ (c .at) p (N.Good st)) → StepFound v b w c w′ st → StepAnswered read v b w c w′ (N.Good st)
+  pub answered-good : (st : Step) → ((p : ℕ) → read p ≡ readOf w v b work′ (c .at) p (N.Good st)) → StepFound w v b work c work′ st → StepAnswered w read v b work c work′ (N.Good st)
   answered-good st e f =
       record {
         same = e;
-        found = λ other q. let same : st ≡ other = cc in subst (λ (x : Step). StepFound v b w c w′ x) same f;
+        found = λ other q. let same : st ≡ other = cc in subst (λ (x : Step). StepFound w v b work c work′ x) same f;
         frame = frame;
         plain = unwritten;
       }
@@ -58,10 +58,10 @@ bad-next : {X : Type 0} {n : ℕ} {st : Step} → N.Bad n ≡ N.Good st → X
 bad-next e = let z : _≡_ {A = ℕ} 0 1 = cc in absurd (omega arith)
 
 -- a step that was not tested
-pub repeated-good : (read : ℕ → Read Entry) (v : ℕ) (b w : List ℕ) (c : Cursor) (w′ : List ℕ) (st : Step)
-    → ((p : ℕ) (e : Entry) (m : ℕ) → read p ≡ good e m → StepAnswered read v b w c w′ (N.Good st))
-    → Inside b (st .next) → st .common ≤ st .next .len → Frame w w′ → StepRepeated read v b w c w′ (N.Good st)
-repeated-good read v b w c w′ st same inside common frame =
+pub repeated-good : (w : ℕ) (read : ℕ → Read Entry) (v : ℕ) (b work : List ℕ) (c : Cursor) (work′ : List ℕ) (st : Step)
+    → ((p : ℕ) (e : Entry) (m : ℕ) → read p ≡ good e m → StepAnswered w read v b work c work′ (N.Good st))
+    → Inside b (st .next) → st .common ≤ st .next .len → Frame work work′ → StepRepeated w read v b work c work′ (N.Good st)
+repeated-good w read v b work c work′ st same inside common frame =
     record {
       same = same;
       inside = λ other q. let is : st ≡ other = cc in subst (λ (x : Step). Inside b (x .next)) is inside;
@@ -70,96 +70,97 @@ repeated-good read v b w c w′ st same inside common frame =
     }
 
 -- nothing is read there
-pub repeated-bad : (read : ℕ → Read Entry) (v : ℕ) (b w : List ℕ) (c : Cursor) (n : ℕ)
-    → ((p : ℕ) (e : Entry) (m : ℕ) → read p ≡ good e m → StepAnswered read v b w c w (N.Bad n)) → StepRepeated read v b w c w (N.Bad n)
-repeated-bad read v b w c n same = record { same = same; inside = λ st q. bad-next q; common = λ st q. bad-next q; frame = frame-same w }
+pub repeated-bad : (w : ℕ) (read : ℕ → Read Entry) (v : ℕ) (b work : List ℕ) (c : Cursor) (n : ℕ)
+    → ((p : ℕ) (e : Entry) (m : ℕ) → read p ≡ good e m → StepAnswered w read v b work c work (N.Bad n)) → StepRepeated w read v b work c work (N.Bad n)
+repeated-bad w read v b work c n same = record { same = same; inside = λ st q. bad-next q; common = λ st q. bad-next q; frame = frame-same work }
 
 -- what is said with all tests holds without them
-module _ (read : ℕ → Read Entry) (v : ℕ) (b w : List ℕ) (c : Cursor) (w′ : List ℕ) (r : Next) (t : StepAnswered read v b w c w′ r) where
-  repeated : StepRepeated read v b w c w′ r
+module _ (w : ℕ) (read : ℕ → Read Entry) (v : ℕ) (b work : List ℕ) (c : Cursor) (work′ : List ℕ) (r : Next) (t : StepAnswered w read v b work c work′ r) where
+  repeated : StepRepeated w read v b work c work′ r
   repeated =
       record {
         same = λ p e m q. t;
         inside = λ st q. t .found st q .next;
         common = λ st q.
-            let x = nameAt v b w (c .start) (c .len) in
-            let y = nameAt v b w′ (st .next .start) (st .next .len) in
-            omega (arith, t .found st q .common, common-le x y .1, nameAt-short v b w′ (st .next .start) (st .next .len));
+            let x = nameAt v b work (c .start) (c .len) in
+            let y = nameAt v b work′ (st .next .start) (st .next .len) in
+            omega (arith, t .found st q .common, common-le x y .1, nameAt-short v b work′ (st .next .start) (st .next .len));
         frame = t .frame;
       }
 
-  pub tested : (again : Bool) → StepTested again read v b w c w′ r
+  pub tested : (again : Bool) → StepTested w again read v b work c work′ r
   tested again = record { first = λ e. t; later = repeated }
 
 -- by whether it was read before
-pub tested-by : (again : Bool) (read : ℕ → Read Entry) (v : ℕ) (b w : List ℕ) (c : Cursor) (w′ : List ℕ) (r : Next)
-    → (again ≡ false → StepAnswered read v b w c w′ r) → (again ≡ true → StepRepeated read v b w c w′ r) → StepTested again read v b w c w′ r
-tested-by true read v b w c w′ r first later = record { first = λ e. false-true (sym e); later = later refl }
-tested-by false read v b w c w′ r first later = tested read v b w c w′ r (first refl) false
+pub tested-by : (w : ℕ) (again : Bool) (read : ℕ → Read Entry) (v : ℕ) (b work : List ℕ) (c : Cursor) (work′ : List ℕ) (r : Next)
+    → (again ≡ false → StepAnswered w read v b work c work′ r) → (again ≡ true → StepRepeated w read v b work c work′ r) → StepTested w again read v b work c work′ r
+tested-by w true read v b work c work′ r first later = record { first = λ e. false-true (sym e); later = later refl }
+tested-by w false read v b work c work′ r first later = tested w read v b work c work′ r (first refl) false
 
 -- of another reader that reads the same
-answered-as : (read other : ℕ → Read Entry) (v : ℕ) (b w : List ℕ) (c : Cursor) (w′ : List ℕ) (r : Next) → ((p : ℕ) → read p ≡ other p)
-    → StepAnswered other v b w c w′ r → StepAnswered read v b w c w′ r
-answered-as read other v b w c w′ r e t = record { same = λ p. e p ∙ t .same p; found = t .found; frame = t .frame; plain = t .plain }
+answered-as : (w : ℕ) (read other : ℕ → Read Entry) (v : ℕ) (b work : List ℕ) (c : Cursor) (work′ : List ℕ) (r : Next) → ((p : ℕ) → read p ≡ other p)
+    → StepAnswered w other v b work c work′ r → StepAnswered w read v b work c work′ r
+answered-as w read other v b work c work′ r e t = record { same = λ p. e p ∙ t .same p; found = t .found; frame = t .frame; plain = t .plain }
 
-module _ (v : ℕ) (b w : List ℕ) (c : Cursor) where
-  pub step-refused : (n : ℕ) → ((p : ℕ) → F.Bad n ≡ fixedOf (readHead 20 v p (drop (c .at) b))) → EntryStepped v b w c w (N.Bad n)
-  step-refused n e = answered-bad _ v b w c w (frame-same w) (λ q. refl) n (λ p. readEntry-bad 20 v (keyAt v b w c) p (drop (c .at) b) n (sym (e p)))
+module _ (w : ℕ) (v : ℕ) (b work : List ℕ) (c : Cursor) where
+  pub step-refused : (n : ℕ) → ((p : ℕ) → F.Bad n ≡ fixedOf (readHead w v p (drop (c .at) b))) → EntryStepped w v b work c work (N.Bad n)
+  step-refused n e = answered-bad w _ v b work c work (frame-same work) (λ q. refl) n (λ p. readEntry-bad w v (keyAt v b work c) p (drop (c .at) b) n (sym (e p)))
 
-  pub step-on : (h : Head) (w′ : List ℕ) (r : Next) → ((p : ℕ) → F.Good h ≡ fixedOf (readHead 20 v p (drop (c .at) b)))
-      → StepAnswered (readRest v b w c h) v b w c w′ r → EntryStepped v b w c w′ r
+  pub step-on : (h : Head) (work′ : List ℕ) (r : Next) → ((p : ℕ) → F.Good h ≡ fixedOf (readHead w v p (drop (c .at) b)))
+      → StepAnswered w (readRest w v b work c h) v b work c work′ r → EntryStepped w v b work c work′ r
   unfolding readRest
-  step-on h w′ r e t = answered-as _ (readRest v b w c h) v b w c w′ r (λ p. readEntry-good 20 v (keyAt v b w c) p (drop (c .at) b) h (sym (e p))) t
+  step-on h work′ r e t = answered-as w _ (readRest w v b work c h) v b work c work′ r (λ p. readEntry-good w v (keyAt v b work c) p (drop (c .at) b) h (sym (e p))) t
 
-  pub step-four : (h : Head) (w′ : List ℕ) (r : Next) → ((p : ℕ) → F.Good h ≡ fixedOf (readHead 20 v p (drop (c .at) b)))
-      → v ≡ 4 → StepAnswered (readRest 4 b w c h) 4 b w c w′ r → EntryStepped v b w c w′ r
-  step-four h w′ r e four t = step-on h w′ r e (subst (λ (u : ℕ). StepAnswered (readRest u b w c h) u b w c w′ r) (sym four) t)
+  pub step-four : (h : Head) (work′ : List ℕ) (r : Next) → ((p : ℕ) → F.Good h ≡ fixedOf (readHead w v p (drop (c .at) b)))
+      → v ≡ 4 → StepAnswered w (readRest w 4 b work c h) 4 b work c work′ r → EntryStepped w v b work c work′ r
+  step-four h work′ r e four t = step-on h work′ r e (subst (λ (u : ℕ). StepAnswered w (readRest w u b work c h) u b work c work′ r) (sym four) t)
 
 -- the same of an entry that was read before
-module _ (v : ℕ) (b w : List ℕ) (c : Cursor) where
-  pub pass-refused : (n : ℕ) → HeadPassed b (c .at) (F.Bad n) → EntryPassed v b w c w (N.Bad n)
-  pass-refused n t = repeated-bad _ v b w c n (λ p e m q. entry-head 20 v _ p _ e m q (λ h is. bad-head (t .same v p h is)))
+module _ (w : ℕ) (v : ℕ) (b work : List ℕ) (c : Cursor) where
+  pub pass-refused : (n : ℕ) → HeadPassed w b (c .at) (F.Bad n) → EntryPassed w v b work c work (N.Bad n)
+  pass-refused n t = repeated-bad w _ v b work c n (λ p e m q. entry-head w v _ p _ e m q (λ h is. bad-head (t .same v p h is)))
 
-  pub pass-on : (h : Head) (w′ : List ℕ) (r : Next) → HeadPassed b (c .at) (F.Good h) → StepRepeated (readRest v b w c h) v b w c w′ r → EntryPassed v b w c w′ r
+  pub pass-on : (h : Head) (work′ : List ℕ) (r : Next) → HeadPassed w b (c .at) (F.Good h) → StepRepeated w (readRest w v b work c h) v b work c work′ r → EntryPassed w v b work c work′ r
   unfolding readRest
-  pass-on h w′ r t u =
+  pass-on h work′ r t u =
       record {
-        same = λ p e m q. entry-head 20 v _ p _ e m q λ g is.
-            let here : (j : ℕ) → F.Good h ≡ fixedOf (readHead 20 v j (drop (c .at) b)) = λ j. t .same v p g is ∙ sym is ∙ head-place 20 v p j (drop (c .at) b) in
-            step-on v b w c h w′ r here (u .same p e m (sym (readEntry-good 20 v (keyAt v b w c) p (drop (c .at) b) h (sym (here p))) ∙ q));
+        same = λ p e m q. entry-head w v _ p _ e m q λ g is.
+            let here : (j : ℕ) → F.Good h ≡ fixedOf (readHead w v j (drop (c .at) b)) = λ j. t .same v p g is ∙ sym is ∙ head-place w v p j (drop (c .at) b) in
+            step-on w v b work c h work′ r here (u .same p e m (sym (readEntry-good w v (keyAt v b work c) p (drop (c .at) b) h (sym (here p))) ∙ q));
         inside = u .inside;
         common = u .common;
         frame = u .frame;
       }
 
-  pub pass-four : (h : Head) (w′ : List ℕ) (r : Next) → HeadPassed b (c .at) (F.Good h) → v ≡ 4 → StepRepeated (readRest 4 b w c h) 4 b w c w′ r → EntryPassed v b w c w′ r
-  pass-four h w′ r t four u = pass-on h w′ r t (subst (λ (n : ℕ). StepRepeated (readRest n b w c h) n b w c w′ r) (sym four) u)
+  pub pass-four : (h : Head) (work′ : List ℕ) (r : Next) → HeadPassed w b (c .at) (F.Good h) → v ≡ 4 → StepRepeated w (readRest w 4 b work c h) 4 b work c work′ r → EntryPassed w v b work c work′ r
+  pass-four h work′ r t four u = pass-on h work′ r t (subst (λ (n : ℕ). StepRepeated w (readRest w n b work c h) n b work c work′ r) (sym four) u)
 
 -- ---- the rest, from the name on
 
-module _ (v : ℕ) (b w : List ℕ) (c : Cursor) (h : Head) (p : ℕ) where
+module _ (v : ℕ) (b work : List ℕ) (c : Cursor) (h : Head) (p : ℕ) where
   abbrev pub nameRead : Read (List ℕ)
-  nameRead = readName v (h .length) p (nameAt v b w (c .start) (c .len)) (h .flags % 4096) (drop (c .at + h .length) b)
+  nameRead = readName v (h .length) p (nameAt v b work (c .start) (c .len)) (h .flags % 4096) (drop (c .at + h .length) b)
 
-  pub rest-bad : (n : ℕ) → nameRead ≡ bad n p → readRest v b w c h p ≡ bad n p
+module _ (w : ℕ) (v : ℕ) (b work : List ℕ) (c : Cursor) (h : Head) (p : ℕ) where
+  pub rest-bad : (n : ℕ) → nameRead v b work c h p ≡ bad n p → readRest w v b work c h p ≡ bad n p
   unfolding readRest readTail bind shift
   rest-bad n e = rw (drop-drop (h .length) (c .at) b, e)
 
-  pub rest-order : (name : List ℕ) (m : ℕ) → nameRead ≡ good name m
-      → rises (compare (nameAt v b w (c .start) (c .len)) name) (c .stage) (h .flags / 4096 % 4) ≡ false
-      → readRest v b w c h p ≡ bad 11 p
+  pub rest-order : (name : List ℕ) (m : ℕ) → nameRead v b work c h p ≡ good name m
+      → rises (compare (nameAt v b work (c .start) (c .len)) name) (c .stage) (h .flags / 4096 % 4) ≡ false
+      → readRest w v b work c h p ≡ bad 11 p
   unfolding readRest readTail bind shift need
   rest-order name m e o = rw (drop-drop (h .length) (c .at) b, e, o)
 
-  pub rest-good : (name : List ℕ) (m : ℕ) → nameRead ≡ good name m
-      → rises (compare (nameAt v b w (c .start) (c .len)) name) (c .stage) (h .flags / 4096 % 4) ≡ true
-      → readRest v b w c h p ≡ good (entryOf 20 (drop (c .at) b) (h .flags) (h .word) name) (h .length + (m + 0))
+  pub rest-good : (name : List ℕ) (m : ℕ) → nameRead v b work c h p ≡ good name m
+      → rises (compare (nameAt v b work (c .start) (c .len)) name) (c .stage) (h .flags / 4096 % 4) ≡ true
+      → readRest w v b work c h p ≡ good (entryOf w (drop (c .at) b) (h .flags) (h .word) name) (h .length + (m + 0))
   unfolding readRest readTail bind shift need
   rest-good name m e o = rw (drop-drop (h .length) (c .at) b, e, o)
 
   -- and back
-  pub rest-inv : {X : Type 0} (e : Entry) (m : ℕ) → readRest v b w c h p ≡ good e m
-      → ((name : List ℕ) (j : ℕ) → nameRead ≡ good name j → rises (compare (nameAt v b w (c .start) (c .len)) name) (c .stage) (h .flags / 4096 % 4) ≡ true → X) → X
+  pub rest-inv : {X : Type 0} (e : Entry) (m : ℕ) → readRest w v b work c h p ≡ good e m
+      → ((name : List ℕ) (j : ℕ) → nameRead v b work c h p ≡ good name j → rises (compare (nameAt v b work (c .start) (c .len)) name) (c .stage) (h .flags / 4096 % 4) ≡ true → X) → X
   unfolding readRest readTail
   rest-inv e m q f =
       shift-inv _ _ _ _ q λ i q₁ sum.

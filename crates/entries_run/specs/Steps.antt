@@ -1,4 +1,4 @@
--- Where names are, and what a step over an entry leaves behind.
+-- Where names are, and what a step over an entry leaves behind. w is the width of an object name.
 use mathlib.Core.Path.{_≡_}
 use mathlib.Core.List.{List, _++_}
 use mathlib.Core.Bool.{Bool, true, false, cond}
@@ -48,8 +48,8 @@ abbrev pub keyAt : ℕ → List ℕ → List ℕ → Cursor → Key
 keyAt v b work c = record { name = nameAt v b work (c .start) (c .len); stage = c .stage }
 
 -- the entry at a place, from what a step over it says
-abbrev pub entryAt : ℕ → List ℕ → List ℕ → ℕ → Step → Entry
-entryAt v b work at st = entryOf 20 (drop at b) (st .flags) (st .word) (nameAt v b work (st .next .start) (st .next .len))
+abbrev pub entryAt : ℕ → ℕ → List ℕ → List ℕ → ℕ → Step → Entry
+entryAt w v b work at st = entryOf w (drop at b) (st .flags) (st .word) (nameAt v b work (st .next .start) (st .next .len))
 
 -- a cursor in the body b; the name before it ends at or before it
 pub record Inside (b : List ℕ) (c : Cursor) : Type 0 where
@@ -61,17 +61,14 @@ pub record Inside (b : List ℕ) (c : Cursor) : Type 0 where
 -- and the bytes h before the name of the entry there
 pub record HeadAt (b : List ℕ) (c : Cursor) (h : Head) : Type 0 where
   pub cursor : Inside b c
-  pub flags : h .flags ≡ be16 (drop (c .at) b) 60
-  pub is : h .length ≡ fixedLength 20 (isSet 16384 (h .flags))
-  pub least : 62 ≤ h .length
-  pub most : h .length ≤ 64
+  pub most : h .length ≤ 76
   pub there : c .at + h .length ≤ length b
 
 -- what a function answers that reads these bytes at a place, whether they were read before or not
-pub record HeadRead (again : Bool) (v : ℕ) (b : List ℕ) (at : ℕ) (r : Fixed) : Type 0 where
-  pub first : again ≡ false → (p : ℕ) → r ≡ fixedOf (readHead 20 v p (drop at b))
-  pub later : again ≡ true → HeadPassed b at r
-  pub sized : (h : Head) → r ≡ F.Good h → Size (drop at b) h
+pub record HeadRead (w : ℕ) (again : Bool) (v : ℕ) (b : List ℕ) (at : ℕ) (r : Fixed) : Type 0 where
+  pub first : again ≡ false → (p : ℕ) → r ≡ fixedOf (readHead w v p (drop at b))
+  pub later : again ≡ true → HeadPassed w b at r
+  pub sized : (h : Head) → r ≡ F.Good h → Size w (drop at b) h
   pub there : at + headLength r ≤ length b
 
 -- and the number N after them, in version 4
@@ -115,52 +112,52 @@ stepOf h common at start len = record {
 }
 
 -- an answer as the reader gives it, for the entry at a place that the reader calls p
-abbrev pub readOf : ℕ → List ℕ → List ℕ → ℕ → ℕ → Next → Read Entry
-readOf v b work at p (N.Bad n) = bad n p
-readOf v b work at p (N.Good st) = good (entryAt v b work at st) (st .next .at - at)
+abbrev pub readOf : ℕ → ℕ → List ℕ → List ℕ → ℕ → ℕ → Next → Read Entry
+readOf w v b work at p (N.Bad n) = bad n p
+readOf w v b work at p (N.Good st) = good (entryAt w v b work at st) (st .next .at - at)
 
 -- the parts of a step
-pub record StepFound (v : ℕ) (b work : List ℕ) (c : Cursor) (work′ : List ℕ) (st : Step) : Type 0 where
+pub record StepFound (w : ℕ) (v : ℕ) (b work : List ℕ) (c : Cursor) (work′ : List ℕ) (st : Step) : Type 0 where
   pub next : Inside b (st .next)
-  pub flags : st .flags ≡ be16 (drop (c .at) b) 60
-  pub head : st .head ≡ fixedLength 20 (isSet 16384 (st .flags))
-  pub least : 62 ≤ st .head
+  pub flags : st .flags ≡ be16 (drop (c .at) b) (40 + w)
+  pub head : st .head ≡ fixedLength w (isSet 16384 (st .flags))
+  pub least : 40 + w + 2 ≤ st .head
   pub begins : eqb v 4 ≡ false → st .next .start ≡ c .at + st .head
   pub ahead : c .at + st .head < st .next .at
   pub stage : st .next .stage ≡ st .flags / 4096 % 4
   pub common : st .common ≡ common (nameAt v b work (c .start) (c .len)) (nameAt v b work′ (st .next .start) (st .next .len))
 
 -- what a function leaves behind that reads an entry as read does, at each place: the answer r, and work′, which was work
-pub record StepAnswered (read : ℕ → Read Entry) (v : ℕ) (b work : List ℕ) (c : Cursor) (work′ : List ℕ) (r : Next) : Type 0 where
-  pub same : (p : ℕ) → read p ≡ readOf v b work′ (c .at) p r
-  pub found : (st : Step) → r ≡ N.Good st → StepFound v b work c work′ st
+pub record StepAnswered (w : ℕ) (read : ℕ → Read Entry) (v : ℕ) (b work : List ℕ) (c : Cursor) (work′ : List ℕ) (r : Next) : Type 0 where
+  pub same : (p : ℕ) → read p ≡ readOf w v b work′ (c .at) p r
+  pub found : (st : Step) → r ≡ N.Good st → StepFound w v b work c work′ st
   pub frame : Frame work work′
   pub plain : eqb v 4 ≡ false → work′ ≡ work
 
--- what a function leaves behind that passes an entry, which was read before, without its tests: where read reads one, what StepAnswered says;
+-- what a function leaves behind that passes an entry, which was read before, without its tests: where read reads one, what StepAnswered w says;
 -- in any case a place in the body
-pub record StepRepeated (read : ℕ → Read Entry) (v : ℕ) (b work : List ℕ) (c : Cursor) (work′ : List ℕ) (r : Next) : Type 0 where
-  pub same : (p : ℕ) (e : Entry) (m : ℕ) → read p ≡ good e m → StepAnswered read v b work c work′ r
+pub record StepRepeated (w : ℕ) (read : ℕ → Read Entry) (v : ℕ) (b work : List ℕ) (c : Cursor) (work′ : List ℕ) (r : Next) : Type 0 where
+  pub same : (p : ℕ) (e : Entry) (m : ℕ) → read p ≡ good e m → StepAnswered w read v b work c work′ r
   pub inside : (st : Step) → r ≡ N.Good st → Inside b (st .next)
   pub common : (st : Step) → r ≡ N.Good st → st .common ≤ st .next .len
   pub frame : Frame work work′
 
 -- the one or the other, whether the entry was read before or not
-pub record StepTested (again : Bool) (read : ℕ → Read Entry) (v : ℕ) (b work : List ℕ) (c : Cursor) (work′ : List ℕ) (r : Next) : Type 0 where
-  pub first : again ≡ false → StepAnswered read v b work c work′ r
-  pub later : StepRepeated read v b work c work′ r
+pub record StepTested (w : ℕ) (again : Bool) (read : ℕ → Read Entry) (v : ℕ) (b work : List ℕ) (c : Cursor) (work′ : List ℕ) (r : Next) : Type 0 where
+  pub first : again ≡ false → StepAnswered w read v b work c work′ r
+  pub later : StepRepeated w read v b work c work′ r
 
 -- what readEntry reads after the bytes h
-unfoldable pub readRest : ℕ → List ℕ → List ℕ → Cursor → Head → ℕ → Read Entry
-readRest v b work c h p = shift (h .length) (readTail 20 v (keyAt v b work c) p (h .length) (h .flags) (h .word) (drop (c .at) b))
+unfoldable pub readRest : ℕ → ℕ → List ℕ → List ℕ → Cursor → Head → ℕ → Read Entry
+readRest w v b work c h p = shift (h .length) (readTail w v (keyAt v b work c) p (h .length) (h .flags) (h .word) (drop (c .at) b))
 
 -- a step over the entry at a cursor
-abbrev pub EntryStepped : ℕ → List ℕ → List ℕ → Cursor → List ℕ → Next → Type 0
-EntryStepped v b work c work′ r = StepAnswered (λ p. readEntry 20 v (keyAt v b work c) p (drop (c .at) b)) v b work c work′ r
+abbrev pub EntryStepped : ℕ → ℕ → List ℕ → List ℕ → Cursor → List ℕ → Next → Type 0
+EntryStepped w v b work c work′ r = StepAnswered w (λ p. readEntry w v (keyAt v b work c) p (drop (c .at) b)) v b work c work′ r
 
 -- the same over an entry that was read before
-abbrev pub EntryPassed : ℕ → List ℕ → List ℕ → Cursor → List ℕ → Next → Type 0
-EntryPassed v b work c work′ r = StepRepeated (λ p. readEntry 20 v (keyAt v b work c) p (drop (c .at) b)) v b work c work′ r
+abbrev pub EntryPassed : ℕ → ℕ → List ℕ → List ℕ → Cursor → List ℕ → Next → Type 0
+EntryPassed w v b work c work′ r = StepRepeated w (λ p. readEntry w v (keyAt v b work c) p (drop (c .at) b)) v b work c work′ r
 
 -- ---- the run
 
@@ -169,31 +166,31 @@ abbrev pub firstCursor : Cursor
 firstCursor = cursorOf 12 0 0 0
 
 -- n entries of the body b, from a cursor on
-abbrev pub runFrom : ℕ → ℕ → List ℕ → List ℕ → Cursor → Read (List Entry)
-runFrom v n b work c = readEntries 20 v n (keyAt v b work c) (c .at) (drop (c .at) b)
+abbrev pub runFrom : ℕ → ℕ → ℕ → List ℕ → List ℕ → Cursor → Read (List Entry)
+runFrom w v n b work c = readEntries w v n (keyAt v b work c) (c .at) (drop (c .at) b)
 
 -- n entries of the body b after the key k, from a place on, were read: es, m bytes
-abbrev pub ReadAfter : ℕ → ℕ → List ℕ → Key → ℕ → List Entry → ℕ → Type 0
-ReadAfter v n b k at es m = readEntries 20 v n k at (drop at b) ≡ good es m
+abbrev pub ReadAfter : ℕ → ℕ → ℕ → List ℕ → Key → ℕ → List Entry → ℕ → Type 0
+ReadAfter w v n b k at es m = readEntries w v n k at (drop at b) ≡ good es m
 
 -- from a cursor on
-abbrev pub RunRead : ℕ → ℕ → List ℕ → List ℕ → Cursor → List Entry → ℕ → Type 0
-RunRead v n b work c es m = ReadAfter v n b (keyAt v b work c) (c .at) es m
+abbrev pub RunRead : ℕ → ℕ → ℕ → List ℕ → List ℕ → Cursor → List Entry → ℕ → Type 0
+RunRead w v n b work c es m = ReadAfter w v n b (keyAt v b work c) (c .at) es m
 
 -- from the first entry on
-abbrev pub EntriesRead : ℕ → ℕ → List ℕ → List Entry → ℕ → Type 0
-EntriesRead v count b es m = ReadAfter v count b start 12 es m
+abbrev pub EntriesRead : ℕ → ℕ → ℕ → List ℕ → List Entry → ℕ → Type 0
+EntriesRead w v count b es m = ReadAfter w v count b start 12 es m
 
 -- count entries of the body b were read
-abbrev pub AllRead : ℕ → ℕ → List ℕ → Type 0
-AllRead v count b = (es : List Entry) × (m : ℕ) × EntriesRead v count b es m
+abbrev pub AllRead : ℕ → ℕ → ℕ → List ℕ → Type 0
+AllRead w v count b = (es : List Entry) × (m : ℕ) × EntriesRead w v count b es m
 
 -- n entries, and perhaps more after them, were read from a cursor on
-pub record Readable (v n : ℕ) (b work : List ℕ) (c : Cursor) : Type 0 where
+pub record Readable (w : ℕ) (v n : ℕ) (b work : List ℕ) (c : Cursor) : Type 0 where
   pub more : ℕ
   pub entries : List Entry
   pub taken : ℕ
-  pub run : RunRead v (n + more) b work c entries taken
+  pub run : RunRead w v (n + more) b work c entries taken
 
 -- the answer as the code gives it
 abbrev pub runOf : Read (List Entry) → Run
@@ -206,29 +203,29 @@ endOf (R.Bad n p) = 0
 endOf (R.Good e) = e
 
 -- what the run of count entries leaves behind
-pub record RunAnswered (v : ℕ) (b work : List ℕ) (count : ℕ) (work′ : List ℕ) (r : Run) : Type 0 where
-  pub same : r ≡ runOf (readEntries 20 v count start 12 (drop 12 b))
+pub record RunAnswered (w : ℕ) (v : ℕ) (b work : List ℕ) (count : ℕ) (work′ : List ℕ) (r : Run) : Type 0 where
+  pub same : r ≡ runOf (readEntries w v count start 12 (drop 12 b))
   pub inside : endOf r ≤ length b
   pub frame : Frame work work′
 
 -- ---- entry number k
 
 -- the entry that was sought
-abbrev pub soughtIn : ℕ → List ℕ → List ℕ → Sought → Option Entry
-soughtIn v b work (S.Bad n p) = none
-soughtIn v b work (S.Good at st) = some (entryAt v b work at st)
+abbrev pub soughtIn : ℕ → ℕ → List ℕ → List ℕ → Sought → Option Entry
+soughtIn w v b work (S.Bad n p) = none
+soughtIn w v b work (S.Good at st) = some (entryAt w v b work at st)
 
 -- where the parts of the entry at a place are
-pub record EntryPlaced (b : List ℕ) (at : ℕ) (st : Step) : Type 0 where
-  pub fixed : at + 62 ≤ length b
+pub record EntryPlaced (w : ℕ) (b : List ℕ) (at : ℕ) (st : Step) : Type 0 where
+  pub fixed : at + (40 + w) ≤ length b
   pub name : st .next .start + st .next .len ≤ length b
   pub short : st .next .len ≤ 8192
   pub stage : st .next .stage ≡ st .flags / 4096 % 4
 
 -- of a body with more than k entries, entry k was found: its place and, in versions 2 and 3, that of its name
-pub record SeekAnswered (v : ℕ) (b work : List ℕ) (k : ℕ) (work′ : List ℕ) (r : Sought) : Type 0 where
-  pub entry : (count : ℕ) (es : List Entry) (m : ℕ) → EntriesRead v count b es m → k < count → getElem? es k ≡ soughtIn v b work′ r
-  pub placed : (at : ℕ) (st : Step) → r ≡ S.Good at st → EntryPlaced b at st
-  pub place : (at : ℕ) (st : Step) → r ≡ S.Good at st → at ≡ entryPlace 20 v k b
-  pub name : (at : ℕ) (st : Step) → r ≡ S.Good at st → eqb v 4 ≡ false → st .next .start ≡ namePlace 20 at b
+pub record SeekAnswered (w : ℕ) (v : ℕ) (b work : List ℕ) (k : ℕ) (work′ : List ℕ) (r : Sought) : Type 0 where
+  pub entry : (count : ℕ) (es : List Entry) (m : ℕ) → EntriesRead w v count b es m → k < count → getElem? es k ≡ soughtIn w v b work′ r
+  pub placed : (at : ℕ) (st : Step) → r ≡ S.Good at st → EntryPlaced w b at st
+  pub place : (at : ℕ) (st : Step) → r ≡ S.Good at st → at ≡ entryPlace w v k b
+  pub name : (at : ℕ) (st : Step) → r ≡ S.Good at st → eqb v 4 ≡ false → st .next .start ≡ namePlace w at b
   pub frame : Frame work work′

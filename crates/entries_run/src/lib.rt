@@ -6,6 +6,7 @@ ghost use Prim.Native.Nat.{ℕ, _+_, _-_, _≤_};
 ghost use lib.ListN.{length, take, drop};
 ghost use lib.Dec.{eqb};
 ghost use Rattle.format.specs.Reader.{readEntry};
+ghost use Rattle.entries.specs.Answers.{Size};
 ghost use Rattle.entries_run.specs.Steps.{nameAt, keyAt, cursorOf, StandingOf, NameRebuilt, Room, Inside, HeadAt, HeadRead, NumberAt, KnownBegun, StepAnswered, StepRepeated, StepTested, stepOf, readRest, EntryStepped, EntryPassed, firstCursor, RunAnswered, SeekAnswered};
 use entries::Fixed;
 use entries::Head;
@@ -154,7 +155,7 @@ fn suffix(
     known: bool,
 ) -> Next
     requires { ⌜ NumberAt (now b) (now work) c h n took × KnownBegun known (take (c .len) (now work)) ⌝ }
-    ensures { λ r. ⌜ StepTested again (readRest 4 (now (b .entry)) (now (work .entry)) c h) 4 (now (b .entry)) (now (work .entry)) c (now (work .exit)) r ⌝ }
+    ensures { λ r. ⌜ ((w : ℕ) → Size w (drop (c .at) (now (b .entry))) h → StepTested w again (readRest w 4 (now (b .entry)) (now (work .entry)) c h) 4 (now (b .entry)) (now (work .entry)) c (now (work .exit)) r) ⌝ }
 {
     let at = c.at + h.length + took;
     let z = fields::find(b, at, 0);
@@ -186,7 +187,7 @@ fn suffix(
 // The rest of an entry of version 4 after the bytes h. One that was read before is not tested again.
 fn packed(b: &[u8], work: &mut [u8], c: Cursor, h: Head, again: bool, known: bool) -> Next
     requires { ⌜ HeadAt (now b) c h × (8192 ≤ length (now work)) × KnownBegun known (take (c .len) (now work)) ⌝ }
-    ensures { λ r. ⌜ StepTested again (readRest 4 (now (b .entry)) (now (work .entry)) c h) 4 (now (b .entry)) (now (work .entry)) c (now (work .exit)) r ⌝ }
+    ensures { λ r. ⌜ ((w : ℕ) → Size w (drop (c .at) (now (b .entry))) h → StepTested w again (readRest w 4 (now (b .entry)) (now (work .entry)) c h) 4 (now (b .entry)) (now (work .entry)) c (now (work .exit)) r) ⌝ }
 {
     let m = entries::read_n(b, c.at + h.length, c.len);
     match m {
@@ -198,7 +199,7 @@ fn packed(b: &[u8], work: &mut [u8], c: Cursor, h: Head, again: bool, known: boo
 // The rest of an entry of version 2 or 3 after the bytes h.
 fn plain(b: &[u8], c: Cursor, h: Head, known: bool) -> Next
     requires { ⌜ HeadAt (now b) c h × KnownBegun known (take (c .len) (drop (c .start) (now b))) ⌝ }
-    ensures { λ r. ⌜ ((v : ℕ) (work : List ℕ) → eqb v 4 ≡ false → StepAnswered (readRest v (now (b .entry)) work c h) v (now (b .entry)) work c work r) ⌝ }
+    ensures { λ r. ⌜ ((w v : ℕ) (work : List ℕ) → Size w (drop (c .at) (now (b .entry))) h → eqb v 4 ≡ false → StepAnswered w (readRest w v (now (b .entry)) work c h) v (now (b .entry)) work c work r) ⌝ }
 {
     let at = c.at + h.length;
     let field = h.flags % 4096;
@@ -227,7 +228,7 @@ fn plain(b: &[u8], c: Cursor, h: Head, known: bool) -> Next
 // The same of an entry that was read before.
 fn pass_plain(b: &[u8], c: Cursor, h: Head) -> Next
     requires { ⌜ HeadAt (now b) c h ⌝ }
-    ensures { λ r. ⌜ ((v : ℕ) (work : List ℕ) → eqb v 4 ≡ false → StepRepeated (readRest v (now (b .entry)) work c h) v (now (b .entry)) work c work r) ⌝ }
+    ensures { λ r. ⌜ ((w v : ℕ) (work : List ℕ) → Size w (drop (c .at) (now (b .entry))) h → eqb v 4 ≡ false → StepRepeated w (readRest w v (now (b .entry)) work c h) v (now (b .entry)) work c work r) ⌝ }
 {
     let at = c.at + h.length;
     let t = entries::pass_plain(b, at, h.length, h.flags % 4096);
@@ -244,14 +245,14 @@ fn pass_plain(b: &[u8], c: Cursor, h: Head) -> Next
 }
 
 // The bytes before the name of the entry at a place. Those that were read before are not tested again.
-fn head_at(b: &[u8], at: usize, v: u32, again: bool) -> Fixed
-    requires { ⌜ at ≤ length (now b) ⌝ }
-    ensures { λ r. ⌜ HeadRead again v (now (b .entry)) at r ⌝ }
+fn head_at(b: &[u8], at: usize, v: u32, again: bool, w: usize) -> Fixed
+    requires { ⌜ (at ≤ length (now b)) × (w ≤ 32) ⌝ }
+    ensures { λ r. ⌜ HeadRead w again v (now (b .entry)) at r ⌝ }
 {
     if again {
-        return entries::pass_fixed(b, at);
+        return entries::pass_fixed(b, at, w);
     }
-    entries::read_fixed(b, at, v)
+    entries::read_fixed(b, at, v, w)
 }
 
 // The entry at the cursor that these numbers make. The mode, the name, the order and the NULs after the name of one that was read before are not tested
@@ -266,11 +267,12 @@ fn entry_at(
     stage: u32,
     again: bool,
     known: bool,
+    w: usize,
 ) -> Next
-    requires { ⌜ Inside (now b) (cursorOf at start len stage) × (8192 ≤ length (now work)) × KnownBegun known (nameAt v (now b) (now work) start len) ⌝ }
-    ensures { λ r. ⌜ StepTested again (λ p. readEntry 20 v (keyAt v (now (b .entry)) (now (work .entry)) (cursorOf at start len stage)) p (drop at (now (b .entry)))) v (now (b .entry)) (now (work .entry)) (cursorOf at start len stage) (now (work .exit)) r ⌝ }
+    requires { ⌜ Inside (now b) (cursorOf at start len stage) × (8192 ≤ length (now work)) × KnownBegun known (nameAt v (now b) (now work) start len) × (w ≤ 32) ⌝ }
+    ensures { λ r. ⌜ StepTested w again (λ p. readEntry w v (keyAt v (now (b .entry)) (now (work .entry)) (cursorOf at start len stage)) p (drop at (now (b .entry)))) v (now (b .entry)) (now (work .entry)) (cursorOf at start len stage) (now (work .exit)) r ⌝ }
 {
-    let f = head_at(b, at, v, again);
+    let f = head_at(b, at, v, again, w);
     match f {
         Fixed::Bad(n) => Next::Bad(n),
         Fixed::Good(h) => {
@@ -291,26 +293,26 @@ fn entry_at(
     }
 }
 
-// The entry at a cursor.
-pub fn next_entry(b: &[u8], v: u32, work: &mut [u8], c: Cursor) -> Next
-    requires { ⌜ Inside (now b) c × (8192 ≤ length (now work)) ⌝ }
-    ensures { λ r. ⌜ EntryStepped v (now (b .entry)) (now (work .entry)) c (now (work .exit)) r ⌝ }
+// The entry at a cursor; w is the width of an object name.
+pub fn next_entry(b: &[u8], v: u32, work: &mut [u8], c: Cursor, w: usize) -> Next
+    requires { ⌜ Inside (now b) c × (8192 ≤ length (now work)) × (w ≤ 32) ⌝ }
+    ensures { λ r. ⌜ EntryStepped w v (now (b .entry)) (now (work .entry)) c (now (work .exit)) r ⌝ }
 {
-    entry_at(b, v, work, c.at, c.start, c.len, c.stage, false, false)
+    entry_at(b, v, work, c.at, c.start, c.len, c.stage, false, false, w)
 }
 
 // The entry at a cursor, where one was read before.
-pub fn pass_entry(b: &[u8], v: u32, work: &mut [u8], c: Cursor) -> Next
-    requires { ⌜ Inside (now b) c × (8192 ≤ length (now work)) ⌝ }
-    ensures { λ r. ⌜ EntryPassed v (now (b .entry)) (now (work .entry)) c (now (work .exit)) r ⌝ }
+pub fn pass_entry(b: &[u8], v: u32, work: &mut [u8], c: Cursor, w: usize) -> Next
+    requires { ⌜ Inside (now b) c × (8192 ≤ length (now work)) × (w ≤ 32) ⌝ }
+    ensures { λ r. ⌜ EntryPassed w v (now (b .entry)) (now (work .entry)) c (now (work .exit)) r ⌝ }
 {
-    entry_at(b, v, work, c.at, c.start, c.len, c.stage, true, false)
+    entry_at(b, v, work, c.at, c.start, c.len, c.stage, true, false, w)
 }
 
 // The run of entries of a body: count of them, from its 12th byte on.
-pub fn run_entries(b: &[u8], v: u32, work: &mut [u8], count: u32) -> Run
-    requires { ⌜ Room (now b) (now work) ⌝ }
-    ensures { λ r. ⌜ RunAnswered v (now (b .entry)) (now (work .entry)) count (now (work .exit)) r ⌝ }
+pub fn run_entries(b: &[u8], v: u32, work: &mut [u8], count: u32, w: usize) -> Run
+    requires { ⌜ Room (now b) (now work) × (w ≤ 32) ⌝ }
+    ensures { λ r. ⌜ RunAnswered w v (now (b .entry)) (now (work .entry)) count (now (work .exit)) r ⌝ }
 {
     let mut at: usize = 12;
     let mut start: usize = 0;
@@ -318,7 +320,7 @@ pub fn run_entries(b: &[u8], v: u32, work: &mut [u8], count: u32) -> Run
     let mut stage: u32 = 0;
     let mut left = count;
     while 0 < left {
-        let g = entry_at(b, v, &mut *work, at, start, len, stage, false, true);
+        let g = entry_at(b, v, &mut *work, at, start, len, stage, false, true, w);
         match g {
             Next::Bad(n) => {
                 return Run::Bad(n, at);
@@ -336,14 +338,14 @@ pub fn run_entries(b: &[u8], v: u32, work: &mut [u8], count: u32) -> Run
 }
 
 // Entry number k of a body. Every entry before it is read: an entry's place and, in version 4, its name depend on them.
-pub fn seek_entry(b: &[u8], v: u32, work: &mut [u8], k: u32) -> Sought
-    requires { ⌜ Room (now b) (now work) ⌝ }
-    ensures { λ r. ⌜ SeekAnswered v (now (b .entry)) (now (work .entry)) k (now (work .exit)) r ⌝ }
+pub fn seek_entry(b: &[u8], v: u32, work: &mut [u8], k: u32, w: usize) -> Sought
+    requires { ⌜ Room (now b) (now work) × (w ≤ 32) ⌝ }
+    ensures { λ r. ⌜ SeekAnswered w v (now (b .entry)) (now (work .entry)) k (now (work .exit)) r ⌝ }
 {
     let mut c = first();
     let mut left = k;
     while 0 < left {
-        let g = next_entry(b, v, &mut *work, c);
+        let g = next_entry(b, v, &mut *work, c, w);
         match g {
             Next::Bad(n) => {
                 return Sought::Bad(n, c.at);
@@ -354,7 +356,7 @@ pub fn seek_entry(b: &[u8], v: u32, work: &mut [u8], k: u32) -> Sought
         }
         left -= 1;
     }
-    let last = next_entry(b, v, &mut *work, c);
+    let last = next_entry(b, v, &mut *work, c, w);
     match last {
         Next::Bad(n) => Sought::Bad(n, c.at),
         Next::Good(st) => Sought::Good(c.at, st),

@@ -14,7 +14,7 @@ use Rattle.entries_run.proofs.entry_at.Tie as tie
 read :
     (c : tie.After-f2) →
     let a = c .before .before .before .before .before .args in
-    HeadRead (a .again) (a .v) (a .b .now) (a .at) (F.Good (c .f2 .given .0 .0))
+    HeadRead (a .w) (a .again) (a .v) (a .b .now) (a .at) (F.Good (c .f2 .given .0 .0))
 read c = rw (c .f2 .given .1) at (c .before .before .head-at .ensures)
 
 there :
@@ -24,7 +24,7 @@ there :
 there c =
     let st = c .before .before .before .before .before in
     let t = read c in
-    headed-as (st .args .b .now) _ _ (st .pre .0) (t .sized _ refl) (t .there)
+    headed-as _ (st .args .b .now) _ _ (st .pre .0) (st .pre .3) (t .sized _ refl) (t .there)
 
 head-at-requires : tie.Need-head-at-requires
 head-at-requires c κs = search needs
@@ -51,9 +51,9 @@ returns c =
     let i = k .before .before in
     let t = i .before .before in
     let a = t .before .before .before .before .before .args in
-    tested-by (a .again) _ _ _ _ _ _ _
-    (λ e. step-four (a .v) (a .b .now) (a .work .now) _ _ _ _ (read t .first e) (i .if1 .taken) (k .packed .ensures .first e))
-    (λ e. pass-four (a .v) (a .b .now) (a .work .now) _ _ _ _ (read t .later e) (i .if1 .taken) (k .packed .ensures .later))
+    tested-by _ (a .again) _ _ _ _ _ _ _
+    (λ e. step-four _ (a .v) (a .b .now) (a .work .now) _ _ _ _ (read t .first e) (i .if1 .taken) (k .packed .ensures (a .w) (read t .sized _ refl) .first e))
+    (λ e. pass-four _ (a .v) (a .b .now) (a .work .now) _ _ _ _ (read t .later e) (i .if1 .taken) (k .packed .ensures (a .w) (read t .sized _ refl) .later))
 
 pass-plain-requires : tie.Need-pass-plain-requires
 pass-plain-requires c κs = there (c .before .before .before)
@@ -63,9 +63,9 @@ returns-2 c =
     let i = c .before .before in
     let t = i .before .before in
     let a = t .before .before .before .before .before .args in
-    tested-by (a .again) _ _ _ _ _ _ _
+    tested-by _ (a .again) _ _ _ _ _ _ _
     (λ e. false-true (sym e ∙ c .before .if2 .taken))
-    (λ e. pass-on (a .v) (a .b .now) (a .work .now) _ _ _ _ (read t .later e) (c .pass-plain .ensures (a .v) (a .work .now) (ne-eqb _ _ (i .if1 .left))))
+    (λ e. pass-on _ (a .v) (a .b .now) (a .work .now) _ _ _ _ (read t .later e) (c .pass-plain .ensures (a .w) (a .v) (a .work .now) (read t .sized _ refl) (ne-eqb _ _ (i .if1 .left))))
 
 plain-requires : tie.Need-plain-requires
 plain-requires c κs =
@@ -80,9 +80,9 @@ returns-3 c =
     let h = c .before .before .before in
     let a = h .before .before .before .args in
     let t = rw (c .before .f .given .1) at (h .head-at .ensures) in
-    tested-by (a .again) _ _ _ _ _ _ _
-    (λ e. step-refused (a .v) (a .b .now) (a .work .now) _ _ (t .first e))
-    (λ e. pass-refused (a .v) (a .b .now) (a .work .now) _ _ (t .later e))
+    tested-by _ (a .again) _ _ _ _ _ _ _
+    (λ e. step-refused _ (a .v) (a .b .now) (a .work .now) _ _ (t .first e))
+    (λ e. pass-refused _ (a .v) (a .b .now) (a .work .now) _ _ (t .later e))
 
 returns-4 : tie.Need-returns-4
 returns-4 c =
@@ -90,8 +90,8 @@ returns-4 c =
     let i = o .before in
     let t = i .before .before in
     let a = t .before .before .before .before .before .args in
-    tested _ _ _ _ _ _ _
-    (step-on (a .v) (a .b .now) (a .work .now) _ _ _ _ (read t .first (o .if2 .left)) (c .plain .ensures (a .v) (a .work .now) (ne-eqb _ _ (i .if1 .left))))
+    tested _ _ _ _ _ _ _ _
+    (step-on _ (a .v) (a .b .now) (a .work .now) _ _ _ _ (read t .first (o .if2 .left)) (c .plain .ensures (a .w) (a .v) (a .work .now) (read t .sized _ refl) (ne-eqb _ _ (i .if1 .left))))
     _
 
 pub entry-at-spec : {M : Type 1} → statement M

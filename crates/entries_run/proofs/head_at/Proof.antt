@@ -20,7 +20,7 @@ read-fixed-requires c κs = search needs
 returns-2 : tie.Need-returns-2
 returns-2 c =
     let (is, there) = c .read-fixed .ensures in
-    record { first = λ e. is; later = λ e. false-true (sym (c .before .if1 .left) ∙ e); sized = λ h q. head-size _ 0 _ h (sym (is 0) ∙ q); there = there }
+    record { first = λ e. is; later = λ e. false-true (sym (c .before .if1 .left) ∙ e); sized = λ h q. head-size _ _ 0 _ h (sym (is 0) ∙ q); there = there }
 
 pub head-at-spec : {M : Type 1} → statement M
 head-at-spec = tie.close (tie.spec pass-fixed-requires returns read-fixed-requires returns-2)

@@ -37,7 +37,8 @@ returns c =
     let st = m .before .before .before .before .before in
     let a = st .args in
     let room : a .c .len ≤ length (a .work .now) = omega (arith, st .pre) in
-    tested _ 4 (a .b .now) _ _ _ _ (packed-bad (a .b .now) (a .work .now) (a .c) (a .h) room _ (λ p. sym (c .before .m .given .1) ∙ m .read-n .ensures .0 p)) _
+    λ w sized.
+    tested _ _ 4 (a .b .now) _ _ _ _ (packed-bad (a .b .now) (a .work .now) (a .c) (a .h) room _ _ (λ p. sym (c .before .m .given .1) ∙ m .read-n .ensures .0 p)) _
 
 same-length : tie.Need-same-length
 same-length c = search needs

@@ -5,7 +5,7 @@ use Rattle.entries_run.proofs.pass_entry.Statement.{statement}
 use Rattle.entries_run.proofs.pass_entry.Tie as tie
 
 entry-at-requires : tie.Need-entry-at-requires
-entry-at-requires c κs = let st = c .before .before .before in (st .pre .0, st .pre .1, λ e. false-true e)
+entry-at-requires c κs = let st = c .before .before .before in (st .pre .0, st .pre .1, λ e. false-true e, st .pre .2)
 
 same-length : tie.Need-same-length
 same-length c = search needs

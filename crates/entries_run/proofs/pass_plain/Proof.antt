@@ -67,7 +67,7 @@ returns : tie.Need-returns
 returns c =
     let r = c .before .before .before in
     let a = r .before .before .before .before .before .args in
-    λ v work old. plain-unread v (a .b .now) work old (a .c) (a .h) _ (rw (c .before .t .given .1) at (r .pass-plain .ensures))
+    λ w v work head old. plain-unread _ v (a .b .now) work old (a .c) (a .h) _ (rw (c .before .t .given .1) at (r .pass-plain .ensures))
 
 returns-2 : tie.Need-returns-2
 returns-2 c =
@@ -75,9 +75,9 @@ returns-2 c =
     let t = k .before .before .before .before .before in
     let r = t .before .before in
     let st = r .before .before .before .before .before in
-    λ v work old.
+    λ w v work head old.
     rw (c .step-of .ensures)
-    (plain-passed v (st .args .b .now) work old (st .args .c) (st .args .h) _ _ _ (st .pre) (rw (t .t2 .given .1) at (r .pass-plain .ensures)) (k .common .ensures .0))
+    (plain-passed _ v (st .args .b .now) work old (st .args .c) (st .args .h) _ _ _ (st .pre) (rw (t .t2 .given .1) at (r .pass-plain .ensures)) (k .common .ensures .0) head)
 
 pub pass-plain-spec : {M : Type 1} → statement M
 pass-plain-spec =

@@ -40,7 +40,7 @@ returns : tie.Need-returns
 returns c =
     let p = c .before in
     let a = p .before .before .before .before .before .args in
-    λ v work old. plain-bad v (a .b .now) work old (a .c) (a .h) _ (λ i. plain-cut (a .b .now) _ _ _ i _ (p .plain-length .ensures .0) (c .if1 .taken))
+    λ w v work head old. plain-bad _ v (a .b .now) work old (a .c) (a .h) _ (λ i. plain-cut (a .b .now) _ _ _ i _ (p .plain-length .ensures .0) (c .if1 .taken))
 
 add-e : tie.Need-add-e
 add-e c = search needs
@@ -99,16 +99,16 @@ step-of-requires : tie.Need-step-of-requires
 step-of-requires c κs = search needs
 
 returns-2 : tie.Need-returns-2
-returns-2 c = λ v work old. rw (c .step-of .ensures) (plain-good v _ work old _ _ _ _ _ (compared (c .before .before .before)) (c .before .if2 .taken))
+returns-2 c = λ w v work head old. rw (c .step-of .ensures) (plain-good _ v _ work old _ _ _ _ _ (compared (c .before .before .before)) head (c .before .if2 .taken))
 
 returns-3 : tie.Need-returns-3
 returns-3 c =
     let r = c .before .before .before in
     let a = r .before .before .before .before .before .before .before .before .before .before .before .before .before .args in
-    λ v work old. plain-bad v (a .b .now) work old (a .c) (a .h) _ (λ i. sym (c .before .t .given .1) ∙ r .read-named .ensures .0 i)
+    λ w v work head old. plain-bad _ v (a .b .now) work old (a .c) (a .h) _ (λ i. sym (c .before .t .given .1) ∙ r .read-named .ensures .0 i)
 
 returns-4 : tie.Need-returns-4
-returns-4 c = λ v work old. plain-order v _ work old _ _ _ _ _ (compared (c .before .before)) (c .if2 .left)
+returns-4 c = λ w v work head old. plain-order _ v _ work old _ _ _ _ _ (compared (c .before .before)) (c .if2 .left)
 
 pub plain-spec : {M : Type 1} → statement M
 plain-spec =

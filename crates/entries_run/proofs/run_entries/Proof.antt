@@ -13,20 +13,20 @@ use Rattle.entries_run.proofs.run_entries.Statement.{statement}
 use Rattle.entries_run.proofs.run_entries.Tie as tie
 
 abbrev Inv-loop : tie.InvT-loop
-Inv-loop b v work₀ count at₀ start₀ len₀ stage₀ left₀ work at start len stage left =
-    ((es : List Entry) × Walking v b work₀ es work (cursorOf at start len stage) × (length es + left ≡ count)) × Begun (nameAt v b work start len)
+Inv-loop b v work₀ count w at₀ start₀ len₀ stage₀ left₀ work at start len stage left =
+    ((es : List Entry) × Walking w v b work₀ es work (cursorOf at start len stage) × (length es + left ≡ count)) × Begun (nameAt v b work start len)
 
 abbrev μ-loop : tie.MeasureT-loop
-μ-loop b v work₀ count at₀ start₀ len₀ stage₀ left₀ work at start len stage left = left
+μ-loop b v work₀ count w at₀ start₀ len₀ stage₀ left₀ work at start len stage left = left
 
 loop-holds : tie.Need-loop-holds Inv-loop μ-loop
 loop-holds c =
     let st = c .before .before in
     let a = st .args in
-    (([], walking-first (a .v) (a .b .now) (a .work .now) (st .pre), omega arith), begun-first (a .v) (a .b .now) (a .work .now))
+    (([], walking-first _ (a .v) (a .b .now) (a .work .now) (st .pre .0), omega arith), begun-first (a .v) (a .b .now) (a .work .now))
 
 entry-at-requires : tie.Need-entry-at-requires Inv-loop μ-loop
-entry-at-requires c κs = let l = c .before .before .loop in (l .inv .0 .1 .inside, omega arith, λ e. l .inv .1)
+entry-at-requires c κs = let l = c .before .before .loop in (l .inv .0 .1 .inside, omega arith, λ e. l .inv .1, omega arith)
 
 enum-known-g : tie.Need-enum-known-g Inv-loop μ-loop
 enum-known-g c = search needs
@@ -56,7 +56,7 @@ loop-again c =
     let a = l .before .before .before .args in
     let (es, h, sum) = l .loop .inv .0 in
     let step = rw (c .before .g2 .given .1) at (e .entry-at .ensures) .first refl in
-    ((_, walking-more h step, rw length-append (omega (arith, sum))), begun-next (a .v) (a .b .now) (l .loop .work) _ _ _ step)
+    ((_, walking-more h step, rw length-append (omega (arith, sum))), begun-next _ (a .v) (a .b .now) (l .loop .work) _ _ _ step)
 
 same-length-2 : tie.Need-same-length-2 Inv-loop μ-loop
 same-length-2 c = c .before .loop .inv .0 .1 .frame .long

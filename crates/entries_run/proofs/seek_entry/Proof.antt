@@ -11,10 +11,10 @@ use Rattle.entries_run.proofs.seek_entry.Statement.{statement}
 use Rattle.entries_run.proofs.seek_entry.Tie as tie
 
 abbrev Inv-loop : tie.InvT-loop
-Inv-loop b v work₀ k c₀ left₀ work c left = (es : List Entry) × Walking v b work₀ es work c × (length es + left ≡ k)
+Inv-loop b v work₀ k w c₀ left₀ work c left = (es : List Entry) × Walking w v b work₀ es work c × (length es + left ≡ k)
 
 abbrev μ-loop : tie.MeasureT-loop
-μ-loop b v work₀ k c₀ left₀ work c left = left
+μ-loop b v work₀ k w c₀ left₀ work c left = left
 
 first-requires : tie.Need-first-requires Inv-loop μ-loop
 first-requires c κs = search needs
@@ -23,10 +23,10 @@ loop-holds : tie.Need-loop-holds Inv-loop μ-loop
 loop-holds c =
     let st = c .before .before .before in
     let a = st .args in
-    rw (c .first .ensures) ([], walking-first (a .v) (a .b .now) (a .work .now) (st .pre), omega arith)
+    rw (c .first .ensures) ([], walking-first _ (a .v) (a .b .now) (a .work .now) (st .pre .0), omega arith)
 
 next-entry-requires : tie.Need-next-entry-requires Inv-loop μ-loop
-next-entry-requires c κs = (c .before .before .loop .inv .1 .inside, omega arith)
+next-entry-requires c κs = (c .before .before .loop .inv .1 .inside, omega arith, omega arith)
 
 enum-known-g : tie.Need-enum-known-g Inv-loop μ-loop
 enum-known-g c = search needs
@@ -56,7 +56,7 @@ loop-again c =
     (_, walking-more h (rw (c .before .before .g2 .given .1) at (e .next-entry .ensures)), rw length-append (omega (arith, sum)))
 
 next-entry-requires-2 : tie.Need-next-entry-requires-2 Inv-loop μ-loop
-next-entry-requires-2 c κs = (c .before .before .loop .inv .1 .inside, omega arith)
+next-entry-requires-2 c κs = (c .before .before .loop .inv .1 .inside, omega arith, omega arith)
 
 enum-known-last : tie.Need-enum-known-last Inv-loop μ-loop
 enum-known-last c = search needs

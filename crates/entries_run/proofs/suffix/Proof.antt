@@ -34,7 +34,7 @@ find-requires : tie.Need-find-requires
 find-requires c κs = search needs
 
 returns : tie.Need-returns
-returns c = tested _ _ _ _ _ _ _ (suffix-cut _ _ _ _ _ _ _ (ended (c .before)) (c .if1 .taken)) _
+returns c = λ w sized. tested _ _ _ _ _ _ _ _ (suffix-cut _ _ _ _ _ _ _ (ended (c .before)) _ (c .if1 .taken)) _
 
 sub-len : tie.Need-sub-len
 sub-len c = search needs
@@ -46,7 +46,7 @@ add-len : tie.Need-add-len
 add-len c = search needs
 
 returns-2 : tie.Need-returns-2
-returns-2 c = tested _ _ _ _ _ _ _ (suffix-long _ _ _ _ _ _ _ (ended (c .before .before .before)) (c .before .before .if1 .left) (c .if2 .taken)) _
+returns-2 c = λ w sized. tested _ _ _ _ _ _ _ _ (suffix-long _ _ _ _ _ _ _ (ended (c .before .before .before)) (c .before .before .if1 .left) _ (c .if2 .taken)) _
 
 sub-rebuild : tie.Need-sub-rebuild
 sub-rebuild c = search needs
@@ -70,7 +70,7 @@ same-length : tie.Need-same-length
 same-length c = search needs
 
 returns-3 : tie.Need-returns-3
-returns-3 c = rw (c .step-of .ensures, c .before .if3 .taken) (suffix-passed _ _ _ _ _ _ _ _ _ (copied (c .before .before .before .before)))
+returns-3 c = λ w sized. rw (c .step-of .ensures, c .before .if3 .taken) (suffix-passed _ _ _ _ _ _ _ _ _ (copied (c .before .before .before .before)) _ sized)
 
 sub-kept-of : tie.Need-sub-kept-of
 sub-kept-of c = search needs
@@ -113,9 +113,10 @@ returns-4 c =
     let f = c .before .before .before in
     let o = f .before .before .before in
     let g = o .before .before .before .before .before .before .before in
+    λ w sized.
     rw (c .step-of2 .ensures)
-    (tested _ _ _ _ _ _ _
-    (suffix-good _ _ _ _ _ _ _ _ _ (copied g) (sym (o .name-ok-after .ensures) ∙ f .before .before .if4 .taken) (c .before .before .if5 .taken ∙ f .length-field .ensures) (c .before .if6 .taken))
+    (tested _ _ _ _ _ _ _ _
+    (suffix-good _ _ _ _ _ _ _ _ _ (copied g) _ (sym (o .name-ok-after .ensures) ∙ f .before .before .if4 .taken) (c .before .before .if5 .taken ∙ f .length-field .ensures) sized (c .before .if6 .taken))
     _)
 
 same-length-3 : tie.Need-same-length-3
@@ -126,8 +127,9 @@ returns-5 c =
     let f = c .before .before in
     let o = f .before .before .before in
     let g = o .before .before .before .before .before .before .before in
-    tested _ _ _ _ _ _ _
-    (suffix-order _ _ _ _ _ _ _ _ _ (copied g) (sym (o .name-ok-after .ensures) ∙ f .before .before .if4 .taken) (c .before .if5 .taken ∙ f .length-field .ensures) (c .if6 .left))
+    λ w sized.
+    tested _ _ _ _ _ _ _ _
+    (suffix-order _ _ _ _ _ _ _ _ _ (copied g) _ (sym (o .name-ok-after .ensures) ∙ f .before .before .if4 .taken) (c .before .if5 .taken ∙ f .length-field .ensures) (c .if6 .left))
     _
 
 same-length-4 : tie.Need-same-length-4
@@ -138,8 +140,9 @@ returns-6 c =
     let f = c .before in
     let o = f .before .before .before in
     let g = o .before .before .before .before .before .before .before in
-    tested _ _ _ _ _ _ _
-    (suffix-field _ _ _ _ _ _ _ _ _ (copied g) (sym (o .name-ok-after .ensures) ∙ f .before .before .if4 .taken) (λ q. c .if5 .left (q ∙ sym (f .length-field .ensures))))
+    λ w sized.
+    tested _ _ _ _ _ _ _ _
+    (suffix-field _ _ _ _ _ _ _ _ _ (copied g) _ (sym (o .name-ok-after .ensures) ∙ f .before .before .if4 .taken) (λ q. c .if5 .left (q ∙ sym (f .length-field .ensures))))
     _
 
 same-length-5 : tie.Need-same-length-5
@@ -149,7 +152,8 @@ returns-7 : tie.Need-returns-7
 returns-7 c =
     let o = c .before in
     let g = o .before .before .before .before .before .before .before in
-    tested _ _ _ _ _ _ _ (suffix-name _ _ _ _ _ _ _ _ _ (copied g) (sym (o .name-ok-after .ensures) ∙ c .if4 .left)) _
+    λ w sized.
+    tested _ _ _ _ _ _ _ _ (suffix-name _ _ _ _ _ _ _ _ _ (copied g) _ (sym (o .name-ok-after .ensures) ∙ c .if4 .left)) _
 
 pub suffix-spec : {M : Type 1} → statement M
 suffix-spec =
