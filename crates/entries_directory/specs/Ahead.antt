@@ -21,32 +21,32 @@ pub record FrontFits (b : List ℕ) (s : Front) : Type 0 where
   pub few : s .ahead ≤ 4294967296
 
 -- the first name ahead is x, and those after it are xs, which rise
-pub record Ahead (v : ℕ) (b work : List ℕ) (s : Front) (x : List ℕ) (xs : List (List ℕ)) : Type 0 where
+pub record Ahead (w : ℕ) (v : ℕ) (b work : List ℕ) (s : Front) (x : List ℕ) (xs : List (List ℕ)) : Type 0 where
   pub some : 1 ≤ s .ahead
   pub name : nameAt v b work (s .cursor .start) (s .cursor .len) ≡ x
   pub entries : List Entry
   pub taken : ℕ
-  pub reads : RunRead v (s .ahead - 1) b work (s .cursor) entries taken
+  pub reads : RunRead w v (s .ahead - 1) b work (s .cursor) entries taken
   pub rest : names entries ≡ xs
   pub sorted : sortedFrom x xs ≡ true
 
 -- the names ahead after the name last, of which the first has s .common bytes in common with it
-pub data After (v : ℕ) (b work : List ℕ) (s : Front) (last : List ℕ) : List (List ℕ) → Type 0 where
-  after-none : s .ahead ≡ 0 → After v b work s last []
-  after-some : {x : List ℕ} {xs : List (List ℕ)} → Ahead v b work s x xs → s .common ≡ common last x → After v b work s last (x ∷ xs)
+pub data After (w : ℕ) (v : ℕ) (b work : List ℕ) (s : Front) (last : List ℕ) : List (List ℕ) → Type 0 where
+  after-none : s .ahead ≡ 0 → After w v b work s last []
+  after-some : {x : List ℕ} {xs : List (List ℕ)} → Ahead w v b work s x xs → s .common ≡ common last x → After w v b work s last (x ∷ xs)
 
 -- what a step over the first name leaves behind
-pub record FrontAdvanced (v : ℕ) (b work : List ℕ) (s : Front) (work′ : List ℕ) (r : Front) : Type 0 where
+pub record FrontAdvanced (w : ℕ) (v : ℕ) (b work : List ℕ) (s : Front) (work′ : List ℕ) (r : Front) : Type 0 where
   pub fits : FrontFits b r
   pub fewer : r .ahead ≤ s .ahead - 1
   pub frame : Frame work work′
-  pub after : (x : List ℕ) (xs : List (List ℕ)) → Ahead v b work s x xs → After v b work′ r x xs
+  pub after : (x : List ℕ) (xs : List (List ℕ)) → Ahead w v b work s x xs → After w v b work′ r x xs
 
 -- of the names whole, those in the directory q have been passed
-pub record DirectoryPassed (v : ℕ) (b work : List ℕ) (s : Front) (q : List ℕ) (whole : List (List ℕ)) : Type 0 where
+pub record DirectoryPassed (w : ℕ) (v : ℕ) (b work : List ℕ) (s : Front) (q : List ℕ) (whole : List (List ℕ)) : Type 0 where
   pub last : List ℕ
   pub in-it : begins q last ≡ true
-  pub after : After v b work s last (beyond (begins q) whole)
+  pub after : After w v b work s last (beyond (begins q) whole)
 
 -- what any walk past one name or more leaves behind
 pub record FrontMoved (b work : List ℕ) (s : Front) (work′ : List ℕ) (r : Front) : Type 0 where
@@ -55,10 +55,10 @@ pub record FrontMoved (b work : List ℕ) (s : Front) (work′ : List ℕ) (r : 
   pub frame : Frame work work′
 
 -- the same, past the names that begin with the first k bytes of the first one
-pub record FrontPassed (v : ℕ) (b work : List ℕ) (s : Front) (k : ℕ) (work′ : List ℕ) (r : Front) : Type 0 where
+pub record FrontPassed (w : ℕ) (v : ℕ) (b work : List ℕ) (s : Front) (k : ℕ) (work′ : List ℕ) (r : Front) : Type 0 where
   pub gone : FrontMoved b work s work′ r
-  pub passed : (q x : List ℕ) (xs : List (List ℕ)) → Ahead v b work s x xs → begins q x ≡ true → length q ≡ k
-      → DirectoryPassed v b work′ r q (x ∷ xs)
+  pub passed : (q x : List ℕ) (xs : List (List ℕ)) → Ahead w v b work s x xs → begins q x ≡ true → length q ≡ k
+      → DirectoryPassed w v b work′ r q (x ∷ xs)
 
 -- ---- the files of a directory
 
@@ -78,15 +78,15 @@ pub data Files (q : List ℕ) (whole : List (List ℕ)) : List (List ℕ) → Ty
   files-more : {x : List ℕ} {xs : List (List ℕ)} → Files q whole (x ∷ xs) → File q x → Files q whole xs
 
 -- of the names whole, the first, which are files of the directory q, have been passed
-pub record FilesPassed (v : ℕ) (b work : List ℕ) (s : Front) (q : List ℕ) (whole : List (List ℕ)) : Type 0 where
+pub record FilesPassed (w : ℕ) (v : ℕ) (b work : List ℕ) (s : Front) (q : List ℕ) (whole : List (List ℕ)) : Type 0 where
   pub rest : List (List ℕ)
   pub files : Files q whole rest
   pub last : List ℕ
   pub is-file : File q last
-  pub after : After v b work s last rest
+  pub after : After w v b work s last rest
 
 -- what a walk past files of the directory whose name is the first k bytes of the first one leaves behind
-pub record FrontPassedFiles (v : ℕ) (b work : List ℕ) (s : Front) (k : ℕ) (work′ : List ℕ) (r : Front) : Type 0 where
+pub record FrontPassedFiles (w : ℕ) (v : ℕ) (b work : List ℕ) (s : Front) (k : ℕ) (work′ : List ℕ) (r : Front) : Type 0 where
   pub gone : FrontMoved b work s work′ r
-  pub passed : (q x : List ℕ) (xs : List (List ℕ)) → Ahead v b work s x xs → File q x → length q ≡ k
-      → FilesPassed v b work′ r q (x ∷ xs)
+  pub passed : (q x : List ℕ) (xs : List (List ℕ)) → Ahead w v b work s x xs → File q x → length q ≡ k
+      → FilesPassed w v b work′ r q (x ∷ xs)

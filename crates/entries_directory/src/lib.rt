@@ -19,9 +19,9 @@ pub struct Front {
 }
 
 // The next entry. All entries were read before the walk, so that nothing is tested again. One that is not there ends the walk.
-pub fn advance(b: &[u8], v: u32, work: &mut [u8], s: Front) -> Front
-    requires { ⌜ FrontFits (now b) s × (8192 ≤ length (now work)) ⌝ }
-    ensures { λ r. ⌜ FrontAdvanced v (now (b .entry)) (now (work .entry)) s (now (work .exit)) r ⌝ }
+pub fn advance(b: &[u8], v: u32, work: &mut [u8], s: Front, w: usize) -> Front
+    requires { ⌜ FrontFits (now b) s × (8192 ≤ length (now work)) × (w ≤ 32) ⌝ }
+    ensures { λ r. ⌜ FrontAdvanced w v (now (b .entry)) (now (work .entry)) s (now (work .exit)) r ⌝ }
 {
     let c = s.cursor;
     if s.ahead <= 1 {
@@ -31,7 +31,7 @@ pub fn advance(b: &[u8], v: u32, work: &mut [u8], s: Front) -> Front
             common: 0,
         };
     }
-    let g = pass_entry(b, v, work, c);
+    let g = pass_entry(b, v, work, c, w);
     match g {
         Next::Bad(_) => Front {
             cursor: c,
@@ -60,13 +60,13 @@ pub fn stays(s: Front, q: usize) -> bool
 }
 
 // Past all entries that begin with the first q bytes of the first one ahead.
-pub fn pass(b: &[u8], v: u32, work: &mut [u8], s: Front, q: usize) -> Front
-    requires { ⌜ FrontFits (now b) s × (8192 ≤ length (now work)) × (1 ≤ s .ahead) ⌝ }
-    ensures { λ r. ⌜ FrontPassed v (now (b .entry)) (now (work .entry)) s q (now (work .exit)) r ⌝ }
+pub fn pass(b: &[u8], v: u32, work: &mut [u8], s: Front, q: usize, w: usize) -> Front
+    requires { ⌜ FrontFits (now b) s × (8192 ≤ length (now work)) × (1 ≤ s .ahead) × (w ≤ 32) ⌝ }
+    ensures { λ r. ⌜ FrontPassed w v (now (b .entry)) (now (work .entry)) s q (now (work .exit)) r ⌝ }
 {
-    let mut front = advance(b, v, &mut *work, s);
+    let mut front = advance(b, v, &mut *work, s, w);
     while stays(front, q) {
-        front = advance(b, v, &mut *work, front);
+        front = advance(b, v, &mut *work, front, w);
     }
     front
 }
@@ -88,13 +88,13 @@ fn is_file<'a>(b: &'a [u8], v: u32, work: &'a [u8], s: Front, q: usize) -> bool
 }
 
 // Past the files of the directory whose name is the first q bytes of the first one ahead, which is one, up to the first entry that is none.
-pub fn pass_files(b: &[u8], v: u32, work: &mut [u8], s: Front, q: usize) -> Front
-    requires { ⌜ FrontFits (now b) s × (8192 ≤ length (now work)) × (1 ≤ s .ahead) ⌝ }
-    ensures { λ r. ⌜ FrontPassedFiles v (now (b .entry)) (now (work .entry)) s q (now (work .exit)) r ⌝ }
+pub fn pass_files(b: &[u8], v: u32, work: &mut [u8], s: Front, q: usize, w: usize) -> Front
+    requires { ⌜ FrontFits (now b) s × (8192 ≤ length (now work)) × (1 ≤ s .ahead) × (w ≤ 32) ⌝ }
+    ensures { λ r. ⌜ FrontPassedFiles w v (now (b .entry)) (now (work .entry)) s q (now (work .exit)) r ⌝ }
 {
-    let mut front = advance(b, v, &mut *work, s);
+    let mut front = advance(b, v, &mut *work, s, w);
     while is_file(b, v, &work[..], front, q) {
-        front = advance(b, v, &mut *work, front);
+        front = advance(b, v, &mut *work, front, w);
     }
     front
 }

@@ -36,9 +36,9 @@ module _ (v : ℕ) (b work : List ℕ) (c : Cursor) (k : Key) (r : Order) where
   unfolding compareKeys nameAt
   order-plain e n is h = rw (ne-eqb v 4 e, ← is) h
 
-pub key-at : (v : ℕ) (b w : List ℕ) (c : Cursor) (w′ : List ℕ) (st : Step) → StepFound v b w c w′ st → keyOf (entryAt v b w′ (c .at) st) ≡ keyAt v b w′ (st .next)
+pub key-at : (w : ℕ) (v : ℕ) (b work : List ℕ) (c : Cursor) (work′ : List ℕ) (st : Step) → StepFound w v b work c work′ st → keyOf (entryAt w v b work′ (c .at) st) ≡ keyAt v b work′ (st .next)
 unfolding entryOf
-key-at v b w c w′ st f = ap (λ (n : ℕ). record { name = nameAt v b w′ (st .next .start) (st .next .len); stage = n }) (sym (f .stage))
+key-at w v b work c work′ st f = ap (λ (n : ℕ). record { name = nameAt v b work′ (st .next .start) (st .next .len); stage = n }) (sym (f .stage))
 
 -- ---- entries that all are before the key
 
@@ -65,28 +65,28 @@ module _ (k : Key) (es : List Entry) (x : Entry) (all-before : rank k es ≡ len
 -- ---- the search
 
 -- n entries have been passed, and all of them are before the key k
-pub record Searching (v : ℕ) (b work₀ : List ℕ) (k : Key) (n : ℕ) (w : List ℕ) (c : Cursor) : Type 0 where
+pub record Searching (w : ℕ) (v : ℕ) (b work₀ : List ℕ) (k : Key) (n : ℕ) (work : List ℕ) (c : Cursor) : Type 0 where
   pub entries : List Entry
-  pub walking : Walking v b work₀ entries w c
+  pub walking : Walking w v b work₀ entries work c
   pub many : length entries ≡ n
   pub before : rank k entries ≡ n
 
-pub search-first : (v : ℕ) (b w : List ℕ) (k : Key) → Room b w → Searching v b w k 0 w firstCursor
+pub search-first : (w : ℕ) (v : ℕ) (b work : List ℕ) (k : Key) → Room b work → Searching w v b work k 0 work firstCursor
 unfolding rank
-search-first v b w k room = record { entries = []; walking = walking-first v b w room; many = refl; before = refl }
+search-first w v b work k room = record { entries = []; walking = walking-first w v b work room; many = refl; before = refl }
 
-module _ {v : ℕ} {b work₀ : List ℕ} {k : Key} {n : ℕ} {w : List ℕ} {c : Cursor} (h : Searching v b work₀ k n w c) where
+module _ {w : ℕ} {v : ℕ} {b work₀ : List ℕ} {k : Key} {n : ℕ} {work : List ℕ} {c : Cursor} (h : Searching w v b work₀ k n work c) where
   abbrev es : List Entry
   es = h .entries
 
   -- no entry is left
-  pub search-end : {count : ℕ} → n ≡ count → PlaceFound v b work₀ count k w (record { before = n; there = false })
+  pub search-end : {count : ℕ} → n ≡ count → PlaceFound w v b work₀ count k work (record { before = n; there = false })
   unfolding startsWith
   search-end {count} all-of =
       record {
         is = λ all m q.
-            let read = ap (λ (i : ℕ). readEntries 20 v i start 12 (drop 12 b)) (h .many ∙ all-of) in
-            good-inv _ _ _ _ (sym (walked-end v b es w c (h .walking .walked)) ∙ read ∙ q) λ is l.
+            let read = ap (λ (i : ℕ). readEntries w v i start 12 (drop 12 b)) (h .many ∙ all-of) in
+            good-inv _ _ _ _ (sym (walked-end w v b es work c (h .walking .walked)) ∙ read ∙ q) λ is l.
             let at : rank k all ≡ length all = ap (rank k) (sym is) ∙ h .before ∙ sym (h .many) ∙ ap length is in
             (sym (h .before) ∙ ap (rank k) is, rw (at, drop-length all));
         few = omega arith;
@@ -94,25 +94,25 @@ module _ {v : ℕ} {b work₀ : List ℕ} {k : Key} {n : ℕ} {w : List ℕ} {c 
       }
 
   -- where all entries were read, those from the cursor on were
-  pub search-left : {count : ℕ} → n ≤ count → AllRead v count b → Readable v (count - n) b w c
-  search-left {count} few all = rw (h .many) at (walked-left v b es w c (h .walking .walked) count (omega (arith, h .many)) all)
+  pub search-left : {count : ℕ} → n ≤ count → AllRead w v count b → Readable w v (count - n) b work c
+  search-left {count} few all = rw (h .many) at (walked-left w v b es work c (h .walking .walked) count (omega (arith, h .many)) all)
 
-  module _ {count : ℕ} {w′ : List ℕ} (more : n < count) where
+  module _ {count : ℕ} {work′ : List ℕ} (more : n < count) where
     -- the next entry compares to the key as o says
-    module _ {st : Step} (t : EntryStepped v b w c w′ (N.Good st)) {o : Order} (e : o ≡ compareKeys (keyAt v b w′ (st .next)) k) where
+    module _ {st : Step} (t : EntryStepped w v b work c work′ (N.Good st)) {o : Order} (e : o ≡ compareKeys (keyAt v b work′ (st .next)) k) where
       abbrev next : Entry
-      next = entryAt v b w′ (c .at) st
+      next = entryAt w v b work′ (c .at) st
 
       order-is : o ≡ compareKeys (keyOf next) k
-      order-is = e ∙ ap (λ (x : Key). compareKeys x k) (sym (key-at v b w c w′ st (t .found st refl)))
+      order-is = e ∙ ap (λ (x : Key). compareKeys x k) (sym (key-at w v b work c work′ st (t .found st refl)))
 
       all-before : rank k es ≡ length es
       all-before = h .before ∙ sym (h .many)
 
-      on : Walking v b work₀ (es ++ (next ∷ [])) w′ (st .next)
+      on : Walking w v b work₀ (es ++ (next ∷ [])) work′ (st .next)
       on = walking-more (h .walking) t
 
-      pub search-more : isBelow o ≡ true → Searching v b work₀ k (n + 1) w′ (st .next)
+      pub search-more : isBelow o ≡ true → Searching w v b work₀ k (n + 1) work′ (st .next)
       search-more below =
           record {
             entries = _;
@@ -122,12 +122,12 @@ module _ {v : ℕ} {b work₀ : List ℕ} {k : Key} {n : ℕ} {w : List ℕ} {c 
           }
 
       -- it has the key, or is after it
-      pub search-stop : isBelow o ≡ false → PlaceFound v b work₀ count k w′ (record { before = n; there = isSame o })
+      pub search-stop : isBelow o ≡ false → PlaceFound w v b work₀ count k work′ (record { before = n; there = isSame o })
       search-stop not-below =
           record {
             is = λ all m q.
                 let few : length (es ++ (next ∷ [])) ≤ count = rw length-append (omega (arith, h .many)) in
-                let begins : es ++ (next ∷ []) ≡ take (length (es ++ (next ∷ []))) all = walked-take v b _ w′ (st .next) (on .walked) count all m q few in
+                let begins : es ++ (next ∷ []) ≡ take (length (es ++ (next ∷ []))) all = walked-take w v b _ work′ (st .next) (on .walked) count all m q few in
                 let gs : List Entry = drop (length (es ++ (next ∷ []))) all in
                 let parts : all ≡ es ++ (next ∷ gs) =
                 sym (take-append-drop (length (es ++ (next ∷ []))) all) ∙ ap (λ (l : List Entry). l ++ gs) (sym begins) ∙ append-assoc es (next ∷ []) gs in

@@ -87,19 +87,19 @@ holds-is k a (x ∷ xs) h =
 
 -- ---- entries that are read rise
 
-pub read-rising : (w v n : ℕ) (k : Key) (p : ℕ) (s : List ℕ) (es : List Entry) (m : ℕ) → readEntries w v n k p s ≡ good es m → rising k es ≡ true
+pub read-rising : (work v n : ℕ) (k : Key) (p : ℕ) (s : List ℕ) (es : List Entry) (m : ℕ) → readEntries work v n k p s ≡ good es m → rising k es ≡ true
 unfolding readEntries rising goesBefore
-read-rising w v zero k p s es m q = good-inv _ _ _ _ q (λ is l. rw (← is))
-read-rising w v (suc n) k p s es m q =
+read-rising work v zero k p s es m q = good-inv _ _ _ _ q (λ is l. rw (← is))
+read-rising work v (suc n) k p s es m q =
     bind-inv _ _ _ _ q λ e i j first q₁ sum.
     bind-inv _ _ _ _ q₁ λ fs c d rest q₂ sum₁.
     good-inv _ _ _ _ q₂ λ is l.
-    rw (← is, entry-rises w v k p s e i first) (read-rising w v n (keyOf e) (p + i) (drop i s) fs c rest)
+    rw (← is, entry-rises work v k p s e i first) (read-rising work v n (keyOf e) (p + i) (drop i s) fs c rest)
 
 -- ---- the same from the place that was found
 
-module _ (v : ℕ) (b work : List ℕ) (count : ℕ) (k : Key) (work′ : List ℕ) (r : Place) (h : PlaceFound v b work count k work′ r) (es : List Entry) (m : ℕ)
-    (q : EntriesRead v count b es m) where
+module _ (w : ℕ) (v : ℕ) (b work : List ℕ) (count : ℕ) (k : Key) (work′ : List ℕ) (r : Place) (h : PlaceFound w v b work count k work′ r) (es : List Entry) (m : ℕ)
+    (q : EntriesRead w v count b es m) where
   pub put-at : (e : Entry) → keyOf e ≡ k → putEntry e es ≡ take (r .before) es ++ (e ∷ drop (r .before + bit (r .there)) es)
   put-at e is = let (before, there) = h .is es m q in rw (before, there, ← is) (put-is e es)
 
@@ -107,4 +107,4 @@ module _ (v : ℕ) (b work : List ℕ) (count : ℕ) (k : Key) (work′ : List �
   remove-at found = let (before, there) = h .is es m q in rw before (remove-is k es (sym there ∙ found))
 
   pub holds-at : holds k es ≡ r .there
-  holds-at = let (before, there) = h .is es m q in holds-is k start es (read-rising 20 v count start 12 (drop 12 b) es m q) ∙ sym there
+  holds-at = let (before, there) = h .is es m q in holds-is k start es (read-rising w v count start 12 (drop 12 b) es m q) ∙ sym there

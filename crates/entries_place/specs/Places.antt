@@ -45,7 +45,7 @@ rising k [] = true
 rising k (x ∷ xs) = goesBefore k (keyOf x) && rising (keyOf x) xs
 
 -- the place of the key k among the first count entries of the body b, and what the search leaves of the workspace
-pub record PlaceFound (v : ℕ) (b work : List ℕ) (count : ℕ) (k : Key) (work′ : List ℕ) (r : Place) : Type 0 where
-  pub is : (es : List Entry) (m : ℕ) → EntriesRead v count b es m → (r .before ≡ rank k es) × (r .there ≡ isThere k es)
+pub record PlaceFound (w : ℕ) (v : ℕ) (b work : List ℕ) (count : ℕ) (k : Key) (work′ : List ℕ) (r : Place) : Type 0 where
+  pub is : (es : List Entry) (m : ℕ) → EntriesRead w v count b es m → (r .before ≡ rank k es) × (r .there ≡ isThere k es)
   pub few : r .before + bit (r .there) ≤ count
   pub frame : Frame work work′

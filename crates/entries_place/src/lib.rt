@@ -50,14 +50,22 @@ fn order_at(b: &[u8], v: u32, work: &[u8], c: Cursor, name: &[u8], stage: u32) -
 }
 
 // Where an entry of this name and stage is, or would be, among the first count entries of a body, which were read before.
-pub fn find_place(b: &[u8], v: u32, work: &mut [u8], count: u32, name: &[u8], stage: u32) -> Place
-    requires { ⌜ Room (now b) (now work) × AllRead v count (now b) ⌝ }
-    ensures { λ r. ⌜ PlaceFound v (now (b .entry)) (now (work .entry)) count (record { name = now (name .entry); stage = stage }) (now (work .exit)) r ⌝ }
+pub fn find_place(
+    b: &[u8],
+    v: u32,
+    work: &mut [u8],
+    count: u32,
+    name: &[u8],
+    stage: u32,
+    w: usize,
+) -> Place
+    requires { ⌜ Room (now b) (now work) × AllRead w v count (now b) × (w ≤ 32) ⌝ }
+    ensures { λ r. ⌜ PlaceFound w v (now (b .entry)) (now (work .entry)) count (record { name = now (name .entry); stage = stage }) (now (work .exit)) r ⌝ }
 {
     let mut c = entries_run::first();
     let mut before = 0;
     while before < count {
-        let g = entries_run::pass_entry(b, v, &mut *work, c);
+        let g = entries_run::pass_entry(b, v, &mut *work, c, w);
         match g {
             Next::Bad(_) => {
                 return Place {

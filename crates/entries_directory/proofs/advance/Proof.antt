@@ -12,7 +12,7 @@ returns c = record {
   fits = fits-end _ _ (c .before .before .before .before .before .pre .0);
   fewer = omega arith;
   frame = frame-same _;
-  after = step-end _ _ _ _ _ _ refl (c .if1 .taken);
+  after = step-end _ _ _ _ _ _ _ refl (c .if1 .taken);
 }
 
 pass-entry-requires : tie.Need-pass-entry-requires
@@ -23,9 +23,6 @@ enum-told c = search needs
 
 enum-known-g : tie.Need-enum-known-g
 enum-known-g c = search needs
-
-sub-t13 : tie.Need-sub-t13
-sub-t13 c = search needs
 
 same-length : tie.Need-same-length
 same-length c = search needs
@@ -38,7 +35,7 @@ returns-2 c =
       fits = fits-end _ _ (e .before .before .before .before .before .before .before .pre .0);
       fewer = omega arith;
       frame = t .frame;
-      after = λ x xs h. step-bad _ _ _ (e .before .before .before .before .before .before .before .args .s) _ (e .before .before .if1 .left) _ t x xs h;
+      after = λ x xs h. step-bad _ _ _ _ (e .before .before .before .before .before .before .before .args .s) _ (e .before .before .if1 .left) _ t x xs h;
     }
 
 same-length-2 : tie.Need-same-length-2
@@ -50,11 +47,14 @@ returns-3 c =
     let e = g .before .before .before .before in
     let t = rw (g .g .given .1) at (e .pass-entry .ensures) in
     record {
-      fits = step-fits _ _ _ (e .before .before .before .before .before .before .before .args .s) _ (e .before .before .if1 .left) _ t (e .before .before .before .before .before .before .before .pre .0);
+      fits = step-fits _ _ _ _ (e .before .before .before .before .before .before .before .args .s) _ (e .before .before .if1 .left) _ t (e .before .before .before .before .before .before .before .pre .0);
       fewer = omega arith;
       frame = t .frame;
-      after = step-on _ _ _ (e .before .before .before .before .before .before .before .args .s) _ (e .before .before .if1 .left) _ t;
+      after = step-on _ _ _ _ (e .before .before .before .before .before .before .before .args .s) _ (e .before .before .if1 .left) _ t;
     }
+
+sub-t14 : tie.Need-sub-t14
+sub-t14 c = search needs
 
 pub advance-spec : {M : Type 1} → statement M
 advance-spec =
@@ -64,7 +64,7 @@ advance-spec =
     pass-entry-requires
     enum-told
     enum-known-g
-    sub-t13
+    sub-t14
     same-length
     returns-2
     same-length-2

@@ -14,24 +14,24 @@ use Rattle.entries_directory.proofs.pass.Statement.{statement}
 use Rattle.entries_directory.proofs.pass.Tie as tie
 
 abbrev Inv-loop : tie.InvT-loop
-Inv-loop b v work₀ q front₀ work front =
+Inv-loop b v work₀ q w front₀ work front =
     Going b work₀ front₀ work front
-    × ((last : List ℕ) (xs : List (List ℕ)) (p : List ℕ) → After v b work₀ front₀ last xs → begins p last ≡ true → length p ≡ q → Passing v b work front p xs)
+    × ((last : List ℕ) (xs : List (List ℕ)) (p : List ℕ) → After w v b work₀ front₀ last xs → begins p last ≡ true → length p ≡ q → Passing w v b work front p xs)
 
 abbrev μ-loop : tie.MeasureT-loop
-μ-loop b v work₀ q front₀ work front = front .ahead
+μ-loop b v work₀ q w front₀ work front = front .ahead
 
 advance-requires : tie.Need-advance-requires Inv-loop μ-loop
 advance-requires c κs = search needs
 
 loop-holds : tie.Need-loop-holds Inv-loop μ-loop
-loop-holds c = (going-start _ _ _ _ _ _ (c .before .before .advance .ensures) (c .before .before .before .before .before .before .pre .1), λ last xs p h i e. pass-start _ _ p xs _ _ last h i)
+loop-holds c = (going-start _ _ _ _ _ _ _ (c .before .before .advance .ensures) (c .before .before .before .before .before .before .pre .1), λ last xs p h i e. pass-start _ _ _ p xs _ _ last h i)
 
 stays-requires : tie.Need-stays-requires Inv-loop μ-loop
 stays-requires c κs = search needs
 
 advance-requires-2 : tie.Need-advance-requires-2 Inv-loop μ-loop
-advance-requires-2 c κs = let h = c .before .before .before .loop .inv .0 in (h .fits, h .room)
+advance-requires-2 c κs = let h = c .before .before .before .loop .inv .0 in (h .fits, h .room, omega arith)
 
 loop-less : tie.Need-loop-less Inv-loop μ-loop
 loop-less c =
@@ -48,8 +48,8 @@ loop-again c =
     let st = l .before .before .before .before .before .before .before in
     let t = a .advance2 .ensures in
     let on = sym (a .before .before .before .stays .ensures) ∙ a .before .before .if1 .taken in (
-      going-on _ _ _ _ _ _ _ _ (l .loop .inv .0) t,
-      λ last xs p h i e. pass-on _ _ p xs _ _ (l .loop .inv .1 last xs p h i e) _ _ (ap (λ (k : ℕ). ltb 0 (l .loop .front .ahead) && leb k (l .loop .front .common)) e ∙ on) t,
+      going-on _ _ _ _ _ _ _ _ _ (l .loop .inv .0) t,
+      λ last xs p h i e. pass-on _ _ _ p xs _ _ (l .loop .inv .1 last xs p h i e) _ _ (ap (λ (k : ℕ). ltb 0 (l .loop .front .ahead) && leb k (l .loop .front .common)) e ∙ on) t,
     )
 
 same-length : tie.Need-same-length Inv-loop μ-loop
@@ -62,10 +62,10 @@ returns c =
     let st = l .before .before .before .before .before .before .before in
     let off = sym (c .before .stays .ensures) ∙ c .if1 .left in
     record {
-      gone = going-end _ _ _ _ _ _ t (st .pre .2) _ _ (l .loop .inv .0);
+      gone = going-end _ _ _ _ _ _ _ t (st .pre .2) _ _ (l .loop .inv .0);
       passed = λ p x xs h i e.
           let g = l .loop .inv .1 x xs p (t .after x xs h) i e in
-          pass-end _ _ p xs _ _ g x i (ap (λ (k : ℕ). ltb 0 (l .loop .front .ahead) && leb k (l .loop .front .common)) e ∙ off);
+          pass-end _ _ _ p xs _ _ g x i (ap (λ (k : ℕ). ltb 0 (l .loop .front .ahead) && leb k (l .loop .front .common)) e ∙ off);
     }
 
 pub pass-spec : {M : Type 1} → statement M

@@ -11,27 +11,27 @@ use Rattle.entries_directory.proofs.pass_files.Statement.{statement}
 use Rattle.entries_directory.proofs.pass_files.Tie as tie
 
 abbrev Inv-loop : tie.InvT-loop
-Inv-loop b v work₀ q front₀ work front =
+Inv-loop b v work₀ q w front₀ work front =
     Going b work₀ front₀ work front
-    × ((p x : List ℕ) (xs : List (List ℕ)) → After v b work₀ front₀ x xs → File p x → length p ≡ q → FilesPassed v b work front p (x ∷ xs))
+    × ((p x : List ℕ) (xs : List (List ℕ)) → After w v b work₀ front₀ x xs → File p x → length p ≡ q → FilesPassed w v b work front p (x ∷ xs))
 
 abbrev μ-loop : tie.MeasureT-loop
-μ-loop b v work₀ q front₀ work front = front .ahead
+μ-loop b v work₀ q w front₀ work front = front .ahead
 
 advance-requires : tie.Need-advance-requires Inv-loop μ-loop
 advance-requires c κs = search needs
 
 loop-holds : tie.Need-loop-holds Inv-loop μ-loop
 loop-holds c = (
-  going-start _ _ _ _ _ _ (c .before .before .advance .ensures) (c .before .before .before .before .before .before .pre .1),
-  λ p x xs h i e. files-start _ _ p _ _ x xs h i,
+  going-start _ _ _ _ _ _ _ (c .before .before .advance .ensures) (c .before .before .before .before .before .before .pre .1),
+  λ p x xs h i e. files-start _ _ _ p _ _ x xs h i,
 )
 
 is-file-requires : tie.Need-is-file-requires Inv-loop μ-loop
 is-file-requires c κs = let h = c .before .loop .inv .0 in (h .fits, h .room)
 
 advance-requires-2 : tie.Need-advance-requires-2 Inv-loop μ-loop
-advance-requires-2 c κs = let h = c .before .before .before .before .loop .inv .0 in (h .fits, h .room)
+advance-requires-2 c κs = let h = c .before .before .before .before .loop .inv .0 in (h .fits, h .room, omega arith)
 
 loop-less : tie.Need-loop-less Inv-loop μ-loop
 loop-less c =
@@ -47,8 +47,8 @@ loop-again c =
     let l = a .before .before .before .before .before in
     let st = l .before .before .before .before .before .before .before in
     let more = a .before .before .before .is-file .ensures (a .before .before .if1 .taken) in (
-      going-on _ _ _ _ _ _ _ _ (l .loop .inv .0) (a .advance2 .ensures),
-      λ p x xs h i e. files-on _ _ p _ _ _ (l .loop .inv .1 p x xs h i e) _ _ (rw e more) (a .advance2 .ensures),
+      going-on _ _ _ _ _ _ _ _ _ (l .loop .inv .0) (a .advance2 .ensures),
+      λ p x xs h i e. files-on _ _ _ p _ _ _ (l .loop .inv .1 p x xs h i e) _ _ (rw e more) (a .advance2 .ensures),
     )
 
 same-length : tie.Need-same-length Inv-loop μ-loop
@@ -60,7 +60,7 @@ returns c =
     let t = l .before .before .before .advance .ensures in
     let st = l .before .before .before .before .before .before .before in
     record {
-      gone = going-end _ _ _ _ _ _ t (st .pre .2) _ _ (l .loop .inv .0);
+      gone = going-end _ _ _ _ _ _ _ t (st .pre .2) _ _ (l .loop .inv .0);
       passed = λ p x xs h i e. l .loop .inv .1 p x xs (t .after x xs h) i e;
     }
 

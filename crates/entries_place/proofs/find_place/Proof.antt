@@ -12,10 +12,10 @@ use Rattle.entries_place.proofs.find_place.Statement.{statement}
 use Rattle.entries_place.proofs.find_place.Tie as tie
 
 abbrev Inv-loop : tie.InvT-loop
-Inv-loop b v work₀ count name stage c₀ before₀ work c before = Searching v b work₀ (record { name = name; stage = stage }) before work c × (before ≤ count)
+Inv-loop b v work₀ count name stage w c₀ before₀ work c before = Searching w v b work₀ (record { name = name; stage = stage }) before work c × (before ≤ count)
 
 abbrev μ-loop : tie.MeasureT-loop
-μ-loop b v work₀ count name stage c₀ before₀ work c before = count - before
+μ-loop b v work₀ count name stage w c₀ before₀ work c before = count - before
 
 first-requires : tie.Need-first-requires Inv-loop μ-loop
 first-requires c κs = search needs
@@ -24,14 +24,14 @@ loop-holds : tie.Need-loop-holds Inv-loop μ-loop
 loop-holds c =
     let st = c .before .before .before .before in
     let a = st .args in
-    rw (c .first .ensures) (search-first (a .v) (a .b .now) (a .work .now) _ (st .pre .0), omega arith)
+    rw (c .first .ensures) (search-first _ (a .v) (a .b .now) (a .work .now) _ (st .pre .0), omega arith)
 
 pass-entry-requires : tie.Need-pass-entry-requires Inv-loop μ-loop
-pass-entry-requires c κs = (c .before .before .loop .inv .0 .walking .inside, omega arith)
+pass-entry-requires c κs = (c .before .before .loop .inv .0 .walking .inside, omega arith, omega arith)
 
 -- the entries were read before
 again : (e : tie.After-pass-entry Inv-loop μ-loop) → let l = e .before .before .before in let a = l .before .before .before .before .before .args in
-    (work′ : List ℕ) (r : Next) → EntryPassed (a .v) (a .b .now) (l .loop .work) (l .loop .c) work′ r → EntryStepped (a .v) (a .b .now) (l .loop .work) (l .loop .c) work′ r
+    (work′ : List ℕ) (r : Next) → EntryPassed (a .w) (a .v) (a .b .now) (l .loop .work) (l .loop .c) work′ r → EntryStepped (a .w) (a .v) (a .b .now) (l .loop .work) (l .loop .c) work′ r
 again e work′ r =
     let l = e .before .before .before in
     readable-again (search-left (l .loop .inv .0) (l .loop .inv .1) (l .before .before .before .before .before .pre .1)) (omega (arith, e .before .before .loop-test .taken)) r
