@@ -14,14 +14,14 @@ use Rattle.entries_run.proofs.Names.{nameAt-length}
 use Rattle.entries_run.proofs.Steps.{entryAt-name}
 use Rattle.entries_write.specs.Parts.{PrefixKept, Beside, StepRead}
 
-module _ {v : ℕ} {b work : List ℕ} {c : Cursor} {work′ : List ℕ} {st : Step} (t : EntryStepped v b work c work′ (N.Good st)) where
+module _ {w : ℕ} {v : ℕ} {b work : List ℕ} {c : Cursor} {work′ : List ℕ} {st : Step} (t : EntryStepped w v b work c work′ (N.Good st)) where
   abbrev entry : Entry
-  entry = entryAt v b work′ (c .at) st
+  entry = entryAt w v b work′ (c .at) st
 
-  pub step-found : StepFound v b work c work′ st
+  pub step-found : StepFound w v b work c work′ st
   step-found = t .found st refl
 
-  pub step-read : StepRead v b work′ (c .at) st
+  pub step-read : StepRead w v b work′ (c .at) st
   step-read =
       let f = step-found in
       record {
@@ -35,7 +35,7 @@ module _ {v : ℕ} {b work : List ℕ} {c : Cursor} {work′ : List ℕ} {st : S
       }
 
   pub step-name : entry .name ≡ nameAt v b work′ (st .next .start) (st .next .len)
-  step-name = entryAt-name v b work′ (c .at) st
+  step-name = entryAt-name w v b work′ (c .at) st
 
   module _ (room : 8192 ≤ length work) where
     pub step-room : 8192 ≤ length work′

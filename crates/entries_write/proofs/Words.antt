@@ -52,10 +52,10 @@ module _ (e : Entry) (base word : ℕ) (name : List ℕ) (told : EntryParts e ba
   unfolding flagsOf
   flags-with = let is = told .flags in rw (told .name-is) (omega arith)
 
-module _ (out name : List ℕ) (at version base word previous kept : ℕ) (out′ : List ℕ) (p : ℕ) where
+module _ (w : ℕ) (out name : List ℕ) (at version base word previous kept : ℕ) (out′ : List ℕ) (p : ℕ) where
   pub rest-short : (out″ : List ℕ) (r : ℕ) → word ≡ 0 → Wrote out at (put16 (base + lengthField (length name))) out′ p
-      → NameWritten out′ p name previous kept (λ s. writeName version 62 s name) out″ r
-      → RestWritten out at version base word name previous kept out″ r
+      → NameWritten out′ p name previous kept (λ s. writeName version (40 + w + 2) s name) out″ r
+      → RestWritten w out at version base word name previous kept out″ r
   unfolding writeRest fixedLength
   rest-short out″ r zero x y =
       let e : p ≡ at + 2 = x .end ∙ rw length-put16 refl in
@@ -69,8 +69,8 @@ module _ (out name : List ℕ) (at version base word previous kept : ℕ) (out�
 
   pub rest-long : (out″ out‴ : List ℕ) (q r : ℕ) → (word ≡ 0 → ⊥) → Wrote out at (put16 (base + lengthField (length name) + 16384)) out′ p
       → Wrote out′ p (put16 word) out″ q
-      → NameWritten out″ q name previous kept (λ s. writeName version 64 s name) out‴ r
-      → RestWritten out at version base word name previous kept out‴ r
+      → NameWritten out″ q name previous kept (λ s. writeName version (40 + w + 4) s name) out‴ r
+      → RestWritten w out at version base word name previous kept out‴ r
   unfolding writeRest fixedLength
   rest-long out″ out‴ q r other x y z =
       let e : p ≡ at + 2 = x .end ∙ rw length-put16 refl in
@@ -88,44 +88,44 @@ module _ (out name : List ℕ) (at version base word previous kept : ℕ) (out�
 
 -- ---- an entry of a body
 
--- the first 60 bytes of an entry are its numbers and its object name
-fixed-bytes : (s : List ℕ) → Bytes s → 60 ≤ length s → take 60 s ≡ put32s (be32s s 0 10) ++ take 20 (drop 40 s)
-fixed-bytes s bytes long = take-add 40 20 s ∙ rw (put32s-be32s s 0 10 bytes (omega arith)) refl
+-- the first 40 + w bytes of an entry are its numbers and its object name
+fixed-bytes : (w : ℕ) (s : List ℕ) → Bytes s → 40 + w ≤ length s → take (40 + w) s ≡ put32s (be32s s 0 10) ++ take w (drop 40 s)
+fixed-bytes w s bytes long = take-add 40 w s ∙ rw (put32s-be32s s 0 10 bytes (omega arith)) refl
 
-entry-told : (v : ℕ) (b work : List ℕ) (from flags word start len : ℕ) (name : List ℕ) → name ≡ nameAt v b work start len
-    → EntryParts (entryBy v b work from flags word start len) (flags / 32768 % 2 * 32768 + flags / 4096 % 4 * 4096) (word / 8192 % 4 * 8192) name
+entry-told : (w : ℕ) (v : ℕ) (b work : List ℕ) (from flags word start len : ℕ) (name : List ℕ) → name ≡ nameAt v b work start len
+    → EntryParts (entryBy w v b work from flags word start len) (flags / 32768 % 2 * 32768 + flags / 4096 % 4 * 4096) (word / 8192 % 4 * 8192) name
 unfolding entryOf wordOf
-entry-told v b work from flags word start len name is =
+entry-told w v b work from flags word start len name is =
     record {
       flags = rw (bit-isSet 32768 flags) refl;
       word-is = rw (bit-isSet 16384 word, bit-isSet 8192 word) (omega arith);
       name-is = sym is;
     }
 
-module _ (b out out′ : List ℕ) (from at p : ℕ) (there : from + 62 ≤ length b) (x : Wrote out at (take (from + 60 - from) (drop from b)) out′ p) where
-  fixed-wrote : Wrote out at (take 60 (drop from b)) out′ p
+module _ (w : ℕ) (b out out′ : List ℕ) (from at p : ℕ) (there : from + (40 + w) ≤ length b) (narrow : w ≤ 32) (x : Wrote out at (take (from + (40 + w) - from) (drop from b)) out′ p) where
+  fixed-wrote : Wrote out at (take (40 + w) (drop from b)) out′ p
   fixed-wrote = rw add-sub-cancel-left at x
 
-  fixed-long : 60 ≤ length (drop from b)
+  fixed-long : 40 + w ≤ length (drop from b)
   fixed-long = simp length-drop (omega arith)
 
-  pub fixed-end : p ≡ at + 60
-  fixed-end = fixed-wrote .end ∙ rw (length-take-le 60 (drop from b) fixed-long) refl
+  pub fixed-end : p ≡ at + (40 + w)
+  fixed-end = fixed-wrote .end ∙ rw (length-take-le (40 + w) (drop from b) fixed-long) refl
 
   pub entry-wrote : (v : ℕ) (work : List ℕ) (flags word start len version previous kept : ℕ) (out″ : List ℕ) (r : ℕ) (name : List ℕ)
       → name ≡ nameAt v b work start len → Bytes b
-      → RestWritten out′ p version (flags / 32768 % 2 * 32768 + flags / 4096 % 4 * 4096) (word / 8192 % 4 * 8192) name previous kept out″ r
-      → EntryWritten out at version (entryBy v b work from flags word start len) previous kept out″ r
+      → RestWritten w out′ p version (flags / 32768 % 2 * 32768 + flags / 4096 % 4 * 4096) (word / 8192 % 4 * 8192) name previous kept out″ r
+      → EntryWritten w out at version (entryBy w v b work from flags word start len) previous kept out″ r
   unfolding writeEntry entryOf
   entry-wrote v work flags word start len version previous kept out″ r name is bytes y =
       let s : List ℕ = drop from b in
       let e = fixed-end in
       let near = y .near in
-      let told = entry-told v b work from flags word start len name is in
-      let parts : take 60 s ≡ put32s (be32s s 0 10) ++ take 20 (drop 40 s) = fixed-bytes s (bytes-drop from b bytes) fixed-long in
+      let told = entry-told w v b work from flags word start len name is in
+      let parts : take (40 + w) s ≡ put32s (be32s s 0 10) ++ take w (drop 40 s) = fixed-bytes w s (bytes-drop from b bytes) fixed-long in
       record {
         wrote = λ q beside.
-            let rest = y .wrote (entryBy v b work from flags word start len) q told (rw is beside) in
-            rw (← append-assoc (put32s (be32s s 0 10)) (take 20 (drop 40 s)) _, ← parts) (wrote-then out (take 60 s) _ out′ out″ at p r fixed-wrote rest);
+            let rest = y .wrote (entryBy w v b work from flags word start len) q told (rw is beside) in
+            rw (← append-assoc (put32s (be32s s 0 10)) (take w (drop 40 s)) _, ← parts) (wrote-then out (take (40 + w) s) _ out′ out″ at p r fixed-wrote rest);
         near = omega arith;
       }

@@ -34,7 +34,7 @@ pub fn put_number(out: &mut [u8], at: usize, n: usize) -> usize
 
 // A name of versions 2 and 3, of an entry with f bytes before it: 1 to 8 NULs follow.
 pub fn put_plain(out: &mut [u8], at: usize, f: usize, name: &[u8]) -> usize
-    requires { ⌜ (at + 8200 ≤ 1125899906842624) × (f ≤ 64) × (length (now name) ≤ 8192) ⌝ }
+    requires { ⌜ (at + 8200 ≤ 1125899906842624) × (f ≤ 76) × (length (now name) ≤ 8192) ⌝ }
     ensures { λ r. ⌜ Wrote (now (out .entry)) at (writePlain f (now (name .entry))) (now (out .exit)) r × (r ≤ at + 8200) ⌝ }
 {
     let n = name.len();
@@ -63,7 +63,7 @@ fn put_name(
     previous: usize,
     kept: usize,
 ) -> usize
-    requires { ⌜ (at + 8200 ≤ 1125899906842624) × (f ≤ 64) × PrefixKept (now name) previous kept ⌝ }
+    requires { ⌜ (at + 8200 ≤ 1125899906842624) × (f ≤ 76) × PrefixKept (now name) previous kept ⌝ }
     ensures { λ r. ⌜ NameWritten (now (out .entry)) at (now (name .entry)) previous kept (λ p. writeName version f p (now (name .entry))) (now (out .exit)) r ⌝ }
 {
     if version == 4 {
@@ -82,21 +82,22 @@ pub fn put_rest(
     name: &[u8],
     previous: usize,
     kept: usize,
+    w: usize,
 ) -> usize
-    requires { ⌜ (at + 8204 ≤ 1125899906842624) × (base < 65536) × PrefixKept (now name) previous kept ⌝ }
-    ensures { λ r. ⌜ RestWritten (now (out .entry)) at version base word (now (name .entry)) previous kept (now (out .exit)) r ⌝ }
+    requires { ⌜ (at + 8204 ≤ 1125899906842624) × (base < 65536) × PrefixKept (now name) previous kept × (w ≤ 32) ⌝ }
+    ensures { λ r. ⌜ RestWritten w (now (out .entry)) at version base word (now (name .entry)) previous kept (now (out .exit)) r ⌝ }
 {
     let flags = base + fields::length_field(name.len());
     if word == 0 {
         let end = output::put_16(&mut *out, at, flags);
-        return put_name(out, end, version, 62, name, previous, kept);
+        return put_name(out, end, version, 40 + w + 2, name, previous, kept);
     }
     let middle = output::put_16(&mut *out, at, flags + 16384);
     let end = output::put_16(&mut *out, middle, word);
-    put_name(out, end, version, 64, name, previous, kept)
+    put_name(out, end, version, 40 + w + 4, name, previous, kept)
 }
 
-// The entry at a place of the body with these flags and this extended word, or 0, whose name has len bytes and is at start. Only its first 60
+// The entry at a place of the body with these flags and this extended word, or 0, whose name has len bytes and is at start. Only its first 40 + w
 // bytes are copied. Numbers are handed on here, and not a Step: a struct by value goes through memory.
 pub fn put_step<'a>(
     b: &'a [u8],
@@ -112,15 +113,16 @@ pub fn put_step<'a>(
     kept: usize,
     out: &mut [u8],
     at: usize,
+    w: usize,
 ) -> usize
-    requires { ⌜ (at + 8264 ≤ 1125899906842624) × (from + 62 ≤ length (now b)) × (start + len ≤ length (now b)) × (len ≤ 8192) × (8192 ≤ length (now work)) × PrefixKept (nameAt v (now b) (now work) start len) previous kept ⌝ }
-    ensures { λ r. ⌜ EntryWritten (now (out .entry)) at version (entryBy v (now (b .entry)) (now (work .entry)) from flags word start len) previous kept (now (out .exit)) r ⌝ }
+    requires { ⌜ (at + 8276 ≤ 1125899906842624) × (from + (40 + w) ≤ length (now b)) × (start + len ≤ length (now b)) × (len ≤ 8192) × (8192 ≤ length (now work)) × PrefixKept (nameAt v (now b) (now work) start len) previous kept × (w ≤ 32) ⌝ }
+    ensures { λ r. ⌜ EntryWritten w (now (out .entry)) at version (entryBy w v (now (b .entry)) (now (work .entry)) from flags word start len) previous kept (now (out .exit)) r ⌝ }
 {
-    let middle = output::put_part(&mut *out, at, b, from, from + 60);
+    let middle = output::put_part(&mut *out, at, b, from, from + (40 + w));
     let base = flags / 32768 % 2 * 32768 + flags / 4096 % 4 * 4096;
     let needed = word / 8192 % 4 * 8192;
     let name = entries_run::name_at(b, v, work, start, len);
-    put_rest(out, middle, version, base, needed, name, previous, kept)
+    put_rest(out, middle, version, base, needed, name, previous, kept, w)
 }
 
 // Whether an entry with this extended word, or 0 without one, needs it, or one before did.
@@ -158,9 +160,10 @@ fn put_read<'a>(
     kept: usize,
     out: &mut [u8],
     at: usize,
+    w: usize,
 ) -> usize
-    requires { ⌜ (at + 8264 ≤ 1125899906842624) × StepRead v (now b) (now work) from st × (8192 ≤ length (now work)) × PrefixKept (nameAt v (now b) (now work) (st .next .start) (st .next .len)) previous kept ⌝ }
-    ensures { λ r. ⌜ EntryWritten (now (out .entry)) at version (entryAt v (now (b .entry)) (now (work .entry)) from st) previous kept (now (out .exit)) r ⌝ }
+    requires { ⌜ (at + 8276 ≤ 1125899906842624) × StepRead w v (now b) (now work) from st × (8192 ≤ length (now work)) × PrefixKept (nameAt v (now b) (now work) (st .next .start) (st .next .len)) previous kept × (w ≤ 32) ⌝ }
+    ensures { λ r. ⌜ EntryWritten w (now (out .entry)) at version (entryAt w v (now (b .entry)) (now (work .entry)) from st) previous kept (now (out .exit)) r ⌝ }
 {
     let start = st.next.start;
     let len = st.next.len;
@@ -186,6 +189,7 @@ fn put_read<'a>(
         kept,
         out,
         at,
+        w,
     )
 }
 
@@ -199,16 +203,17 @@ pub fn put_entries(
     version: u32,
     out: &mut [u8],
     at: usize,
+    w: usize,
 ) -> Progress
-    requires { ⌜ Inside (now b) c × (8192 ≤ length (now work)) × (at + n * 8264 ≤ 1125899906842624) × Readable v n (now b) (now work) c ⌝ }
-    ensures { λ r. ⌜ EntriesWritten v (now (b .entry)) (now (work .entry)) c n version (now (out .entry)) at (now (work .exit)) (now (out .exit)) r ⌝ }
+    requires { ⌜ Inside (now b) c × (8192 ≤ length (now work)) × (at + n * 8276 ≤ 1125899906842624) × Readable w v n (now b) (now work) c × (w ≤ 32) ⌝ }
+    ensures { λ r. ⌜ EntriesWritten w v (now (b .entry)) (now (work .entry)) c n version (now (out .entry)) at (now (work .exit)) (now (out .exit)) r ⌝ }
 {
     let mut cursor = c;
     let mut end = at;
     let mut extended = false;
     let mut left = n;
     while 0 < left {
-        let g = entries_run::pass_entry(b, v, &mut *work, cursor);
+        let g = entries_run::pass_entry(b, v, &mut *work, cursor, w);
         match g {
             Next::Bad(_) => {
                 return Progress {
@@ -229,6 +234,7 @@ pub fn put_entries(
                     st.common,
                     &mut *out,
                     end,
+                    w,
                 );
                 extended = either(extended, st.word);
                 cursor = st.next;

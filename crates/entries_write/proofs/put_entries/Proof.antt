@@ -14,21 +14,21 @@ use Rattle.entries_write.proofs.put_entries.Statement.{statement}
 use Rattle.entries_write.proofs.put_entries.Tie as tie
 
 abbrev Inv-loop : tie.InvT-loop
-Inv-loop b v work₀ n version out₀ at cursor₀ end₀ extended₀ left₀ work out cursor end extended left =
-    Writing v b work₀ cursor₀ n version out₀ at work out cursor end extended left
+Inv-loop b v work₀ n version out₀ at w cursor₀ end₀ extended₀ left₀ work out cursor end extended left =
+    Writing w v b work₀ cursor₀ n version out₀ at work out cursor end extended left
 
 abbrev μ-loop : tie.MeasureT-loop
-μ-loop b v work₀ n version out₀ at cursor₀ end₀ extended₀ left₀ work out cursor end extended left = left
+μ-loop b v work₀ n version out₀ at w cursor₀ end₀ extended₀ left₀ work out cursor end extended left = left
 
 loop-holds : tie.Need-loop-holds Inv-loop μ-loop
-loop-holds c = writing-start _ _ _ _ _ _ _ _ (c .before .before .before .pre .0)
+loop-holds c = writing-start _ _ _ _ _ _ _ _ _ (c .before .before .before .pre .0)
 
 pass-entry-requires : tie.Need-pass-entry-requires Inv-loop μ-loop
-pass-entry-requires c κs = (c .before .before .loop .inv .inside, omega arith)
+pass-entry-requires c κs = (c .before .before .loop .inv .inside, omega arith, omega arith)
 
 -- the entries were read before
 again : (e : tie.After-pass-entry Inv-loop μ-loop) → let l = e .before .before .before in let a = l .before .before .before .before .args in
-    (work′ : List ℕ) (r : Next) → EntryPassed (a .v) (a .b .now) (l .loop .work) (l .loop .cursor) work′ r → EntryStepped (a .v) (a .b .now) (l .loop .work) (l .loop .cursor) work′ r
+    (work′ : List ℕ) (r : Next) → EntryPassed (a .w) (a .v) (a .b .now) (l .loop .work) (l .loop .cursor) work′ r → EntryStepped (a .w) (a .v) (a .b .now) (l .loop .work) (l .loop .cursor) work′ r
 again e work′ r =
     let l = e .before .before .before in
     readable-again (writing-left (l .loop .inv) (l .before .before .before .before .pre .3)) (e .before .before .loop-test .taken) r
@@ -67,6 +67,7 @@ put-read-requires c κs =
       step-read t,
       omega arith,
       step-kept t room (l .loop .inv .inside),
+      omega arith,
     )
 
 either-requires : tie.Need-either-requires Inv-loop μ-loop

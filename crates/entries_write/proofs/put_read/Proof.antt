@@ -30,7 +30,7 @@ returns c =
     let a = start .args in
     let bytes : Bytes (a .b .now) = λ i. omega (arith, known .shared-slice-known .given i) in
     let (old, new) = and-inv (not (eqb (a .v) 4)) (not (eqb (a .version) 4)) (plain .if2 .taken) in
-    plain-copied bytes (start .pre .1) (sym (same .before .stays .ensures) ∙ same .if1 .taken) _ refl (start .pre .3) (not-true _ old) (not-true _ new) (put .put-part .ensures)
+    plain-copied bytes (start .pre .4) (start .pre .1) (sym (same .before .stays .ensures) ∙ same .if1 .taken) _ refl (start .pre .3) (not-true _ old) (not-true _ new) (put .put-part .ensures)
 
 add-put-part : tie.Need-add-put-part
 add-put-part c = search needs
@@ -47,7 +47,7 @@ put-name-requires c κs =
     let put = named .before .before .before in
     let start = put .before .before .before .before .before .before .before .before .before in
     let read = start .pre .1 in
-    (omega (arith, start .pre .0, head-end read (put .put-part2 .ensures), head-most read), head-most read, rw (named .name-at .ensures) (start .pre .3))
+    (omega (arith, start .pre .0, head-end read (put .put-part2 .ensures), head-most (start .pre .4) read), head-most (start .pre .4) read, rw (named .name-at .ensures) (start .pre .3))
 
 same-length-2 : tie.Need-same-length-2
 same-length-2 c = search needs
@@ -62,7 +62,7 @@ returns-2 c =
     let start = known .before in
     let a = start .args in
     let bytes : Bytes (a .b .now) = λ i. omega (arith, known .shared-slice-known .given i) in
-    head-copied bytes (start .pre .1) (sym (same .before .stays .ensures) ∙ same .if1 .taken) _ (named .name-at .ensures)
+    head-copied bytes (start .pre .4) (start .pre .1) (sym (same .before .stays .ensures) ∙ same .if1 .taken) _ (named .name-at .ensures)
     (rw (named .name-at .ensures) (start .pre .3)) (put .put-part2 .ensures) (name .put-name .ensures)
 
 put-step-requires : tie.Need-put-step-requires
@@ -70,7 +70,7 @@ put-step-requires c κs =
     let start = c .before .before .before .before .before .before in
     let read = start .pre .1 in
     let next = read .next in
-    (start .pre .0, omega (arith, read .least, read .ahead, next .inside), omega (arith, next .behind, next .inside), next .short, start .pre .2, start .pre .3)
+    (start .pre .0, omega (arith, read .least, read .ahead, next .inside), omega (arith, next .behind, next .inside), next .short, start .pre .2, start .pre .3, start .pre .4)
 
 same-length-3 : tie.Need-same-length-3
 same-length-3 c = search needs

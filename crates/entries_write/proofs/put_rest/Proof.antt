@@ -31,7 +31,7 @@ returns c =
     let put = c .before .before .before .before .before .before in
     let test = c .before .before .before .before .before .before .before .before in
     let field = c .before .before .before .before .before .before .before .before .before .length-field .ensures in
-    rest-short _ _ _ _ _ _ _ _ _ _ _ _ (test .if1 .taken) (rw field at (put .put-16 .ensures)) (c .before .before .put-name .ensures)
+    rest-short _ _ _ _ _ _ _ _ _ _ _ _ _ (test .if1 .taken) (rw field at (put .put-16 .ensures)) (c .before .before .put-name .ensures)
 
 add-put-16 : tie.Need-add-put-16
 unfolding lengthField
@@ -59,7 +59,19 @@ returns-2 c =
     let flags = c .before .before .before .before .before .before .before .before .before .before in
     let test = c .before .before .before .before .before .before .before .before .before .before .before .before in
     let field = c .before .before .before .before .before .before .before .before .before .before .before .before .before .length-field .ensures in
-    rest-long _ _ _ _ _ _ _ _ _ _ _ _ _ _ (test .if1 .left) (rw field at (flags .put-162 .ensures)) (word .put-163 .ensures) (c .before .before .put-name2 .ensures)
+    rest-long _ _ _ _ _ _ _ _ _ _ _ _ _ _ _ (test .if1 .left) (rw field at (flags .put-162 .ensures)) (word .put-163 .ensures) (c .before .before .put-name2 .ensures)
+
+add-put-name : tie.Need-add-put-name
+add-put-name c = search needs
+
+add-put-name-2 : tie.Need-add-put-name-2
+add-put-name-2 c = search needs
+
+add-put-name-3 : tie.Need-add-put-name-3
+add-put-name-3 c = search needs
+
+add-put-name-4 : tie.Need-add-put-name-4
+add-put-name-4 c = search needs
 
 pub put-rest-spec : {M : Type 1} → statement M
 put-rest-spec =
@@ -68,12 +80,16 @@ put-rest-spec =
     length-field-requires
     add-flags
     put-16-requires
+    add-put-name
+    add-put-name-2
     put-name-requires
     same-length
     returns
     add-put-16
     put-16-requires-2
     put-16-requires-3
+    add-put-name-3
+    add-put-name-4
     put-name-requires-2
     same-length-2
     returns-2)

@@ -33,8 +33,8 @@ put-rest-requires c κs =
     let put = named .before .before .before in
     let start = put .before .before .before .before .before in
     let a = start .args in
-    let end = fixed-end (a .b .now) _ _ (a .from) _ _ (start .pre .1) (put .put-part .ensures) in
-    (omega arith, omega arith, rw (named .name-at .ensures) (start .pre .5))
+    let end = fixed-end _ (a .b .now) _ _ (a .from) _ _ (start .pre .1) (start .pre .6) (put .put-part .ensures) in
+    (omega arith, omega arith, rw (named .name-at .ensures) (start .pre .5), start .pre .6)
 
 same-length : tie.Need-same-length
 same-length c = search needs
@@ -48,7 +48,7 @@ returns c =
     let start = known .before in
     let a = start .args in
     let bytes : Bytes (a .b .now) = λ i. omega (arith, known .shared-slice-known .given i) in
-    entry-wrote
+    entry-wrote _
     (a .b .now)
     _
     _
@@ -56,6 +56,7 @@ returns c =
     _
     _
     (start .pre .1)
+    (start .pre .6)
     (put .put-part .ensures)
     (a .v)
     (a .work .now)
@@ -73,11 +74,15 @@ returns c =
     bytes
     (rest .put-rest .ensures)
 
+add-put-part-2 : tie.Need-add-put-part-2
+add-put-part-2 c = search needs
+
 pub put-step-spec : {M : Type 1} → statement M
 put-step-spec =
     tie.close
     (tie.spec
     add-put-part
+    add-put-part-2
     put-part-requires
     mul-base
     mul-base-2
