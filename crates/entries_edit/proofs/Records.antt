@@ -1,8 +1,9 @@
 -- Laws of the bytes of an entry that is put.
 use mathlib.Core.Path.{_≡_, refl, sym, ap, _∙_}
 use mathlib.Core.List.{List, [], _∷_, _++_, append-assoc, append-nil}
-use Prim.Native.Nat.{ℕ, _+_, _*_}
+use Prim.Native.Nat.{ℕ, _+_, _*_, _≤_}
 use native.Mathlib.Omega.{arith}
+use lib.ListN.{take}
 use Rattle.format.specs.Bytes.{put32, put32s}
 use Rattle.format.specs.Layout.{bit, wordOf}
 use Rattle.format.specs.Writer.{writeEntry}
@@ -53,25 +54,25 @@ fields-wrote {out} {at} ms ns object {o₁} {o₂} {out′} {p₁} {p₂} {r} x 
     (put32s-append ms ns, append-assoc (put32s ms) (put32s ns) object)
     (wrote-then out (put32s ms) _ o₁ out′ at p₁ r x (wrote-then o₁ (put32s ns) object o₂ out′ p₁ p₂ r y z))
 
-module _ (x : Fields) (name : List ℕ) where
+module _ (w : ℕ) (x : Fields) (name : List ℕ) where
   put-told : (assume skip intent : ℕ) → assume ≡ bit (x .«assume_valid») * 32768 → skip ≡ bit (x .«skip_worktree») * 16384
-      → intent ≡ bit (x .«intent_to_add») * 8192 → EntryParts (entryWith x name) (assume + x .stage * 4096) (skip + intent) name
+      → intent ≡ bit (x .«intent_to_add») * 8192 → EntryParts (entryWith w x name) (assume + x .stage * 4096) (skip + intent) name
   unfolding wordOf
   put-told assume skip intent is also last = record { flags = omega arith; word-is = omega arith; name-is = refl }
 
   pub record-wrote : {out : List ℕ} {at version : ℕ} {out′ : List ℕ} {p : ℕ} (assume skip intent : ℕ) {previous kept : ℕ} {out″ : List ℕ} {r : ℕ}
-      → Wrote out at (put32s (entryWith x [] .numbers) ++ x .object) out′ p → p ≡ at + 60
+      → Wrote out at (put32s (entryWith w x [] .numbers) ++ take w (x .object)) out′ p → w ≤ 32 → p ≡ at + (40 + w)
       → assume ≡ bit (x .«assume_valid») * 32768 → skip ≡ bit (x .«skip_worktree») * 16384 → intent ≡ bit (x .«intent_to_add») * 8192
-      → RestWritten out′ p version (assume + x .stage * 4096) (skip + intent) name previous kept out″ r
-      → EntryWritten out at version (entryWith x name) previous kept out″ r
+      → RestWritten w out′ p version (assume + x .stage * 4096) (skip + intent) name previous kept out″ r
+      → EntryWritten w out at version (entryWith w x name) previous kept out″ r
   unfolding writeEntry
-  record-wrote {out} {at} {version} {out′} {p} assume skip intent {out″ = out″} {r = r} first e is also last rest =
+  record-wrote {out} {at} {version} {out′} {p} assume skip intent {out″ = out″} {r = r} first narrow e is also last rest =
       let near = rest .near in
       record {
         wrote = λ q beside.
             rw
-            (← append-assoc (put32s (entryWith x [] .numbers)) (x .object) _)
-            (wrote-then out (put32s (entryWith x [] .numbers) ++ x .object) _ out′ out″ at p r first
-            (rest .wrote (entryWith x name) q (put-told assume skip intent is also last) beside));
+            (← append-assoc (put32s (entryWith w x [] .numbers)) (take w (x .object)) _)
+            (wrote-then out (put32s (entryWith w x [] .numbers) ++ take w (x .object)) _ out′ out″ at p r first
+            (rest .wrote (entryWith w x name) q (put-told assume skip intent is also last) beside));
         near = omega arith;
       }

@@ -59,100 +59,100 @@ rising-first k x xs es parts h = and-inv (goesBefore k (keyOf x)) (rising (keyOf
 
 -- ---- parts, one after another
 
-module _ (version : ℕ) (out : List ℕ) (at : ℕ) (p : List ℕ) where
+module _ (w : ℕ) (version : ℕ) (out : List ℕ) (at : ℕ) (p : List ℕ) where
   -- none
-  written-none : EntriesWrittenAfter version out at p [] out (record { at = at; extended = false })
+  written-none : EntriesWrittenAfter w version out at p [] out (record { at = at; extended = false })
   unfolding writeEntries anyWord
   written-none = record { wrote = wrote-nothing out at; extended = refl }
 
   -- one entry, then others
   pub written-one : (e : Entry) {out′ : List ℕ} {q : ℕ} (es : List Entry) {out″ : List ℕ} (r : WriteEnd) (also : Bool)
-      → Wrote out at (writeEntry 20 version p e) out′ q → EntriesWrittenAfter version out′ q (e .name) es out″ r → also ≡ (needsWord e || r .extended)
-      → EntriesWrittenAfter version out at p (e ∷ es) out″ (record { at = r .at; extended = also })
+      → Wrote out at (writeEntry w version p e) out′ q → EntriesWrittenAfter w version out′ q (e .name) es out″ r → also ≡ (needsWord e || r .extended)
+      → EntriesWrittenAfter w version out at p (e ∷ es) out″ (record { at = r .at; extended = also })
   unfolding writeEntries anyWord
   written-one e {out′} {q} es {out″} r also x y is =
       record {
-        wrote = wrote-then out (writeEntry 20 version p e) (writeEntries 20 version (e .name) es) out′ out″ at q (r .at) x (y .wrote);
+        wrote = wrote-then out (writeEntry w version p e) (writeEntries w version (e .name) es) out′ out″ at q (r .at) x (y .wrote);
         extended = is ∙ ap (λ (t : Bool). needsWord e || t) (y .extended);
       }
 
   -- some entries, then others
   pub written-front : (xs : List Entry) {out′ : List ℕ} (l : WriteEnd) (ys : List Entry) {out″ : List ℕ} (r : WriteEnd) (also : Bool)
-      → EntriesWrittenAfter version out at p xs out′ l → EntriesWrittenAfter version out′ (l .at) (lastName p xs) ys out″ r → also ≡ (l .extended || r .extended)
-      → EntriesWrittenAfter version out at p (xs ++ ys) out″ (record { at = r .at; extended = also })
+      → EntriesWrittenAfter w version out at p xs out′ l → EntriesWrittenAfter w version out′ (l .at) (lastName p xs) ys out″ r → also ≡ (l .extended || r .extended)
+      → EntriesWrittenAfter w version out at p (xs ++ ys) out″ (record { at = r .at; extended = also })
   written-front xs {out′} l ys {out″} r also x y is =
       record {
         wrote =
             rw
-            (entries-append 20 version p xs ys)
-            (wrote-then out (writeEntries 20 version p xs) (writeEntries 20 version (lastName p xs) ys) out′ out″ at (l .at) (r .at) (x .wrote) (y .wrote));
+            (entries-append w version p xs ys)
+            (wrote-then out (writeEntries w version p xs) (writeEntries w version (lastName p xs) ys) out′ out″ at (l .at) (r .at) (x .wrote) (y .wrote));
         extended = is ∙ rw (x .extended, y .extended) (sym (anyWord-append xs ys));
       }
 
 -- ---- all entries from a cursor on
 
-module _ {v : ℕ} {b work : List ℕ} {c : Cursor} {n version : ℕ} {out : List ℕ} {at : ℕ} {work′ out′ : List ℕ} {r : Progress}
-    (h : EntriesWritten v b work c n version out at work′ out′ r) where
-  pub all-written : (es : List Entry) (m : ℕ) → RunRead v n b work c es m
-      → EntriesWrittenAfter version out at (keyAt v b work c .name) es out′ (record { at = r .at; extended = r .extended })
+module _ {w : ℕ} {v : ℕ} {b work : List ℕ} {c : Cursor} {n version : ℕ} {out : List ℕ} {at : ℕ} {work′ out′ : List ℕ} {r : Progress}
+    (h : EntriesWritten w v b work c n version out at work′ out′ r) where
+  pub all-written : (es : List Entry) (m : ℕ) → RunRead w v n b work c es m
+      → EntriesWrittenAfter w version out at (keyAt v b work c .name) es out′ (record { at = r .at; extended = r .extended })
   all-written es m q =
       let none-more : n + 0 ≡ n = omega arith in
       let x = h .passed 0 es m (rw none-more q) in
-      good-inv _ _ _ _ (sym (run-none v b work′ (r .cursor)) ∙ x .left) λ none taken.
+      good-inv _ _ _ _ (sym (run-none w v b work′ (r .cursor)) ∙ x .left) λ none taken.
       let whole : take n es ≡ es = sym (append-nil (take n es)) ∙ ap (λ (l : List Entry). take n es ++ l) none ∙ take-append-drop n es in
       record { wrote = rw whole at (x .wrote); extended = rw whole at (x .extended) }
 
 -- ---- the entry that a step read, then n more
 
-module _ (v : ℕ) (b work : List ℕ) (from : ℕ) (st : Step) {n previous kept version : ℕ} {out : List ℕ} {at : ℕ} {out′ : List ℕ} {p : ℕ} {work″ out″ : List ℕ}
-    {r : Progress} {also : Bool} (x : EntryWritten out at version (entryAt v b work from st) previous kept out′ p)
-    (y : EntriesWritten v b work (st .next) n version out′ p work″ out″ r) (is : also ≡ (r .extended || (isSet 16384 (st .word) || isSet 8192 (st .word)))) where
-  any-word : also ≡ (needsWord (entryAt v b work from st) || r .extended)
+module _ (w : ℕ) (v : ℕ) (b work : List ℕ) (from : ℕ) (st : Step) {n previous kept version : ℕ} {out : List ℕ} {at : ℕ} {out′ : List ℕ} {p : ℕ} {work″ out″ : List ℕ}
+    {r : Progress} {also : Bool} (x : EntryWritten w out at version (entryAt w v b work from st) previous kept out′ p)
+    (y : EntriesWritten w v b work (st .next) n version out′ p work″ out″ r) (is : also ≡ (r .extended || (isSet 16384 (st .word) || isSet 8192 (st .word)))) where
+  any-word : also ≡ (needsWord (entryAt w v b work from st) || r .extended)
   unfolding needsWord entryOf
   any-word = is ∙ or-swap (r .extended) _
 
-  pub step-written : length out′ ≡ length out → StepWritten v b work from st n previous kept version out at work″ out″ (record { at = r .at; extended = also })
+  pub step-written : length out′ ≡ length out → StepWritten w v b work from st n previous kept version out at work″ out″ (record { at = r .at; extended = also })
   step-written long =
-      let first : Entry = entryAt v b work from st in
+      let first : Entry = entryAt w v b work from st in
       let one = x .near in
       let near = y .bounds .near in
       record {
         written = λ q es m beside run.
-            let rest : EntriesWrittenAfter version out′ p (first .name) es out″ (record { at = r .at; extended = r .extended }) =
-            rw (entryAt-name v b work from st) (all-written y es m run) in
-            written-one version out at q first es _ also (x .wrote q beside) rest any-word;
+            let rest : EntriesWrittenAfter w version out′ p (first .name) es out″ (record { at = r .at; extended = r .extended }) =
+            rw (entryAt-name w v b work from st) (all-written y es m run) in
+            written-one w version out at q first es _ also (x .wrote q beside) rest any-word;
         bounds = record { near = omega arith; frame = y .bounds .frame; out-long = y .bounds .out-long ∙ long };
       }
 
 -- ---- n entries from a cursor on, by a step over the first
 
 -- there is none
-module _ (v : ℕ) (b work : List ℕ) (c : Cursor) (n version : ℕ) (out : List ℕ) (at : ℕ) (none : n ≡ 0) where
-  none-written : (p : List ℕ) (es : List Entry) (m : ℕ) → RunRead v n b work c es m → EntriesWrittenAfter version out at p es out (record { at = at; extended = false })
-  none-written p es m q = good-inv _ _ _ _ (sym (run-none v b work c) ∙ rw none at q) (λ is taken. rw (← is) (written-none version out at p))
+module _ (w : ℕ) (v : ℕ) (b work : List ℕ) (c : Cursor) (n version : ℕ) (out : List ℕ) (at : ℕ) (none : n ≡ 0) where
+  none-written : (p : List ℕ) (es : List Entry) (m : ℕ) → RunRead w v n b work c es m → EntriesWrittenAfter w version out at p es out (record { at = at; extended = false })
+  none-written p es m q = good-inv _ _ _ _ (sym (run-none w v b work c) ∙ rw none at q) (λ is taken. rw (← is) (written-none w version out at p))
 
   none-bounds : WriteBounds work out at n work out at
   none-bounds = record { near = omega arith; frame = frame-same work; out-long = refl }
 
-  pub after-none : (p : List ℕ) → OthersWritten v b work c n false p version out at work out (record { at = at; extended = false })
+  pub after-none : (p : List ℕ) → OthersWritten w v b work c n false p version out at work out (record { at = at; extended = false })
   after-none p = record { written = λ es m q same. none-written p es m q; bounds = none-bounds }
 
-  pub past-none : (previous kept : ℕ) → PastWritten v b work c n previous kept version out at work out (record { at = at; extended = false })
+  pub past-none : (previous kept : ℕ) → PastWritten w v b work c n previous kept version out at work out (record { at = at; extended = false })
   past-none previous kept = record { written = λ k es m q before beside. none-written (k .name) es m q; bounds = none-bounds }
 
 -- it is read
-module _ {v : ℕ} {b work : List ℕ} {c : Cursor} {work′ : List ℕ} (n version : ℕ) (out : List ℕ) (at : ℕ) (more : 0 < n) {st : Step}
-    (t : EntryStepped v b work c work′ (N.Good st)) where
+module _ {w : ℕ} {v : ℕ} {b work : List ℕ} {c : Cursor} {work′ : List ℕ} (n version : ℕ) (out : List ℕ) (at : ℕ) (more : 0 < n) {st : Step}
+    (t : EntryStepped w v b work c work′ (N.Good st)) where
   abbrev entry : Entry
-  entry = entryAt v b work′ (c .at) st
+  entry = entryAt w v b work′ (c .at) st
 
-  step-on {ℓ} : {X : Type ℓ} (es : List Entry) (m : ℕ) → RunRead v n b work c es m
-      → ((gs : List Entry) (k : ℕ) → entry ∷ gs ≡ es → RunRead v (n - 1) b work′ (st .next) gs k → X) → X
-  step-on es m q f = front-inv (entry ∷ []) _ _ _ _ (sym (entries-good v b work c work′ n more st t) ∙ q) (λ gs k on parts sum. f gs k parts on)
+  step-on {ℓ} : {X : Type ℓ} (es : List Entry) (m : ℕ) → RunRead w v n b work c es m
+      → ((gs : List Entry) (k : ℕ) → entry ∷ gs ≡ es → RunRead w v (n - 1) b work′ (st .next) gs k → X) → X
+  step-on es m q f = front-inv (entry ∷ []) _ _ _ _ (sym (entries-good w v b work c work′ n more st t) ∙ q) (λ gs k on parts sum. f gs k parts on)
 
-  step-before : (es : List Entry) (m : ℕ) → RunRead v n b work c es m → (gs : List Entry) → entry ∷ gs ≡ es
+  step-before : (es : List Entry) (m : ℕ) → RunRead w v n b work c es m → (gs : List Entry) → entry ∷ gs ≡ es
       → goesBefore (keyAt v b work c) (keyOf entry) ≡ true
-  step-before es m q gs parts = rising-first (keyAt v b work c) entry gs es parts (read-rising 20 v n (keyAt v b work c) (c .at) (drop (c .at) b) es m q)
+  step-before es m q gs parts = rising-first (keyAt v b work c) entry gs es parts (read-rising w v n (keyAt v b work c) (c .at) (drop (c .at) b) es m q)
 
   -- what is left behind after the step is left behind in all
   step-bounds : (k : ℕ) {work″ out″ : List ℕ} {end : ℕ} → k ≤ n → WriteBounds work′ out at k work″ out″ end → WriteBounds work out at n work″ out″ end
@@ -162,7 +162,7 @@ module _ {v : ℕ} {b work : List ℕ} {c : Cursor} {work′ : List ℕ} (n vers
 
   -- it is written after the name that is put
   pub after-written : (name : List ℕ) {kept : ℕ} {work″ out″ : List ℕ} {r : WriteEnd} → kept ≡ common (keyAt v b work′ (st .next) .name) name
-      → StepWritten v b work′ (c .at) st (n - 1) (length name) kept version out at work″ out″ r → OthersWritten v b work c n false name version out at work″ out″ r
+      → StepWritten w v b work′ (c .at) st (n - 1) (length name) kept version out at work″ out″ r → OthersWritten w v b work c n false name version out at work″ out″ r
   after-written name {kept} is h =
       let beside : Beside name (entry .name) (length name) kept = record { long = refl; shared = rw (step-name t) (common-swap name _ ∙ sym is) } in
       record {
@@ -172,7 +172,7 @@ module _ {v : ℕ} {b work : List ℕ} {c : Cursor} {work′ : List ℕ} (n vers
 
   -- it is written after the key k, where the one between is left out
   pub past-written : (previous shared : ℕ) {kept : ℕ} {work″ out″ : List ℕ} {r : WriteEnd} → kept ≡ min shared (st .common)
-      → StepWritten v b work′ (c .at) st (n - 1) previous kept version out at work″ out″ r → PastWritten v b work c n previous shared version out at work″ out″ r
+      → StepWritten w v b work′ (c .at) st (n - 1) previous kept version out at work″ out″ r → PastWritten w v b work c n previous shared version out at work″ out″ r
   past-written previous shared {kept} is h =
       record {
         written = λ k es m q before x.
@@ -188,21 +188,21 @@ module _ {v : ℕ} {b work : List ℕ} {c : Cursor} {work′ : List ℕ} (n vers
 
   -- it is left out, and the one after it comes after the key before it
   pub removed-written : {work″ out″ : List ℕ} {r : WriteEnd} → 8192 ≤ length work → Inside b c
-      → PastWritten v b work′ (st .next) (n - 1) (c .len) (st .common) version out at work″ out″ r → RemovedWritten v b work c n version out at work″ out″ r
+      → PastWritten w v b work′ (st .next) (n - 1) (c .len) (st .common) version out at work″ out″ r → RemovedWritten w v b work c n version out at work″ out″ r
   removed-written room inside h =
       let beside : Beside (keyAt v b work c .name) (keyAt v b work′ (st .next) .name) (c .len) (st .common) = rw (step-name t) at (step-beside t room inside) in
       record {
         written = λ es m q.
             step-on es m q λ gs j parts on.
             let rises : goesBefore (keyAt v b work c) (keyAt v b work′ (st .next)) ≡ true =
-            rw (key-at v b work c work′ st (step-found t)) at (step-before es m q gs parts) in
+            rw (key-at w v b work c work′ st (step-found t)) at (step-before es m q gs parts) in
             rw (ap (drop 1) parts) at (h .written (keyAt v b work c) gs j on rises beside);
         bounds = step-bounds (n - 1) (omega arith) (h .bounds);
       }
 
   -- it is left out, and another of its name is in its place
-  pub replaced-written : {work″ out″ : List ℕ} {r : Progress} → EntriesWritten v b work′ (st .next) (n - 1) version out at work″ out″ r
-      → (p : List ℕ) → OthersWritten v b work c n true p version out at work″ out″ (record { at = r .at; extended = r .extended })
+  pub replaced-written : {work″ out″ : List ℕ} {r : Progress} → EntriesWritten w v b work′ (st .next) (n - 1) version out at work″ out″ r
+      → (p : List ℕ) → OthersWritten w v b work c n true p version out at work″ out″ (record { at = r .at; extended = r .extended })
   replaced-written h p =
       record {
         written = λ es m q same.
@@ -213,7 +213,7 @@ module _ {v : ℕ} {b work : List ℕ} {c : Cursor} {work′ : List ℕ} (n vers
       }
 
 -- what the names that a step is written after ask of it
-module _ {v : ℕ} {b work : List ℕ} {c : Cursor} {work′ : List ℕ} {st : Step} (t : EntryStepped v b work c work′ (N.Good st)) (room : 8192 ≤ length work) where
+module _ {w : ℕ} {v : ℕ} {b work : List ℕ} {c : Cursor} {work′ : List ℕ} {st : Step} (t : EntryStepped w v b work c work′ (N.Good st)) (room : 8192 ≤ length work) where
   pub after-kept : (name : List ℕ) {kept : ℕ} → length name ≤ 8192 → kept ≡ common (keyAt v b work′ (st .next) .name) name
       → PrefixKept (nameAt v b work′ (st .next .start) (st .next .len)) (length name) kept
   after-kept name {kept} short is =

@@ -36,9 +36,9 @@ Replaces (E.Remove k) name es = Unit {0}
 -- ---- all entries
 
 -- what the writing of the first count entries of the body b, edited, leaves behind; e is what is put
-pub record EntriesEdited
+pub record EntriesEdited (w : ℕ)
     (v : ℕ) (b work : List ℕ) (count : ℕ) (edit : Edit) (e : Entry) (version : ℕ) (out : List ℕ) (at : ℕ) (work′ out′ : List ℕ) (r : WriteEnd)
     : Type 0 where
-  pub edited-is : (es : List Entry) (m : ℕ) → EntriesRead v count b es m → Replaces edit (e .name) es
-      → EntriesWrittenAfter version out at [] (edited edit e es) out′ r
+  pub edited-is : (es : List Entry) (m : ℕ) → EntriesRead w v count b es m → Replaces edit (e .name) es
+      → EntriesWrittenAfter w version out at [] (edited edit e es) out′ r
   pub bounds : WriteBounds work out at (count + 1) work′ out′ (r .at)

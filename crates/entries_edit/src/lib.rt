@@ -29,12 +29,13 @@ fn put_kept(
     version: u32,
     out: &mut [u8],
     at: usize,
+    w: usize,
 ) -> WriteEnd
-    requires { ⌜ Room (now b) (now work) × (at ≤ 16777216) × AllRead v count (now b) ⌝ }
-    ensures { λ r. ⌜ ((e : Entry) → EntriesEdited v (now (b .entry)) (now (work .entry)) count E.Keep e version (now (out .entry)) at (now (work .exit)) (now (out .exit)) r) ⌝ }
+    requires { ⌜ Room (now b) (now work) × (at ≤ 16777216) × AllRead w v count (now b) × (w ≤ 32) ⌝ }
+    ensures { λ r. ⌜ ((e : Entry) → EntriesEdited w v (now (b .entry)) (now (work .entry)) count E.Keep e version (now (out .entry)) at (now (work .exit)) (now (out .exit)) r) ⌝ }
 {
     let start = entries_run::first();
-    let all = entries_write::put_entries(b, v, work, start, count, version, out, at);
+    let all = entries_write::put_entries(b, v, work, start, count, version, out, at, w);
     WriteEnd {
         at: all.at,
         extended: all.extended,
@@ -54,16 +55,38 @@ fn put_with(
     version: u32,
     out: &mut [u8],
     at: usize,
+    w: usize,
 ) -> WriteEnd
-    requires { ⌜ Room (now b) (now work) × (k + bit there ≤ count) × (fields .stage ≤ 3) × (length (now name) ≤ 8192) × (at ≤ 16777216) × AllRead v count (now b) ⌝ }
-    ensures { λ r. ⌜ EntriesEdited v (now (b .entry)) (now (work .entry)) count (E.Put k there) (entryWith fields (now (name .entry))) version (now (out .entry)) at (now (work .exit)) (now (out .exit)) r ⌝ }
+    requires { ⌜ Room (now b) (now work) × (k + bit there ≤ count) × (fields .stage ≤ 3) × (length (now name) ≤ 8192) × (at ≤ 16777216) × AllRead w v count (now b) × (w ≤ 32) ⌝ }
+    ensures { λ r. ⌜ EntriesEdited w v (now (b .entry)) (now (work .entry)) count (E.Put k there) (entryWith w fields (now (name .entry))) version (now (out .entry)) at (now (work .exit)) (now (out .exit)) r ⌝ }
 {
     let start = entries_run::first();
-    let front = entries_write::put_entries(b, v, &mut *work, start, k, version, &mut *out, at);
+    let front = entries_write::put_entries(b, v, &mut *work, start, k, version, &mut *out, at, w);
     let c = front.cursor;
     let kept = crate::rest::common_at(b, v, &*work, c, name);
-    let middle = crate::record::put_record(&mut *out, front.at, version, fields, name, c.len, kept);
-    let rest = crate::rest::put_others(b, v, work, c, count - k, there, name, version, out, middle);
+    let middle = crate::record::put_record(
+        &mut *out,
+        front.at,
+        version,
+        fields,
+        name,
+        c.len,
+        kept,
+        w,
+    );
+    let rest = crate::rest::put_others(
+        b,
+        v,
+        work,
+        c,
+        count - k,
+        there,
+        name,
+        version,
+        out,
+        middle,
+        w,
+    );
     WriteEnd {
         at: rest.at,
         extended: front.extended | fields.skip_worktree | fields.intent_to_add | rest.extended,
@@ -80,12 +103,13 @@ fn put_without(
     version: u32,
     out: &mut [u8],
     at: usize,
+    w: usize,
 ) -> WriteEnd
-    requires { ⌜ Room (now b) (now work) × (k + 1 ≤ count) × (at ≤ 16777216) × AllRead v count (now b) ⌝ }
-    ensures { λ r. ⌜ ((e : Entry) → EntriesEdited v (now (b .entry)) (now (work .entry)) count (E.Remove k) e version (now (out .entry)) at (now (work .exit)) (now (out .exit)) r) ⌝ }
+    requires { ⌜ Room (now b) (now work) × (k + 1 ≤ count) × (at ≤ 16777216) × AllRead w v count (now b) × (w ≤ 32) ⌝ }
+    ensures { λ r. ⌜ ((e : Entry) → EntriesEdited w v (now (b .entry)) (now (work .entry)) count (E.Remove k) e version (now (out .entry)) at (now (work .exit)) (now (out .exit)) r) ⌝ }
 {
     let start = entries_run::first();
-    let front = entries_write::put_entries(b, v, &mut *work, start, k, version, &mut *out, at);
+    let front = entries_write::put_entries(b, v, &mut *work, start, k, version, &mut *out, at, w);
     let rest = crate::rest::put_removed(
         b,
         v,
@@ -95,6 +119,7 @@ fn put_without(
         version,
         out,
         front.at,
+        w,
     );
     WriteEnd {
         at: rest.at,
@@ -114,12 +139,13 @@ pub fn put_edited(
     version: u32,
     out: &mut [u8],
     at: usize,
+    w: usize,
 ) -> WriteEnd
-    requires { ⌜ Room (now b) (now work) × (passes edit ≤ count) × (fields .stage ≤ 3) × (length (now name) ≤ 8192) × (at ≤ 16777216) × AllRead v count (now b) ⌝ }
-    ensures { λ r. ⌜ EntriesEdited v (now (b .entry)) (now (work .entry)) count edit (entryWith fields (now (name .entry))) version (now (out .entry)) at (now (work .exit)) (now (out .exit)) r ⌝ }
+    requires { ⌜ Room (now b) (now work) × (passes edit ≤ count) × (fields .stage ≤ 3) × (length (now name) ≤ 8192) × (at ≤ 16777216) × AllRead w v count (now b) × (w ≤ 32) ⌝ }
+    ensures { λ r. ⌜ EntriesEdited w v (now (b .entry)) (now (work .entry)) count edit (entryWith w fields (now (name .entry))) version (now (out .entry)) at (now (work .exit)) (now (out .exit)) r ⌝ }
 {
     match edit {
-        Edit::Keep => put_kept(b, v, work, count, version, out, at),
+        Edit::Keep => put_kept(b, v, work, count, version, out, at, w),
         Edit::Put(k, there) => put_with(
             b,
             v,
@@ -132,7 +158,8 @@ pub fn put_edited(
             version,
             out,
             at,
+            w,
         ),
-        Edit::Remove(k) => put_without(b, v, work, count, k, version, out, at),
+        Edit::Remove(k) => put_without(b, v, work, count, k, version, out, at, w),
     }
 }

@@ -2,6 +2,7 @@
 ghost use mathlib.Core.Path.{_≡_};
 ghost use mathlib.Core.List.{[], _∷_, _++_};
 ghost use Prim.Native.Nat.{_+_, _*_, _≤_};
+ghost use lib.ListN.{take};
 ghost use Rattle.format.specs.Bytes.{put32s};
 ghost use Rattle.format.specs.Layout.{bit};
 ghost use Rattle.output.specs.Output.{Wrote};
@@ -22,9 +23,9 @@ fn put_five(out: &mut [u8], at: usize, a: u32, b: u32, c: u32, d: u32, e: u32) -
 }
 
 // The ten numbers and the object name.
-fn put_fields(out: &mut [u8], at: usize, fields: Fields) -> usize
-    requires { ⌜ at + 60 ≤ 1125899906842624 ⌝ }
-    ensures { λ r. ⌜ Wrote (now (out .entry)) at (put32s (entryWith fields [] .numbers) ++ fields .object) (now (out .exit)) r × (r ≡ at + 60) ⌝ }
+fn put_fields(out: &mut [u8], at: usize, fields: Fields, w: usize) -> usize
+    requires { ⌜ (at + (40 + w) ≤ 1125899906842624) × (w ≤ 32) ⌝ }
+    ensures { λ r. ⌜ Wrote (now (out .entry)) at (put32s (entryWith w fields [] .numbers) ++ take w (fields .object)) (now (out .exit)) r × (r ≡ at + (40 + w)) ⌝ }
 {
     let middle = put_five(
         &mut *out,
@@ -45,7 +46,7 @@ fn put_fields(out: &mut [u8], at: usize, fields: Fields) -> usize
         fields.size,
     );
     let object = fields.object;
-    output::put_bytes(out, end, &object)
+    output::put_part(out, end, &object, 0, w)
 }
 
 // A bit of this value, where it is set.
@@ -67,12 +68,13 @@ pub fn put_record(
     name: &[u8],
     previous: usize,
     kept: usize,
+    w: usize,
 ) -> usize
-    requires { ⌜ (at + 8264 ≤ 1125899906842624) × (fields .stage ≤ 3) × PrefixKept (now name) previous kept ⌝ }
-    ensures { λ r. ⌜ EntryWritten (now (out .entry)) at version (entryWith fields (now (name .entry))) previous kept (now (out .exit)) r ⌝ }
+    requires { ⌜ (at + 8276 ≤ 1125899906842624) × (fields .stage ≤ 3) × PrefixKept (now name) previous kept × (w ≤ 32) ⌝ }
+    ensures { λ r. ⌜ EntryWritten w (now (out .entry)) at version (entryWith w fields (now (name .entry))) previous kept (now (out .exit)) r ⌝ }
 {
-    let middle = put_fields(&mut *out, at, fields);
+    let middle = put_fields(&mut *out, at, fields, w);
     let base = bit_of(fields.assume_valid, 32768) + fields.stage * 4096;
     let word = bit_of(fields.skip_worktree, 16384) + bit_of(fields.intent_to_add, 8192);
-    entries_write::put_rest(out, middle, version, base, word, name, previous, kept)
+    entries_write::put_rest(out, middle, version, base, word, name, previous, kept, w)
 }

@@ -50,9 +50,10 @@ fn put_stepped(
     version: u32,
     out: &mut [u8],
     at: usize,
+    w: usize,
 ) -> WriteEnd
-    requires { ⌜ (at + (n + 1) * 8264 ≤ 1125899906842624) × (from + 62 ≤ length (now b)) × Inside (now b) (st .next) × (8192 ≤ length (now work)) × PrefixKept (nameAt v (now b) (now work) (st .next .start) (st .next .len)) previous kept × Readable v n (now b) (now work) (st .next) ⌝ }
-    ensures { λ r. ⌜ StepWritten v (now (b .entry)) (now (work .entry)) from st n previous kept version (now (out .entry)) at (now (work .exit)) (now (out .exit)) r ⌝ }
+    requires { ⌜ (at + (n + 1) * 8276 ≤ 1125899906842624) × (from + (40 + w) ≤ length (now b)) × Inside (now b) (st .next) × (8192 ≤ length (now work)) × PrefixKept (nameAt v (now b) (now work) (st .next .start) (st .next .len)) previous kept × Readable w v n (now b) (now work) (st .next) × (w ≤ 32) ⌝ }
+    ensures { λ r. ⌜ StepWritten w v (now (b .entry)) (now (work .entry)) from st n previous kept version (now (out .entry)) at (now (work .exit)) (now (out .exit)) r ⌝ }
 {
     let middle = entries_write::put_step(
         b,
@@ -68,8 +69,9 @@ fn put_stepped(
         kept,
         &mut *out,
         at,
+        w,
     );
-    let rest = entries_write::put_entries(b, v, work, st.next, n, version, out, middle);
+    let rest = entries_write::put_entries(b, v, work, st.next, n, version, out, middle, w);
     WriteEnd {
         at: rest.at,
         extended: entries_write::either(rest.extended, st.word),
@@ -87,9 +89,10 @@ fn put_after(
     version: u32,
     out: &mut [u8],
     at: usize,
+    w: usize,
 ) -> WriteEnd
-    requires { ⌜ (at + n * 8264 ≤ 1125899906842624) × Inside (now b) c × (8192 ≤ length (now work)) × (length (now name) ≤ 8192) × Readable v n (now b) (now work) c ⌝ }
-    ensures { λ r. ⌜ OthersWritten v (now (b .entry)) (now (work .entry)) c n false (now (name .entry)) version (now (out .entry)) at (now (work .exit)) (now (out .exit)) r ⌝ }
+    requires { ⌜ (at + n * 8276 ≤ 1125899906842624) × Inside (now b) c × (8192 ≤ length (now work)) × (length (now name) ≤ 8192) × Readable w v n (now b) (now work) c × (w ≤ 32) ⌝ }
+    ensures { λ r. ⌜ OthersWritten w v (now (b .entry)) (now (work .entry)) c n false (now (name .entry)) version (now (out .entry)) at (now (work .exit)) (now (out .exit)) r ⌝ }
 {
     if n == 0 {
         return WriteEnd {
@@ -97,7 +100,7 @@ fn put_after(
             extended: false,
         };
     }
-    let g = entries_run::pass_entry(b, v, &mut *work, c);
+    let g = entries_run::pass_entry(b, v, &mut *work, c, w);
     match g {
         Next::Bad(_) => WriteEnd {
             at: at,
@@ -117,6 +120,7 @@ fn put_after(
                 version,
                 out,
                 at,
+                w,
             )
         }
     }
@@ -132,18 +136,19 @@ fn put_replaced(
     version: u32,
     out: &mut [u8],
     at: usize,
+    w: usize,
 ) -> WriteEnd
-    requires { ⌜ (at + n * 8264 ≤ 1125899906842624) × Inside (now b) c × (8192 ≤ length (now work)) × (1 ≤ n) × Readable v n (now b) (now work) c ⌝ }
-    ensures { λ r. ⌜ ((p : List ℕ) → OthersWritten v (now (b .entry)) (now (work .entry)) c n true p version (now (out .entry)) at (now (work .exit)) (now (out .exit)) r) ⌝ }
+    requires { ⌜ (at + n * 8276 ≤ 1125899906842624) × Inside (now b) c × (8192 ≤ length (now work)) × (1 ≤ n) × Readable w v n (now b) (now work) c × (w ≤ 32) ⌝ }
+    ensures { λ r. ⌜ ((p : List ℕ) → OthersWritten w v (now (b .entry)) (now (work .entry)) c n true p version (now (out .entry)) at (now (work .exit)) (now (out .exit)) r) ⌝ }
 {
-    let g = entries_run::pass_entry(b, v, &mut *work, c);
+    let g = entries_run::pass_entry(b, v, &mut *work, c, w);
     match g {
         Next::Bad(_) => WriteEnd {
             at: at,
             extended: false,
         },
         Next::Good(st) => {
-            let rest = entries_write::put_entries(b, v, work, st.next, n - 1, version, out, at);
+            let rest = entries_write::put_entries(b, v, work, st.next, n - 1, version, out, at, w);
             WriteEnd {
                 at: rest.at,
                 extended: rest.extended,
@@ -164,14 +169,15 @@ pub fn put_others(
     version: u32,
     out: &mut [u8],
     at: usize,
+    w: usize,
 ) -> WriteEnd
-    requires { ⌜ (at + n * 8264 ≤ 1125899906842624) × Inside (now b) c × (8192 ≤ length (now work)) × (length (now name) ≤ 8192) × (bit there ≤ n) × Readable v n (now b) (now work) c ⌝ }
-    ensures { λ r. ⌜ OthersWritten v (now (b .entry)) (now (work .entry)) c n there (now (name .entry)) version (now (out .entry)) at (now (work .exit)) (now (out .exit)) r ⌝ }
+    requires { ⌜ (at + n * 8276 ≤ 1125899906842624) × Inside (now b) c × (8192 ≤ length (now work)) × (length (now name) ≤ 8192) × (bit there ≤ n) × Readable w v n (now b) (now work) c × (w ≤ 32) ⌝ }
+    ensures { λ r. ⌜ OthersWritten w v (now (b .entry)) (now (work .entry)) c n there (now (name .entry)) version (now (out .entry)) at (now (work .exit)) (now (out .exit)) r ⌝ }
 {
     if there {
-        return put_replaced(b, v, work, c, n, version, out, at);
+        return put_replaced(b, v, work, c, n, version, out, at, w);
     }
-    put_after(b, v, work, c, n, name, version, out, at)
+    put_after(b, v, work, c, n, name, version, out, at, w)
 }
 
 // n entries after one that is left out, the one before the cursor. It came after a name of previous bytes, of which it keeps the first kept.
@@ -186,9 +192,10 @@ fn put_past(
     version: u32,
     out: &mut [u8],
     at: usize,
+    w: usize,
 ) -> WriteEnd
-    requires { ⌜ (at + n * 8264 ≤ 1125899906842624) × Inside (now b) c × (8192 ≤ length (now work)) × (previous ≤ 8192) × (kept ≤ previous) × Readable v n (now b) (now work) c ⌝ }
-    ensures { λ r. ⌜ PastWritten v (now (b .entry)) (now (work .entry)) c n previous kept version (now (out .entry)) at (now (work .exit)) (now (out .exit)) r ⌝ }
+    requires { ⌜ (at + n * 8276 ≤ 1125899906842624) × Inside (now b) c × (8192 ≤ length (now work)) × (previous ≤ 8192) × (kept ≤ previous) × Readable w v n (now b) (now work) c × (w ≤ 32) ⌝ }
+    ensures { λ r. ⌜ PastWritten w v (now (b .entry)) (now (work .entry)) c n previous kept version (now (out .entry)) at (now (work .exit)) (now (out .exit)) r ⌝ }
 {
     if n == 0 {
         return WriteEnd {
@@ -196,7 +203,7 @@ fn put_past(
             extended: false,
         };
     }
-    let g = entries_run::pass_entry(b, v, &mut *work, c);
+    let g = entries_run::pass_entry(b, v, &mut *work, c, w);
     match g {
         Next::Bad(_) => WriteEnd {
             at: at,
@@ -214,6 +221,7 @@ fn put_past(
             version,
             out,
             at,
+            w,
         ),
     }
 }
@@ -228,11 +236,12 @@ pub fn put_removed(
     version: u32,
     out: &mut [u8],
     at: usize,
+    w: usize,
 ) -> WriteEnd
-    requires { ⌜ (at + n * 8264 ≤ 1125899906842624) × Inside (now b) c × (8192 ≤ length (now work)) × (1 ≤ n) × Readable v n (now b) (now work) c ⌝ }
-    ensures { λ r. ⌜ RemovedWritten v (now (b .entry)) (now (work .entry)) c n version (now (out .entry)) at (now (work .exit)) (now (out .exit)) r ⌝ }
+    requires { ⌜ (at + n * 8276 ≤ 1125899906842624) × Inside (now b) c × (8192 ≤ length (now work)) × (1 ≤ n) × Readable w v n (now b) (now work) c × (w ≤ 32) ⌝ }
+    ensures { λ r. ⌜ RemovedWritten w v (now (b .entry)) (now (work .entry)) c n version (now (out .entry)) at (now (work .exit)) (now (out .exit)) r ⌝ }
 {
-    let g = entries_run::pass_entry(b, v, &mut *work, c);
+    let g = entries_run::pass_entry(b, v, &mut *work, c, w);
     match g {
         Next::Bad(_) => WriteEnd {
             at: at,
@@ -249,6 +258,7 @@ pub fn put_removed(
             version,
             out,
             at,
+            w,
         ),
     }
 }

@@ -1,4 +1,5 @@
 -- The proof that `put_edited` meets its contract.
+use native.Mathlib.Omega.{arith}
 use borrow.Author.Needs.{needs}
 use Rattle.entries_edit.proofs.put_edited.Statement.{statement}
 use Rattle.entries_edit.proofs.put_edited.Tie as tie
@@ -16,7 +17,7 @@ put-with-requires : tie.Need-put-with-requires
 put-with-requires c κs =
     let known = c .before .before .before in
     let start = known .before .before .before .before .before .before in
-    (start .pre .0, rw (known .edit .given .1) at (start .pre .1), start .pre .2, start .pre .3, start .pre .4, start .pre .5)
+    (start .pre .0, rw (known .edit .given .1) at (start .pre .1), start .pre .2, start .pre .3, start .pre .4, start .pre .5, omega arith)
 
 enum-known-edit-2 : tie.Need-enum-known-edit-2
 enum-known-edit-2 c = search needs
@@ -25,7 +26,7 @@ put-without-requires : tie.Need-put-without-requires
 put-without-requires c κs =
     let known = c .before .before .before in
     let start = known .before .before .before .before .before .before in
-    (start .pre .0, rw (known .edit2 .given .1) at (start .pre .1), start .pre .4, start .pre .5)
+    (start .pre .0, rw (known .edit2 .given .1) at (start .pre .1), start .pre .4, start .pre .5, omega arith)
 
 same-length : tie.Need-same-length
 same-length c = search needs

@@ -13,7 +13,7 @@ put-entries-requires : tie.Need-put-entries-requires
 put-entries-requires c κs =
     let start = c .before .before .before .before .before .before in
     let a = start .args in
-    rw (c .before .before .first .ensures) (inside-first (a .b .now) (a .work .now) (start .pre .0), omega arith, omega arith, readable-first _ (a .count) _ (a .b .now) _ (omega arith) (start .pre .2))
+    rw (c .before .before .first .ensures) (inside-first (a .b .now) (a .work .now) (start .pre .0), omega arith, omega arith, readable-first _ _ (a .count) _ (a .b .now) _ (omega arith) (start .pre .2), omega arith)
 
 same-length : tie.Need-same-length
 same-length c = search needs

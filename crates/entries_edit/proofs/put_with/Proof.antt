@@ -18,7 +18,7 @@ put-entries-requires : tie.Need-put-entries-requires
 put-entries-requires c κs =
     let start = c .before .before .before .before .before .before .before in
     let a = start .args in
-    rw (c .before .before .first .ensures) (inside-first (a .b .now) (a .work .now) (start .pre .0), omega arith, omega arith, readable-first _ (a .count) _ (a .b .now) _ (omega arith) (start .pre .5))
+    rw (c .before .before .first .ensures) (inside-first (a .b .now) (a .work .now) (start .pre .0), omega arith, omega arith, readable-first _ _ (a .count) _ (a .b .now) _ (omega arith) (start .pre .5), omega arith)
 
 common-at-requires : tie.Need-common-at-requires
 common-at-requires c κs = search needs
@@ -33,7 +33,7 @@ put-record-requires c κs =
     let near = front .bounds .near in
     let long = front .bounds .frame in
     let kept = cursor-kept _ (a .b .now) _ _ (a .name .now) (front .inside) (omega arith) (start .pre .3) (shared .common-at .ensures) in
-    (omega arith, start .pre .2, kept)
+    (omega arith, start .pre .2, kept, omega arith)
 
 sub-put-others : tie.Need-sub-put-others
 sub-put-others c = search needs
@@ -49,7 +49,7 @@ put-others-requires c κs =
     let one = record-put .put-record .ensures .near in
     let few : start .args .k ≤ start .args .count = omega (arith, start .pre .1) in
     let first = rw (put .before .before .before .first .ensures) at front in
-    (omega arith, front .inside, omega arith, start .pre .3, omega arith, readable-rest (start .args .count) few first (start .pre .5))
+    (omega arith, front .inside, omega arith, start .pre .3, omega arith, readable-rest (start .args .count) few first (start .pre .5), omega arith)
 
 same-length : tie.Need-same-length
 same-length c =
@@ -75,9 +75,9 @@ returns c =
     let a = start .args in
     let front = rw (first .first .ensures) at (put .put-entries .ensures) in
     let long = front .bounds .frame in
-    let word = put-word (a .fields) (a .name .now) (put .put-entries .result .extended) (others .put-others .result .extended) in
+    let word = put-word (a .w) (a .fields) (a .name .now) (put .put-entries .result .extended) (others .put-others .result .extended) in
     let x = record-put .put-record in
-    with-written (a .count) (omega (arith, start .pre .1)) front (entryWith (a .fields) (a .name .now)) (a .there) (omega (arith, start .pre .0 .room))
+    with-written (a .count) (omega (arith, start .pre .1)) front (entryWith (a .w) (a .fields) (a .name .now)) (a .there) (omega (arith, start .pre .0 .room))
     (shared .common-at .ensures) (x .ensures) (x .kept .0) (others .put-others .ensures) word
 
 pub put-with-spec : {M : Type 1} → statement M

@@ -15,7 +15,7 @@ put-entries-requires : tie.Need-put-entries-requires
 put-entries-requires c κs =
     let start = c .before .before .before .before .before .before in
     let a = start .args in
-    rw (c .before .before .first .ensures) (inside-first (a .b .now) (a .work .now) (start .pre .0), omega arith, omega arith, readable-first _ (a .count) _ (a .b .now) _ (omega arith) (start .pre .3))
+    rw (c .before .before .first .ensures) (inside-first (a .b .now) (a .work .now) (start .pre .0), omega arith, omega arith, readable-first _ _ (a .count) _ (a .b .now) _ (omega arith) (start .pre .3), omega arith)
 
 sub-put-removed : tie.Need-sub-put-removed
 sub-put-removed c = search needs
@@ -30,7 +30,7 @@ put-removed-requires c κs =
     let long = front .bounds .frame in
     let few : start .args .k ≤ start .args .count = omega (arith, start .pre .1) in
     let rest = readable-rest (start .args .count) few (rw (first .first .ensures) at front) (start .pre .3) in
-    (omega arith, front .inside, omega arith, omega (arith, start .pre .1), rest)
+    (omega arith, front .inside, omega arith, omega (arith, start .pre .1), rest, omega arith)
 
 same-length : tie.Need-same-length
 same-length c = search needs

@@ -1,7 +1,9 @@
 -- The proof that `put_fields` meets its contract.
 use mathlib.Core.Path.{_≡_}
 use native.Mathlib.Omega.{arith}
-use lib.ListN.{length}
+use native.Mathlib.Nat.{sub-zero}
+use lib.ListN.{length, take}
+use lib.Seq.{length-take-le}
 use borrow.Author.Needs.{needs}
 use Rattle.entries_edit.proofs.Records.{fields-wrote}
 use Rattle.entries_edit.proofs.record.put_fields.Statement.{statement}
@@ -13,11 +15,14 @@ put-five-requires c κs = search needs
 put-five-requires-2 : tie.Need-put-five-requires-2
 put-five-requires-2 c κs = search needs
 
-slice-aggregate-put-bytes : tie.Need-slice-aggregate-put-bytes
-slice-aggregate-put-bytes c = search needs
+slice-aggregate-put-part : tie.Need-slice-aggregate-put-part
+slice-aggregate-put-part c = search needs
 
-put-bytes-requires : tie.Need-put-bytes-requires
-put-bytes-requires c κs = search needs
+put-part-requires : tie.Need-put-part-requires
+put-part-requires c κs =
+    let start = c .before .before .before .before .before .before .before .before .before .before .before .before in
+    let long : 32 ≡ length (start .args .fields .object) = slice-aggregate-put-part c in
+    (omega arith, omega arith, omega (arith, long, start .pre .1))
 
 same-length : tie.Need-same-length
 same-length c = search needs
@@ -31,10 +36,13 @@ returns c =
     let start = first .before .before .before in
     let x = first .put-five .ensures in
     let y = second .put-five2 .ensures in
-    let z = last .put-bytes .ensures in
-    let twenty : 20 ≡ length (start .args .fields .object) = slice-aggregate-put-bytes lent in
+    let o = start .args .fields .object in
+    let long : 32 ≡ length o = slice-aggregate-put-part lent in
+    let n = start .args .w in
+    let size : length (take n o) ≡ n = length-take-le n o (omega (arith, long, start .pre .1)) in
+    let z = rw sub-zero at (last .put-part .ensures) in
     let end = z .end in
-    (fields-wrote _ _ _ (x .0) (y .0) z, omega arith)
+    (fields-wrote _ _ _ (x .0) (y .0) z, omega (arith, size))
 
 pub put-fields-spec : {M : Type 1} → statement M
 put-fields-spec =
@@ -42,7 +50,7 @@ put-fields-spec =
     (tie.spec
     put-five-requires
     put-five-requires-2
-    slice-aggregate-put-bytes
-    put-bytes-requires
+    slice-aggregate-put-part
+    put-part-requires
     same-length
     returns)

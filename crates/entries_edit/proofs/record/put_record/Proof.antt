@@ -34,7 +34,7 @@ put-rest-requires : tie.Need-put-rest-requires
 put-rest-requires c κs =
     let start = c .before .before .before .before .before .before .before .before .before .before .before in
     let x = start .args .fields in
-    (omega arith, omega (arith, bit-below (x .«assume_valid»)), start .pre .2)
+    (omega arith, omega (arith, bit-below (x .«assume_valid»)), start .pre .2, omega arith)
 
 same-length : tie.Need-same-length
 same-length c = search needs
@@ -49,7 +49,7 @@ returns c =
     let start = fixed .before .before .before .before in
     let a = start .args in
     let first = fixed .put-fields .ensures in
-    record-wrote (a .fields) (a .name .now) _ _ _ (first .0) (first .1) (assume .bit-of .ensures) (skip .bit-of2 .ensures) (intent .bit-of3 .ensures) (rest .put-rest .ensures)
+    record-wrote _ (a .fields) (a .name .now) _ _ _ (first .0) (start .pre .3) (first .1) (assume .bit-of .ensures) (skip .bit-of2 .ensures) (intent .bit-of3 .ensures) (rest .put-rest .ensures)
 
 pub put-record-spec : {M : Type 1} → statement M
 put-record-spec =

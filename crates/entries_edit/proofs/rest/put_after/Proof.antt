@@ -11,7 +11,7 @@ use Rattle.entries_write.proofs.Stepping.{step-found, step-room}
 returns : tie.Need-returns
 returns c =
     let a = c .before .before .before .before .before .args in
-    after-none _ _ _ _ (a .n) (a .version) (a .out .now) (a .at) (c .if1 .taken) _
+    after-none _ _ _ _ _ (a .n) (a .version) (a .out .now) (a .at) (c .if1 .taken) _
 
 pass-entry-requires : tie.Need-pass-entry-requires
 pass-entry-requires c κs = search needs
@@ -46,7 +46,7 @@ put-stepped-requires c κs =
     let a = start .args in
     let t = rw (known .g .given .1) at (readable-again (start .pre .4) (some read) _ (read .pass-entry .ensures)) in
     let kept = after-kept t (start .pre .2) (a .name .now) (start .pre .3) (shared .common-at .ensures) in
-    (omega arith, omega (arith, step-found t .least, step-found t .ahead, step-found t .next .inside), step-found t .next, step-room t (start .pre .2), kept, readable-next (start .pre .4) (some read) t)
+    (omega arith, omega (arith, step-found t .least, step-found t .ahead, step-found t .next .inside), step-found t .next, step-room t (start .pre .2), kept, readable-next (start .pre .4) (some read) t, omega arith)
 
 same-length : tie.Need-same-length
 same-length c = search needs

@@ -1,4 +1,5 @@
 -- The proof that `put_others` meets its contract.
+use native.Mathlib.Omega.{arith}
 use borrow.Author.Needs.{needs}
 use Rattle.entries_edit.proofs.rest.put_others.Statement.{statement}
 use Rattle.entries_edit.proofs.rest.put_others.Tie as tie
@@ -7,7 +8,7 @@ put-replaced-requires : tie.Need-put-replaced-requires
 put-replaced-requires c κs =
     let tested = c .before .before in
     let start = tested .before .before .before .before .before in
-    (start .pre .0, start .pre .1, start .pre .2, rw (tested .if1 .taken) at (start .pre .4), start .pre .5)
+    (start .pre .0, start .pre .1, start .pre .2, rw (tested .if1 .taken) at (start .pre .4), start .pre .5, omega arith)
 
 same-length : tie.Need-same-length
 same-length c = search needs

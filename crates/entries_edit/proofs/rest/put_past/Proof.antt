@@ -11,7 +11,7 @@ use Rattle.entries_write.proofs.Stepping.{step-found, step-room}
 returns : tie.Need-returns
 returns c =
     let a = c .before .before .before .before .args in
-    past-none _ _ _ _ (a .n) (a .version) (a .out .now) (a .at) (c .if1 .taken) _ _
+    past-none _ _ _ _ _ (a .n) (a .version) (a .out .now) (a .at) (c .if1 .taken) _ _
 
 pass-entry-requires : tie.Need-pass-entry-requires
 pass-entry-requires c κs = search needs
@@ -41,7 +41,7 @@ put-stepped-requires c κs =
     let a = start .args in
     let t = rw (known .g .given .1) at (readable-again (start .pre .5) (some read) _ (read .pass-entry .ensures)) in
     let kept = past-kept t (start .pre .2) (a .previous) (a .kept) (start .pre .1) (start .pre .3) (start .pre .4) (shared .least .ensures) in
-    (omega arith, omega (arith, step-found t .least, step-found t .ahead, step-found t .next .inside), step-found t .next, step-room t (start .pre .2), kept, readable-next (start .pre .5) (some read) t)
+    (omega arith, omega (arith, step-found t .least, step-found t .ahead, step-found t .next .inside), step-found t .next, step-room t (start .pre .2), kept, readable-next (start .pre .5) (some read) t, omega arith)
 
 same-length : tie.Need-same-length
 same-length c = search needs

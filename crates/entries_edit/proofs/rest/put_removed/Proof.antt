@@ -26,7 +26,7 @@ put-past-requires c κs =
     let start = read .before .before .before .before .before in
     let t = rw (known .g .given .1) at (readable-again (start .pre .4) (start .pre .3) _ (read .pass-entry .ensures)) in
     let fits = step-common t (start .pre .2) (start .pre .1) .0 in
-    (omega arith, step-found t .next, step-room t (start .pre .2), start .pre .1 .short, fits, readable-next (start .pre .4) (start .pre .3) t)
+    (omega arith, step-found t .next, step-room t (start .pre .2), start .pre .1 .short, fits, readable-next (start .pre .4) (start .pre .3) t, omega arith)
 
 same-length : tie.Need-same-length
 same-length c = search needs

@@ -25,7 +25,7 @@ put-entries-requires c κs =
     let read = known .before .before .before .before in
     let start = read .before .before .before .before .before in
     let t = rw (known .g .given .1) at (readable-again (start .pre .4) (start .pre .3) _ (read .pass-entry .ensures)) in
-    (step-found t .next, step-room t (start .pre .2), omega arith, readable-next (start .pre .4) (start .pre .3) t)
+    (step-found t .next, step-room t (start .pre .2), omega arith, readable-next (start .pre .4) (start .pre .3) t, omega arith)
 
 same-length : tie.Need-same-length
 same-length c = search needs

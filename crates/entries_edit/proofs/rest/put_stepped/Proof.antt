@@ -26,7 +26,7 @@ returns c =
     let one = rest .before .before .before .before .before in
     let start = one .before .before .before .before .before .before in
     let a = start .args in
-    step-written (a .v) (a .b .now) (a .work .now) (a .from) (a .st) (one .put-step .ensures) (rest .put-entries .ensures) (c .either .ensures) (omega arith)
+    step-written _ (a .v) (a .b .now) (a .work .now) (a .from) (a .st) (one .put-step .ensures) (rest .put-entries .ensures) (c .either .ensures) (omega arith)
 
 pub put-stepped-spec : {M : Type 1} → statement M
 put-stepped-spec =
