@@ -20,7 +20,7 @@ use Rattle.answers.specs.declared.Shown.the-variants as S
 use Rattle.answers.specs.declared.EntryAnswer.{EntryAnswer}
 use Rattle.answers.specs.declared.NodeAnswer.{NodeAnswer}
 use Rattle.answers.specs.declared.UndoAnswer.{UndoAnswer}
-use Rattle.entries.specs.Record.{entryWith, noFields, fieldsOf}
+use Rattle.entries.specs.Record.{wideObject, entryWith, noFields, fieldsOf}
 
 -- ---- the workspace
 
@@ -116,7 +116,7 @@ workAfter (refused n p) work = cleared work
 workAfter (inFile e) work = cleared work
 workAfter (inWorkspace e) work = holding (e .name) work
 
--- ---- what the answers of the code say
+-- ---- what the answers of the code say. w is the width of an object name: of the 32 bytes that an answer has for one only the first w are read
 
 -- the n bytes at a place, none where they are not all there
 unfoldable pub partIn : ℕ → ℕ → List ℕ → List ℕ
@@ -134,18 +134,18 @@ viewOf (S.Refused n p) a = refused n p
 viewOf (S.InFile at n) a = inFile a
 viewOf (S.InWorkspace n) a = inWorkspace a
 
-unfoldable pub entrySaid : EntryAnswer → List ℕ → List ℕ → View F.Entry
-entrySaid r file work = viewOf (r .shown) (entryWith (r .fields) (nameIn (r .shown) file work))
+unfoldable pub entrySaid : ℕ → EntryAnswer → List ℕ → List ℕ → View F.Entry
+entrySaid w r file work = viewOf (r .shown) (entryWith w (r .fields) (nameIn (r .shown) file work))
 
 abbrev pub countWith : Bool → ℕ → F.Count
 countWith true n = F.valid n
 countWith false n = F.invalid
 
-unfoldable pub nodeSaid : NodeAnswer → List ℕ → List ℕ → View F.Item
-nodeSaid r file work =
+unfoldable pub nodeSaid : ℕ → NodeAnswer → List ℕ → List ℕ → View F.Item
+nodeSaid w r file work =
     viewOf (r .shown)
     (record {
-      node = record { name = nameIn (r .shown) file work; count = countWith (r .valid) (r .count); object = r .object };
+      node = record { name = nameIn (r .shown) file work; count = countWith (r .valid) (r .count); object = take w (r .object) };
       level = r .level;
       subtrees = r .subtrees;
     })
@@ -153,14 +153,14 @@ nodeSaid r file work =
 abbrev pub stageWith : ℕ → List ℕ → F.Stage
 stageWith mode object = record { mode = mode; object = object }
 
-unfoldable pub undoSaid : UndoAnswer → List ℕ → List ℕ → View F.Undo
-undoSaid r file work =
+unfoldable pub undoSaid : ℕ → UndoAnswer → List ℕ → List ℕ → View F.Undo
+undoSaid w r file work =
     viewOf (r .shown)
     (record {
       path = nameIn (r .shown) file work;
-      first = stageWith (r .«first_mode») (r .first);
-      second = stageWith (r .«second_mode») (r .second);
-      third = stageWith (r .«third_mode») (r .third);
+      first = stageWith (r .«first_mode») (take w (r .first));
+      second = stageWith (r .«second_mode») (take w (r .second));
+      third = stageWith (r .«third_mode») (take w (r .third));
     })
 
 -- ---- the answers of the code, whole. A refusal has its number and its place, and zeros and false in all other fields
@@ -169,7 +169,7 @@ abbrev pub refusedEntry : ℕ → ℕ → EntryAnswer
 refusedEntry n p = record { shown = S.Refused n p; fields = noFields }
 
 abbrev pub refusedNode : ℕ → ℕ → NodeAnswer
-refusedNode n p = record { shown = S.Refused n p; level = 0; valid = false; count = 0; subtrees = 0; object = replicate 20 0 }
+refusedNode n p = record { shown = S.Refused n p; level = 0; valid = false; count = 0; subtrees = 0; object = replicate 32 0 }
 
 abbrev pub refusedUndo : ℕ → ℕ → UndoAnswer
 refusedUndo n p = record {
@@ -177,9 +177,9 @@ refusedUndo n p = record {
   «first_mode» = 0;
   «second_mode» = 0;
   «third_mode» = 0;
-  first = replicate 20 0;
-  second = replicate 20 0;
-  third = replicate 20 0;
+  first = replicate 32 0;
+  second = replicate 32 0;
+  third = replicate 32 0;
 }
 
 -- the number of an entry count, 0 where it is invalid
@@ -198,7 +198,7 @@ nodeAs s i = record {
   valid = isValid (i .node .count);
   count = countNumber (i .node .count);
   subtrees = i .subtrees;
-  object = i .node .object;
+  object = wideObject (i .node .object);
 }
 
 abbrev pub undoAs : Shown → F.Undo → UndoAnswer
@@ -207,9 +207,9 @@ undoAs s u = record {
   «first_mode» = u .first .mode;
   «second_mode» = u .second .mode;
   «third_mode» = u .third .mode;
-  first = u .first .object;
-  second = u .second .object;
-  third = u .third .object;
+  first = wideObject (u .first .object);
+  second = wideObject (u .second .object);
+  third = wideObject (u .third .object);
 }
 
 -- the answer that shows a view, from that of a refusal and that of an item. A name in the file is at the place at, one in the workspace at
@@ -241,11 +241,11 @@ pub record Shows {A R : Type 0} (shown : ℕ → View A → R) (says : R → Lis
   pub said : says r file work ≡ v
   pub inside : Inside (part r) file work
 
-abbrev pub EntryShown : ℕ → View F.Entry → List ℕ → List ℕ → EntryAnswer → Type 0
-EntryShown at v file work r = Shows entryShown entrySaid (λ a. a .shown) at v file work r
+abbrev pub EntryShown : ℕ → ℕ → View F.Entry → List ℕ → List ℕ → EntryAnswer → Type 0
+EntryShown w at v file work r = Shows entryShown (entrySaid w) (λ a. a .shown) at v file work r
 
-abbrev pub NodeShown : ℕ → View F.Item → List ℕ → List ℕ → NodeAnswer → Type 0
-NodeShown at v file work r = Shows nodeShown nodeSaid (λ a. a .shown) at v file work r
+abbrev pub NodeShown : ℕ → ℕ → View F.Item → List ℕ → List ℕ → NodeAnswer → Type 0
+NodeShown w at v file work r = Shows nodeShown (nodeSaid w) (λ a. a .shown) at v file work r
 
-abbrev pub UndoShown : ℕ → View F.Undo → List ℕ → List ℕ → UndoAnswer → Type 0
-UndoShown at v file work r = Shows undoShown undoSaid (λ a. a .shown) at v file work r
+abbrev pub UndoShown : ℕ → ℕ → View F.Undo → List ℕ → List ℕ → UndoAnswer → Type 0
+UndoShown w at v file work r = Shows undoShown (undoSaid w) (λ a. a .shown) at v file work r

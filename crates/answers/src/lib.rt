@@ -40,14 +40,15 @@ pub struct EntryAnswer {
     pub fields: Fields,
 }
 
-// A tree node: its level, its entry count where it is valid, its number of subtrees, its object name, zeros where it is invalid.
+// A tree node: its level, its entry count where it is valid, its number of subtrees, its object name, zeros where it is invalid. An object name has
+// 32 bytes of room: a shorter one is first, zeros follow.
 pub struct NodeAnswer {
     pub shown: Shown,
     pub level: u32,
     pub valid: bool,
     pub count: u32,
     pub subtrees: u32,
-    pub object: [u8; 20],
+    pub object: [u8; 32],
 }
 
 // A resolve-undo record: the modes of stages 1 to 3, 0 where the stage is missing, and their object names, zeros where it is missing.
@@ -56,9 +57,9 @@ pub struct UndoAnswer {
     pub first_mode: u32,
     pub second_mode: u32,
     pub third_mode: u32,
-    pub first: [u8; 20],
-    pub second: [u8; 20],
-    pub third: [u8; 20],
+    pub first: [u8; 32],
+    pub second: [u8; 32],
+    pub third: [u8; 32],
 }
 
 // The answer of rewrite, put and remove: a refusal's number and place, or how many bytes were written.
@@ -66,8 +67,6 @@ pub enum Written {
     Refused(u32, usize),
     Done(usize),
 }
-
-// ---- the fields of an entry
 
 // ---- names
 
@@ -107,7 +106,7 @@ pub fn part_of<'a>(file: &'a [u8], shown: Shown) -> &'a [u8]
 
 // An entry is refused with the number n at the place p.
 pub fn refused_entry(n: u32, p: usize) -> EntryAnswer
-    ensures { λ r. ⌜ ((file work : List ℕ) → entrySaid r file work ≡ refused n p) × (r ≡ refusedEntry n p) ⌝ }
+    ensures { λ r. ⌜ ((w : ℕ) (file work : List ℕ) → entrySaid w r file work ≡ refused n p) × (r ≡ refusedEntry n p) ⌝ }
 {
     EntryAnswer {
         shown: Shown::Refused(n, p),
@@ -117,7 +116,7 @@ pub fn refused_entry(n: u32, p: usize) -> EntryAnswer
 
 // The same of a tree node.
 pub fn refused_node(n: u32, p: usize) -> NodeAnswer
-    ensures { λ r. ⌜ ((file work : List ℕ) → nodeSaid r file work ≡ refused n p) × (r ≡ refusedNode n p) ⌝ }
+    ensures { λ r. ⌜ ((w : ℕ) (file work : List ℕ) → nodeSaid w r file work ≡ refused n p) × (r ≡ refusedNode n p) ⌝ }
 {
     NodeAnswer {
         shown: Shown::Refused(n, p),
@@ -125,21 +124,21 @@ pub fn refused_node(n: u32, p: usize) -> NodeAnswer
         valid: false,
         count: 0,
         subtrees: 0,
-        object: [0u8; 20],
+        object: [0u8; 32],
     }
 }
 
 // The same of a resolve-undo record.
 pub fn refused_undo(n: u32, p: usize) -> UndoAnswer
-    ensures { λ r. ⌜ ((file work : List ℕ) → undoSaid r file work ≡ refused n p) × (r ≡ refusedUndo n p) ⌝ }
+    ensures { λ r. ⌜ ((w : ℕ) (file work : List ℕ) → undoSaid w r file work ≡ refused n p) × (r ≡ refusedUndo n p) ⌝ }
 {
     UndoAnswer {
         shown: Shown::Refused(n, p),
         first_mode: 0,
         second_mode: 0,
         third_mode: 0,
-        first: [0u8; 20],
-        second: [0u8; 20],
-        third: [0u8; 20],
+        first: [0u8; 32],
+        second: [0u8; 32],
+        third: [0u8; 32],
     }
 }

@@ -10,7 +10,7 @@ no-fields-requires c κs = search needs
 
 returns : tie.Need-returns
 unfolding entrySaid
-returns c = ((λ file work. refl), (cc))
+returns c = ((λ w file work. refl), (cc))
 
 pub refused-entry-spec : {M : Type 1} → statement M
 refused-entry-spec = tie.close (tie.spec no-fields-requires returns)

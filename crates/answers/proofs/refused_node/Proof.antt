@@ -6,7 +6,7 @@ use Rattle.answers.proofs.refused_node.Tie as tie
 
 returns : tie.Need-returns
 unfolding nodeSaid
-returns c = ((λ file work. refl), refl)
+returns c = ((λ w file work. refl), refl)
 
 pub refused-node-spec : {M : Type 1} → statement M
 refused-node-spec = tie.close (tie.spec returns)

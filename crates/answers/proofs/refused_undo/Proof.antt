@@ -6,7 +6,7 @@ use Rattle.answers.proofs.refused_undo.Tie as tie
 
 returns : tie.Need-returns
 unfolding undoSaid
-returns c = ((λ file work. refl), refl)
+returns c = ((λ w file work. refl), refl)
 
 pub refused-undo-spec : {M : Type 1} → statement M
 refused-undo-spec = tie.close (tie.spec returns)
