@@ -1,4 +1,6 @@
 -- Laws that several proofs cite.
+pub mod Blocks
 pub mod Copying
 pub mod Padding
+pub mod Schedule
 pub mod Words

@@ -21,6 +21,14 @@ pub fn rotl(x: u32, n: u32) -> u32
     (x << n) | (x >> (32 - n))
 }
 
+// The rotation to the right by n bits (3.2).
+pub fn rotr(x: u32, n: u32) -> u32
+    requires { ⌜ (0 < n) × (n < 32) ⌝ }
+    ensures { λ r. ⌜ r ≡ W.rotr n x ⌝ }
+{
+    (x >> n) | (x << (32 - n))
+}
+
 // Each bit of y where x has a 1, of z where x has a 0 (4.1).
 pub fn ch(x: u32, y: u32, z: u32) -> u32
     ensures { λ r. ⌜ r ≡ W.ch x y z ⌝ }
