@@ -1,12 +1,12 @@
 -- Runs of stores into a list. Assumes nothing.
 use mathlib.Core.List.{List, [], _∷_, _++_, append-assoc}
-use mathlib.Core.Path.{_≡_, _∙_}
+use mathlib.Core.Path.{_≡_, ap, sym, _∙_}
 use Prim.Native.Nat.{ℕ, zero, suc, _+_, _-_, _≤_, _<_}
 use native.Mathlib.Nat.{zero-add, add-zero, sub-zero}
 use native.Mathlib.Numerals.{add-one}
 use native.Mathlib.Omega.{arith}
 use lib.ListN.{length, getD, set, take, drop, replicate}
-use lib.Seq.{sets, sets-eq, take-all, take-at, paste-suc}
+use lib.Seq.{sets, sets-eq, length-take-le, take-suc, take-all, take-at, paste-suc}
 
 -- a loop that copies s over the start of d, with w after i turns: one more turn, and the end
 module _ (d s w : List ℕ) (i : ℕ) (now : w ≡ take i s ++ drop i d) where
@@ -27,6 +27,13 @@ sets-append [] t l i = rw add-zero
 sets-append (a ∷ s) t l i =
     let e : i + suc (length s) ≡ suc i + length s = omega arith in
     rw e (sets-append s t (set l i a) (suc i))
+
+-- a run that grows by the next element of s: one more turn of a loop that stores s
+pub sets-next : (l s : List ℕ) (j i : ℕ) → i < length s → set (sets l j (take i s)) (j + i) (getD s i 0) ≡ sets l j (take (i + 1) s)
+sets-next l s j i h =
+    let e : length (take i s) ≡ i = length-take-le i s (omega arith) in
+    let a = rw e at (sets-append (take i s) (getD s i 0 ∷ []) l j) in
+    rw add-one (a ∙ ap (sets l j) (sym (take-suc s i 0 h)))
 
 -- a run that starts where p ends
 pub sets-after : (p q s : List ℕ) (i : ℕ) → length p ≡ i → i + length s ≤ length (p ++ q) → sets (p ++ q) i s ≡ p ++ (s ++ drop (i + length s) (p ++ q))
