@@ -52,16 +52,17 @@ module _ {S : Type 0} {block : S → List ℕ → S} {absorb : S → List ℕ �
         }
 
     -- a slice that fills the block: it is absorbed
-    pub buffered-filled : n % 64 + length a ≡ 64 → (t : S) → t ≡ absorb s (sets b (n % 64) a) (length (sets b (n % 64) a) / 64)
-        → Buffered absorb first (m ++ a) t (sets b (n % 64) a) ((n + length a) % 2 ^ 64)
-    buffered-filled fits t et =
+    pub buffered-filled : (u : ℕ) (c : List ℕ) (t : S) → u ≡ n % 64 → u + length a ≡ 64 → c ≡ sets b u a → t ≡ absorb s c (length c / 64)
+        → Buffered absorb first (m ++ a) t c ((n + length a) % 2 ^ 64)
+    buffered-filled u c t eu fits ec et =
         let p = place in
-        let c : List ℕ = sets b (n % 64) a in
-        let l : length c ≡ 64 = length-sets b (n % 64) a ∙ h .long in
+        let es : c ≡ sets b (n % 64) a = ec ∙ rw eu in
+        let l : length c ≡ 64 = ap length es ∙ length-sets b (n % 64) a ∙ h .long in
         let e : length (m ++ a) / 64 ≡ length m / 64 + 1 = rw length-append (omega arith) in
         let r : length (m ++ a) % 64 ≡ 0 = rw length-append (omega arith) in
         let w : length (m ++ a) / 64 * 64 ≡ length (m ++ a) = omega arith in
-        let f : c ≡ drop (length m / 64 * 64) (m ++ a) = sym (take-all (n % 64 + length a) c (omega arith)) ∙ joined (omega arith) in
+        let f : c ≡ drop (length m / 64 * 64) (m ++ a) =
+        sym (take-all (n % 64 + length a) c (omega arith)) ∙ ap (take (n % 64 + length a)) es ∙ joined (omega arith) in
         let o : length c / 64 ≡ 1 = omega arith in
         record {
           state = et ∙ rw (o, f, ← before) (sym (absorb-add x first (m ++ a) (length m / 64) 1) ∙ rw e);

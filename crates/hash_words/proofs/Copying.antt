@@ -5,7 +5,7 @@ use Prim.Native.Nat.{ℕ, zero, suc, _+_, _-_, _≤_, _<_}
 use native.Mathlib.Nat.{zero-add, add-zero, sub-zero}
 use native.Mathlib.Numerals.{add-one}
 use native.Mathlib.Omega.{arith}
-use lib.ListN.{length, getD, set, take, drop, replicate}
+use lib.ListN.{length, getD, set, take, drop, replicate, length-drop, take-append-drop}
 use lib.Seq.{sets, sets-eq, length-take-le, take-suc, take-all, take-at, paste-suc}
 
 -- a loop that copies s over the start of d, with w after i turns: one more turn, and the end
@@ -20,6 +20,14 @@ pub drop-replicate : (k n : ℕ) → drop k (replicate n 0) ≡ replicate {A = �
 drop-replicate zero n = rw sub-zero
 drop-replicate (suc k) zero = let e : 0 - suc k ≡ 0 = omega arith in rw e
 drop-replicate (suc k) (suc n) = let e : suc n - suc k ≡ n - k = omega arith in rw e (drop-replicate k n)
+
+-- a slice from byte k on, with its length
+pub rest-of : (s : List ℕ) (k : ℕ) → take (length s - k) (drop k s) ≡ drop k s
+rest-of s k = take-all (length s - k) (drop k s) (omega (arith, length-drop k s))
+
+-- a message with a slice in two parts behind it
+pub in-parts : (m s : List ℕ) (k : ℕ) → (m ++ take k s) ++ take (length s - k) (drop k s) ≡ m ++ s
+in-parts m s k = rw (rest-of s k) (append-assoc m (take k s) (drop k s) ∙ rw (take-append-drop k s))
 
 -- two runs, the second where the first ends, are one
 pub sets-append : (s t l : List ℕ) (i : ℕ) → sets (sets l i s) (i + length s) t ≡ sets l i (s ++ t)

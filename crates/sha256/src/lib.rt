@@ -1,4 +1,7 @@
 // SHA-256, FIPS 180-4. A message is hashed in one call, or in pieces: start, absorb for each piece of whole blocks, finish.
+// The module buffered takes pieces of any length.
+pub mod buffered;
+
 use hash_words::add;
 use hash_words::ch;
 use hash_words::load;
