@@ -1,6 +1,5 @@
 -- Laws that several proofs cite.
 pub mod Blocks
 pub mod Bytes
-pub mod Pieces
 pub mod Quarters
 pub mod Schedule

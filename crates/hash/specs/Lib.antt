@@ -1,3 +1,4 @@
--- SHA-1 as FIPS 180-4 has it, and the window that the code keeps of its schedule.
+-- SHA-1 as FIPS 180-4 has it, the window that the code keeps of its schedule, and a message that comes in slices.
+pub mod Buffered
 pub mod Sha1
 pub mod Window

@@ -1,4 +1,7 @@
 // SHA-1, FIPS 180-4. A message is hashed in one call, or in pieces: start, absorb for each piece of whole blocks, finish.
+// The module buffered takes pieces of any length.
+pub mod buffered;
+
 use hash_words::add;
 use hash_words::ch;
 use hash_words::load;
@@ -10,9 +13,10 @@ ghost use mathlib.Core.Path.{_≡_};
 ghost use mathlib.Core.List.{List};
 ghost use Prim.Native.Nat.{ℕ, _+_, _/_, _<_, _≤_};
 ghost use lib.ListN.{length, getD};
+ghost use Rattle.hash_words.specs.Window.{Holds};
 ghost use Rattle.hash_words.specs.Words.{words};
 ghost use Rattle.hash.specs.Sha1 as F;
-ghost use Rattle.hash.specs.Window.{Holds, At};
+ghost use Rattle.hash.specs.Window.{At};
 
 // The hash value H_0 .. H_4 between blocks, and the working variables a .. e within one.
 pub struct State {
@@ -65,7 +69,7 @@ fn constant(t: usize) -> u32
 // The word of round t (6.1.2, step 1), with room for sixteen (6.1.3): from round 16 on it takes the place of the oldest in the window.
 fn word_of(w: &mut [u32; 16], t: usize) -> u32
     requires { ⌜ t < 80 ⌝ }
-    ensures { λ r. ⌜ ((m : List ℕ) → Holds m t (now (w .entry)) → (r ≡ getD (F.schedule m) t 0) × Holds m (t + 1) (now (w .exit))) ⌝ }
+    ensures { λ r. ⌜ ((m : List ℕ) → length m ≡ 16 → Holds (F.schedule m) t (now (w .entry)) → (r ≡ getD (F.schedule m) t 0) × Holds (F.schedule m) (t + 1) (now (w .exit))) ⌝ }
 {
     if t < 16 {
         return w[t];

@@ -22,6 +22,10 @@ be64-words x =
     let l : x % 2 ^ 64 % 2 ^ 32 ≡ x % 2 ^ 32 = omega arith in
     rw (h, l, bytes4-low (x / 2 ^ 32), bytes4-low x)
 
+-- the low 64 bits of a number decide
+be64-low : (x y : ℕ) → x % 2 ^ 64 ≡ y % 2 ^ 64 → be64 x ≡ be64 y
+be64-low x y e = sym (be64-words x) ∙ rw e (be64-words y)
+
 -- two stores of a word are one of a count of bits
 pub put-words : (l a b : List ℕ) (i x : ℕ) → a ≡ sets l i (bytes4 (x % 2 ^ 64 / 2 ^ 32)) → b ≡ sets a (i + 4) (bytes4 (x % 2 ^ 64 % 2 ^ 32))
     → b ≡ sets l i (be64 x)
@@ -39,6 +43,11 @@ length-padded n m = simp (length-append, length-replicate, length-be64) (omega a
 pub padded-at : (n : ℕ) (m : List ℕ) (k : ℕ) → k < length m → getD (padded n m) k 0 ≡ getD m k 0
 unfolding padded
 padded-at n m k h = List·getD-append m _ 0 k h
+
+-- a length that is counted modulo 2 ^ 64
+pub padded-low : (n : ℕ) (m : List ℕ) → padded (n % 2 ^ 64) m ≡ padded n m
+unfolding padded
+padded-low n m = rw (be64-low (n % 2 ^ 64 * 8) (n * 8) (omega arith))
 
 -- whole blocks before the last piece are not changed
 pub padded-append : (n : ℕ) (a b : List ℕ) → length a % 64 ≡ 0 → padded n (a ++ b) ≡ a ++ padded n b

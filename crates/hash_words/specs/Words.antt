@@ -16,6 +16,10 @@ add32 x y = (x + y) % 2 ^ 32
 abbrev pub rotl : ℕ → ℕ → ℕ
 rotl n x = bitOr ((x * 2 ^ n) % 2 ^ 32) (x / 2 ^ (32 - n))
 
+-- 3.2: ROTR^n(x) = (x >> n) ∨ (x << 32 - n), the rotation to the right by n bits, 0 < n < 32
+abbrev pub rotr : ℕ → ℕ → ℕ
+rotr n x = bitOr (x / 2 ^ n) ((x * 2 ^ (32 - n)) % 2 ^ 32)
+
 -- 4.1: Ch(x, y, z) = (x ∧ y) ⊕ (¬ x ∧ z)
 abbrev pub ch : ℕ → ℕ → ℕ → ℕ
 ch x y z = bitXor (bitAnd x y) (bitAnd (not32 x) z)

@@ -1,6 +1,6 @@
 // Operations on 32-bit words and the padding of messages, after FIPS 180-4: what SHA-1 and SHA-256 share.
 ghost use mathlib.Core.Path.{_≡_};
-ghost use Prim.Native.Nat.{_+_, _*_, _%_, _<_, _≤_};
+ghost use Prim.Native.Nat.{_+_, _*_, _%_, _^_, _<_, _≤_};
 ghost use lib.ListN.{length};
 ghost use lib.Seq.{sets};
 ghost use Rattle.hash_words.specs.Words as W;
@@ -19,6 +19,14 @@ pub fn rotl(x: u32, n: u32) -> u32
     ensures { λ r. ⌜ r ≡ W.rotl n x ⌝ }
 {
     (x << n) | (x >> (32 - n))
+}
+
+// The rotation to the right by n bits (3.2).
+pub fn rotr(x: u32, n: u32) -> u32
+    requires { ⌜ (0 < n) × (n < 32) ⌝ }
+    ensures { λ r. ⌜ r ≡ W.rotr n x ⌝ }
+{
+    (x >> n) | (x << (32 - n))
 }
 
 // Each bit of y where x has a 1, of z where x has a 0 (4.1).
@@ -90,6 +98,33 @@ fn put_length(out: &mut [u8; 128], at: usize, n: u64)
     let bits = n << 3;
     put_word(out, at, (bits >> 32) as u32);
     put_word(out, at + 4, (bits % 4294967296) as u32);
+}
+
+// Copies bytes over those of a block, from a place on.
+pub fn fill(block: &mut [u8; 64], at: usize, bytes: &[u8])
+    requires { ⌜ at + length (now bytes) ≤ 64 ⌝ }
+    ensures { λ _. ⌜ now (block .exit) ≡ sets (now (block .entry)) at (now (bytes .entry)) ⌝ }
+{
+    let n = bytes.len();
+    let mut i: usize = 0;
+    while i < n {
+        block[at + i] = bytes[i];
+        i += 1;
+    }
+}
+
+// How many bytes of a message are in no whole block.
+pub fn kept(length: u64) -> usize
+    ensures { λ r. ⌜ r ≡ length % 64 ⌝ }
+{
+    (length % 64) as usize
+}
+
+// The length of a message with n bytes more, modulo 2 ^ 64.
+pub fn longer(length: u64, n: usize) -> u64
+    ensures { λ r. ⌜ r ≡ (length + n) % 2 ^ 64 ⌝ }
+{
+    std::num::wrapping_add_u64(length, n as u64)
 }
 
 // What follows the last whole block of rest in the padded message; the whole message is length bytes long (5.1.1).

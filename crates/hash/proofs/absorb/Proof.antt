@@ -3,8 +3,9 @@ use mathlib.Core.Path.{_≡_, refl, _∙_}
 use Prim.Native.Nat.{_-_, _/_, _≤_}
 use native.Mathlib.Omega.{arith}
 use lib.ListN.{length}
+use Rattle.hash_words.proofs.Blocks.{absorb-next}
 use Rattle.hash.specs.Sha1.{absorb}
-use Rattle.hash.proofs.Blocks.{absorb-next}
+use Rattle.hash.proofs.Blocks.{absorbs}
 use Rattle.hash.proofs.absorb.Statement.{statement}
 use Rattle.hash.proofs.absorb.Tie as tie
 
@@ -33,7 +34,7 @@ loop-less c = omega arith
 loop-again : tie.Need-loop-again Inv-loop μ-loop
 loop-again c =
     let l = c .before .before .loop in
-    (omega arith, absorb-next _ (l .s) _ _ (l .i) (l .inv .1) (c .block .ensures))
+    (omega arith, absorb-next absorbs _ (l .s) _ _ (l .i) (l .inv .1) (c .block .ensures))
 
 returns : tie.Need-returns Inv-loop μ-loop
 returns c = let e : c .before .loop .i ≡ length (c .before .before .before .args .bytes .now) / 64 = omega arith in c .before .loop .inv .1 ∙ rw e

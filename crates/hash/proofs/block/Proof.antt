@@ -1,6 +1,7 @@
 -- `hash::block` meets its contract: what each five rounds ensure is what the next ask, from the block itself as the window. Assumes nothing.
 use mathlib.Core.Path.{refl, ap, _∙_}
 use borrow.Author.Needs.{needs}
+use Rattle.hash_words.proofs.Words.{length-words}
 use Rattle.hash_words.specs.Words.{words}
 use Rattle.hash.specs.Sha1.{rounds, block, chain}
 use Rattle.hash.specs.Window.{At}
@@ -85,7 +86,8 @@ returns c =
     let z = loading .before .before .args in
     let h = z .h in
     let m = words (z .p .now) (z .at) 16 in
-    let a0 : At h m 0 (loading .load .result) h = record { holds = rw (loading .load .ensures) (loaded (z .p .now) (z .at)); vars = refl } in
+    let a0 : At h m 0 (loading .load .result) h =
+    record { sized = length-words (z .p .now) (z .at) 16; holds = rw (loading .load .ensures) (loaded (z .p .now) (z .at)); vars = refl } in
     let a1 = c1 .five .ensures h m a0 in
     let a2 = c2 .five2 .ensures h m a1 in
     let a3 = c3 .five3 .ensures h m a2 in

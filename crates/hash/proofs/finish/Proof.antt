@@ -1,14 +1,16 @@
 -- `hash::finish` meets its contract: the ending is the first 64 bytes of the tail, or all 128. Assumes nothing.
 use mathlib.Core.Logic.{⊎-elim}
-use mathlib.Core.Path.{_≡_}
+use mathlib.Core.Path.{_≡_, ap, _∙_}
 use Prim.Native.Nat.{_≤_}
 use native.Mathlib.Omega.{arith}
 use lib.ListN.{length, take}
 use lib.Seq.{length-take-le}
 use borrow.Author.Needs.{needs}
+use Rattle.hash_words.proofs.Blocks.{ended-tail}
 use Rattle.hash_words.proofs.Padding.{length-ending}
 use Rattle.hash_words.specs.Padding.{ending}
-use Rattle.hash.proofs.Blocks.{finished}
+use Rattle.hash.specs.Sha1.{digest, finish}
+use Rattle.hash.proofs.Blocks.{absorbs}
 use Rattle.hash.proofs.finish.Statement.{statement}
 use Rattle.hash.proofs.finish.Tie as tie
 
@@ -36,6 +38,7 @@ digest-requires : tie.Need-digest-requires
 digest-requires c κs = search needs
 
 returns : tie.Need-returns
+unfolding finish
 returns c =
     let join = c .before .before .before in
     let end = join .if1 .end in
@@ -44,8 +47,9 @@ returns c =
     let m = z .rest .now in
     let le = length-ending (z .length) m in
     let e : end ≡ length (ending (z .length) m) = ⊎-elim (λ w. omega arith) (λ w. omega arith) (join .if1 .came) in
-    finished (z .h) _ _ m (t .result) (take end (t .result)) _ (z .length) (join .before .before .absorb .ensures) (t .ensures) (rw e)
-    (c .before .absorb2 .ensures) (c .digest .ensures)
+    let all = ended-tail absorbs (z .h) _ _ m (t .result) (take end (t .result)) (z .length) (join .before .before .absorb .ensures) (t .ensures) (rw e)
+    (c .before .absorb2 .ensures) in
+    c .digest .ensures ∙ ap digest all
 
 pub finish-spec : {M : Type 1} → statement M
 finish-spec =

@@ -11,9 +11,7 @@ step-requires : tie.Need-step-requires
 step-requires c κs = search needs
 
 returns : tie.Need-returns
-returns c = λ h m a.
-    let z = c .before .before .before .args in
-    turned h (z .s) _ m _ (z .t) _ (a .vars) (c .before .word-of .ensures m (a .holds)) (c .step .ensures)
+returns c = λ h m a. turned _ _ a (c .before .word-of .ensures m (a .sized) (a .holds)) (c .step .ensures)
 
 pub round-spec : {M : Type 1} → statement M
 round-spec = tie.close (tie.spec word-of-requires step-requires returns)

@@ -1,7 +1,7 @@
 -- `hash::sha1` meets its contract. Assumes nothing.
 use mathlib.Core.Path.{_∙_}
 use borrow.Author.Needs.{needs}
-use Rattle.hash.proofs.Pieces.{finish-whole}
+use Rattle.hash.proofs.Blocks.{finish-whole}
 use Rattle.hash.proofs.sha1.Statement.{statement}
 use Rattle.hash.proofs.sha1.Tie as tie
 

@@ -1,7 +1,8 @@
 -- `hash::word_of` meets its contract: before round 16 the word is in the window, from then on it is made of four words there. Assumes nothing.
 use native.Mathlib.Omega.{arith}
 use borrow.Author.Needs.{needs}
-use Rattle.hash.proofs.Schedule.{word-held, word-made}
+use Rattle.hash_words.proofs.Schedule.{word-held}
+use Rattle.hash.proofs.Schedule.{word-made}
 use Rattle.hash.proofs.word_of.Statement.{statement}
 use Rattle.hash.proofs.word_of.Tie as tie
 
@@ -12,9 +13,9 @@ element-copy-out-result : tie.Need-element-copy-out-result
 element-copy-out-result c = search needs
 
 returns : tie.Need-returns
-returns c = λ m h.
+returns c = λ m l h.
     let z = c .before .before .args in
-    word-held m (z .t) (z .w .now) (omega arith) h (omega arith)
+    word-held _ (z .t) (z .w .now) h (omega arith)
 
 add-rotl : tie.Need-add-rotl
 add-rotl c = search needs
@@ -59,9 +60,9 @@ element-write-w : tie.Need-element-write-w
 element-write-w c = search needs
 
 returns-2 : tie.Need-returns-2
-returns-2 c = λ m h.
+returns-2 c = λ m l h.
     let z = c .before .before .before .before .before .before .args in
-    word-made m (z .t) (z .w .now) (omega arith) h (omega arith) _ (c .rotl .ensures)
+    word-made m (z .t) (z .w .now) l h (omega arith) (omega arith) _ (c .rotl .ensures)
 
 pub word-of-spec : {M : Type 1} → statement M
 word-of-spec =

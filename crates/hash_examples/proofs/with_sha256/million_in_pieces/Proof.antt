@@ -1,8 +1,8 @@
-use Prim.Native.Nat.{_≤_, _-_}
+use Prim.Native.Nat.{_-_, _≤_}
 use native.Mathlib.Omega.{arith}
 use borrow.Author.Needs.{needs}
-use Rattle.hash_examples.proofs.million_in_pieces.Statement.{statement}
-use Rattle.hash_examples.proofs.million_in_pieces.Tie as tie
+use Rattle.hash_examples.proofs.with_sha256.million_in_pieces.Statement.{statement}
+use Rattle.hash_examples.proofs.with_sha256.million_in_pieces.Tie as tie
 
 abbrev Inv-loop : tie.InvT-loop
 Inv-loop piece h₀ t3 counter₀ h counter = counter ≤ 125

@@ -1,20 +1,21 @@
-use Prim.Native.Nat.{_≤_, _-_}
+use Prim.Native.Nat.{_-_, _≤_}
 use native.Mathlib.Omega.{arith}
+use lib.ListN.{length}
 use borrow.Author.Needs.{needs}
-use Rattle.hash_examples.proofs.print_digits.Statement.{statement}
-use Rattle.hash_examples.proofs.print_digits.Tie as tie
+use Rattle.hash_examples.proofs.print.digits.Statement.{statement}
+use Rattle.hash_examples.proofs.print.digits.Tie as tie
 
 abbrev Inv-loop : tie.InvT-loop
-Inv-loop digest i₀ i = i ≤ 20
+Inv-loop digest n i₀ i = i ≤ length digest
 
 abbrev μ-loop : tie.MeasureT-loop
-μ-loop digest i₀ i = 20 - i
+μ-loop digest n i₀ i = length digest - i
 
 loop-holds : tie.Need-loop-holds Inv-loop μ-loop
 loop-holds c = omega arith
 
-element-copy-out-wide : tie.Need-element-copy-out-wide Inv-loop μ-loop
-element-copy-out-wide c = omega arith
+shared-slice-read-wide : tie.Need-shared-slice-read-wide Inv-loop μ-loop
+shared-slice-read-wide c = omega arith
 
 wide-requires : tie.Need-wide-requires Inv-loop μ-loop
 wide-requires c κs = search needs
@@ -34,14 +35,14 @@ loop-again c = omega arith
 returns : tie.Need-returns Inv-loop μ-loop
 returns c = search needs
 
-pub print-digits-spec : {M : Type 1} → statement M
-print-digits-spec =
+pub digits-spec : {M : Type 1} → statement M
+digits-spec =
     tie.close
     (tie.spec
     Inv-loop
     μ-loop
     loop-holds
-    element-copy-out-wide
+    shared-slice-read-wide
     wide-requires
     print-hex-requires
     add-i
