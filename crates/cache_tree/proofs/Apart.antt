@@ -1,4 +1,4 @@
--- Laws of names chunk by chunk: when a chunk and what follows it differ, and what the table says of a name.
+-- Laws of names chunk by chunk: when a chunk and what follows it differ, and what the table says of a name. w is the width of an object name.
 use mathlib.Core.Path.{_≡_, refl, sym, ap, _∙_}
 use mathlib.Core.List.{List, [], _∷_, _++_}
 use mathlib.Core.Bool.{Bool, true, false, cond, true≢false}
@@ -166,87 +166,87 @@ module _ (t x : List ℕ) (key slot : ℕ) (is-key : key ≡ keyIn t x) (is-slot
 
 -- ---- the names of siblings and of those after them
 
-after-one : (n : ℕ) (s : List ℕ) → restAfter (n + 1) s ≡ restOf (restAfter n s)
+after-one : (w : ℕ) (n : ℕ) (s : List ℕ) → restAfter w (n + 1) s ≡ restOf w (restAfter w n s)
 unfolding restAfter
-after-one zero s = refl
-after-one (suc n) s = rw (suc-add n 1) (after-one n (restOf s))
+after-one w zero s = refl
+after-one w (suc n) s = rw (suc-add n 1) (after-one w n (restOf w s))
 
-names-append : (n j : ℕ) (s : List ℕ) → namesOf (n + j) s ≡ namesOf n s ++ namesOf j (restAfter n s)
+names-append : (w : ℕ) (n j : ℕ) (s : List ℕ) → namesOf w (n + j) s ≡ namesOf w n s ++ namesOf w j (restAfter w n s)
 unfolding namesOf restAfter
-names-append zero j s = simp zero-add
-names-append (suc n) j s = rw (suc-add n j) (ap (λ (l : List (List ℕ)). nameOf s ∷ l) (names-append n j (restOf s)))
+names-append w zero j s = simp zero-add
+names-append w (suc n) j s = rw (suc-add n j) (ap (λ (l : List (List ℕ)). nameOf s ∷ l) (names-append w n j (restOf w s)))
 
-pub after-start : (s : List ℕ) → s ≡ restAfter 0 s
+pub after-start : (w : ℕ) (s : List ℕ) → s ≡ restAfter w 0 s
 unfolding restAfter
-after-start s = refl
+after-start w s = refl
 
-pub differ-start : (s : List ℕ) → namesDiffer (namesOf 0 s) ≡ true
+pub differ-start : (w : ℕ) (s : List ℕ) → namesDiffer (namesOf w 0 s) ≡ true
 unfolding namesDiffer namesOf
-differ-start s = refl
+differ-start w s = refl
 
-pub held-start : (t s : List ℕ) → allHeld t (namesOf 0 s) ≡ true
+pub held-start : (w : ℕ) (t s : List ℕ) → allHeld t (namesOf w 0 s) ≡ true
 unfolding allHeld namesOf
-held-start t s = refl
+held-start w t s = refl
 
-pub apart-end : (c : List (List ℕ)) (d : List ℕ) (a k : ℕ) → k ≤ 0 → apart c (namesOf k (drop a d)) ≡ true
+pub apart-end : (w : ℕ) (c : List (List ℕ)) (d : List ℕ) (a k : ℕ) → k ≤ 0 → apart c (namesOf w k (drop a d)) ≡ true
 unfolding apart
-apart-end c d a k h = rw (names-none k (drop a d) h)
+apart-end w c d a k h = rw (names-none w k (drop a d) h)
 
-module _ (c : List (List ℕ)) (d : List ℕ) (a k : ℕ) (some : 0 < k) where
-  pub apart-not : hasName (nameOf (drop a d)) c ≡ true → apart c (namesOf k (drop a d)) ≡ false
+module _ (w : ℕ) (c : List (List ℕ)) (d : List ℕ) (a k : ℕ) (some : 0 < k) where
+  pub apart-not : hasName (nameOf (drop a d)) c ≡ true → apart c (namesOf w k (drop a d)) ≡ false
   unfolding apart
-  apart-not e = rw (names-more k (drop a d) some, e)
+  apart-not e = rw (names-more w k (drop a d) some, e)
 
-  pub apart-next : (r : ℕ) → r ≡ a + treesLength 1 (drop a d) → hasName (nameOf (drop a d)) c ≡ false → apart c (namesOf k (drop a d)) ≡ apart c (namesOf (k - 1) (drop r d))
+  pub apart-next : (r : ℕ) → r ≡ a + treesLength w 1 (drop a d) → hasName (nameOf (drop a d)) c ≡ false → apart c (namesOf w k (drop a d)) ≡ apart c (namesOf w (k - 1) (drop r d))
   unfolding apart
-  apart-next r is e = rw (names-more k (drop a d) some, e, rest-at d a r is)
+  apart-next r is e = rw (names-more w k (drop a d) some, e, rest-at w d a r is)
 
 -- n siblings of t, and u, what follows them
-module _ (n : ℕ) (t u : List ℕ) (at : u ≡ restAfter n t) where
-  names-split : (k : ℕ) → n ≤ k → namesOf k t ≡ namesOf n t ++ namesOf (k - n) u
+module _ (w : ℕ) (n : ℕ) (t u : List ℕ) (at : u ≡ restAfter w n t) where
+  names-split : (k : ℕ) → n ≤ k → namesOf w k t ≡ namesOf w n t ++ namesOf w (k - n) u
   names-split k le =
       let q : k ≡ n + (k - n) = omega arith in
-      ap (λ (j : ℕ). namesOf j t) q ∙ names-append n (k - n) t ∙ ap (λ (v : List ℕ). namesOf n t ++ namesOf (k - n) v) (sym at)
+      ap (λ (j : ℕ). namesOf w j t) q ∙ names-append w n (k - n) t ∙ ap (λ (v : List ℕ). namesOf w n t ++ namesOf w (k - n) v) (sym at)
 
-  one-more : namesOf (n + 1) t ≡ namesOf n t ++ (nameOf u ∷ [])
+  one-more : namesOf w (n + 1) t ≡ namesOf w n t ++ (nameOf u ∷ [])
   unfolding namesOf
-  one-more = names-append n 1 t ∙ ap (λ (v : List ℕ). namesOf n t ++ namesOf 1 v) (sym at)
+  one-more = names-append w n 1 t ∙ ap (λ (v : List ℕ). namesOf w n t ++ namesOf w 1 v) (sym at)
 
   -- the chunk takes one more name
-  pub fill-equal : (k : ℕ) → n < k → namesDiffer (namesOf n t) ≡ true → hasName (nameOf u) (namesOf n t) ≡ true → namesDiffer (namesOf k t) ≡ false
+  pub fill-equal : (k : ℕ) → n < k → namesDiffer (namesOf w n t) ≡ true → hasName (nameOf u) (namesOf w n t) ≡ true → namesDiffer (namesOf w k t) ≡ false
   unfolding apart
   fill-equal k lt d e =
       let some : 0 < k - n = omega arith in
       let le : n ≤ k = omega arith in
-      ap namesDiffer (names-split k le) ∙ differ-append (namesOf n t) (namesOf (k - n) u) d ∙ rw (names-more (k - n) u some, e)
+      ap namesDiffer (names-split k le) ∙ differ-append (namesOf w n t) (namesOf w (k - n) u) d ∙ rw (names-more w (k - n) u some, e)
 
-  pub fill-differ : namesDiffer (namesOf n t) ≡ true → hasName (nameOf u) (namesOf n t) ≡ false → namesDiffer (namesOf (n + 1) t) ≡ true
+  pub fill-differ : namesDiffer (namesOf w n t) ≡ true → hasName (nameOf u) (namesOf w n t) ≡ false → namesDiffer (namesOf w (n + 1) t) ≡ true
   unfolding apart namesDiffer hasName
-  fill-differ d e = ap namesDiffer one-more ∙ differ-append (namesOf n t) (nameOf u ∷ []) d ∙ rw e
+  fill-differ d e = ap namesDiffer one-more ∙ differ-append (namesOf w n t) (nameOf u ∷ []) d ∙ rw e
 
-  pub fill-rest : (d : List ℕ) (a r : ℕ) → u ≡ drop a d → r ≡ a + treesLength 1 (drop a d) → drop r d ≡ restAfter (n + 1) t
-  fill-rest d a r e is = rest-at d a r is ∙ ap restOf (sym e ∙ at) ∙ sym (after-one n t)
+  pub fill-rest : (d : List ℕ) (a r : ℕ) → u ≡ drop a d → r ≡ a + treesLength w 1 (drop a d) → drop r d ≡ restAfter w (n + 1) t
+  fill-rest d a r e is = rest-at w d a r is ∙ ap (restOf w) (sym e ∙ at) ∙ sym (after-one w n t)
 
-  pub fill-held : (w v : List ℕ) → 3072 ≤ length w → v ≡ putIn w (nameOf u) → allHeld w (namesOf n t) ≡ true → allHeld v (namesOf (n + 1) t) ≡ true
-  fill-held w v room is a = rw is (ap (allHeld (putIn w (nameOf u))) one-more ∙ all-more w room (nameOf u) (namesOf n t) a)
+  pub fill-held : (old v : List ℕ) → 3072 ≤ length old → v ≡ putIn old (nameOf u) → allHeld old (namesOf w n t) ≡ true → allHeld v (namesOf w (n + 1) t) ≡ true
+  fill-held old v room is a = rw is (ap (allHeld (putIn old (nameOf u))) one-more ∙ all-more old room (nameOf u) (namesOf w n t) a)
 
   -- the chunk and the siblings after it
   module _ (k : ℕ) (le : n ≤ k) where
-    pub chunk-equal : namesDiffer (namesOf n t) ≡ false → namesDiffer (namesOf k t) ≡ false
-    chunk-equal e = ap namesDiffer (names-split k le) ∙ equal-append (namesOf n t) (namesOf (k - n) u) e
+    pub chunk-equal : namesDiffer (namesOf w n t) ≡ false → namesDiffer (namesOf w k t) ≡ false
+    chunk-equal e = ap namesDiffer (names-split k le) ∙ equal-append (namesOf w n t) (namesOf w (k - n) u) e
 
-    module _ (d : namesDiffer (namesOf n t) ≡ true) where
-      pub chunk-known : apart (namesOf n t) (namesOf (k - n) u) ≡ false → namesDiffer (namesOf k t) ≡ false
-      chunk-known e = ap namesDiffer (names-split k le) ∙ differ-append (namesOf n t) (namesOf (k - n) u) d ∙ rw e
+    module _ (d : namesDiffer (namesOf w n t) ≡ true) where
+      pub chunk-known : apart (namesOf w n t) (namesOf w (k - n) u) ≡ false → namesDiffer (namesOf w k t) ≡ false
+      chunk-known e = ap namesDiffer (names-split k le) ∙ differ-append (namesOf w n t) (namesOf w (k - n) u) d ∙ rw e
 
-      pub chunk-apart : apart (namesOf n t) (namesOf (k - n) u) ≡ true → namesDiffer (namesOf k t) ≡ namesDiffer (namesOf (k - n) u)
-      chunk-apart e = ap namesDiffer (names-split k le) ∙ differ-append (namesOf n t) (namesOf (k - n) u) d ∙ rw e
+      pub chunk-apart : apart (namesOf w n t) (namesOf w (k - n) u) ≡ true → namesDiffer (namesOf w k t) ≡ namesDiffer (namesOf w (k - n) u)
+      chunk-apart e = ap namesDiffer (names-split k le) ∙ differ-append (namesOf w n t) (namesOf w (k - n) u) d ∙ rw e
 
 -- ---- the answer for a chunk
 
-module _ (d : List ℕ) (a k : ℕ) (t : List ℕ) where
-  pub filled-equal : namesDiffer (namesOf k (drop a d)) ≡ false → Filled d a k t C.Equal
+module _ {w : ℕ} (d : List ℕ) (a k : ℕ) (t : List ℕ) where
+  pub filled-equal : namesDiffer (namesOf w k (drop a d)) ≡ false → Filled w d a k t C.Equal
   filled-equal e = record { equal = λ q. e; next = λ y q. let z : _≡_ {A = ℕ} 0 1 = cc in absurd (omega arith) }
 
-  pub filled-next : (y n : ℕ) → n ≡ k → y ≤ length d → drop y d ≡ restAfter n (drop a d) → namesDiffer (namesOf n (drop a d)) ≡ true → allHeld t (namesOf n (drop a d)) ≡ true → Filled d a k t (C.Next y)
+  pub filled-next : (y n : ℕ) → n ≡ k → y ≤ length d → drop y d ≡ restAfter w n (drop a d) → namesDiffer (namesOf w n (drop a d)) ≡ true → allHeld t (namesOf w n (drop a d)) ≡ true → Filled w d a k t (C.Next y)
   filled-next y n e l r f h = rw (← e) (record { equal = λ q. let z : _≡_ {A = ℕ} 0 1 = cc in absurd (omega arith); next = λ x q. let i : x ≡ y = cc in rw i (l, r, f, h) })

@@ -63,11 +63,11 @@ module _ (a b : ℕ) (v : Bool) where
   first-ltb : (a ≡ b → v ≡ false) → firstBelow a b v ≡ ltb a b
   first-ltb f = first-is (ltb a b) (λ (h : a < b). lt-ltb a b h) (λ (h : b < a). le-ltb a b (omega arith)) (λ (h : a ≡ b). le-ltb a b (omega arith) ∙ sym (f h))
 
-first-trans : (a b c : ℕ) (u v w : Bool) → (u ≡ true → v ≡ true → w ≡ true) → firstBelow a b u ≡ true → firstBelow b c v ≡ true → firstBelow a c w ≡ true
-first-trans a b c u v w f h k =
+first-trans : (a b c : ℕ) (u v x : Bool) → (u ≡ true → v ≡ true → x ≡ true) → firstBelow a b u ≡ true → firstBelow b c v ≡ true → firstBelow a c x ≡ true
+first-trans a b c u v x f h k =
     ⊎-elim
-    (λ (l : a < b). ⊎-elim (λ (m : b < c). first-less a c w (omega arith)) (λ (m : (b ≡ c) × (v ≡ true)). first-less a c w (omega arith)) (first-inv b c v k))
-    (λ (l : (a ≡ b) × (u ≡ true)). ⊎-elim (λ (m : b < c). first-less a c w (omega arith)) (λ (m : (b ≡ c) × (v ≡ true)). first-same a c w (omega arith) ∙ f (l .1) (m .1)) (first-inv b c v k))
+    (λ (l : a < b). ⊎-elim (λ (m : b < c). first-less a c x (omega arith)) (λ (m : (b ≡ c) × (v ≡ true)). first-less a c x (omega arith)) (first-inv b c v k))
+    (λ (l : (a ≡ b) × (u ≡ true)). ⊎-elim (λ (m : b < c). first-less a c x (omega arith)) (λ (m : (b ≡ c) × (v ≡ true)). first-same a c x (omega arith) ∙ f (l .1) (m .1)) (first-inv b c v k))
     (first-inv a b u h)
 
 -- ---- bytes

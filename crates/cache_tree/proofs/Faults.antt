@@ -1,4 +1,4 @@
--- Every fault of the data of TREE is 15 at the extension's place, and what is read does not hang on that place.
+-- Every fault of the data of TREE is 15 at the extension's place, and what is read does not hang on that place. w is the width of an object name.
 use mathlib.Core.Path.{_≡_, refl, sym, ap, _∙_}
 use mathlib.Core.List.{List}
 use mathlib.Core.Bool.{Bool, true, false, _&&_}
@@ -93,21 +93,21 @@ module _ (p : ℕ) where
         need-placed p (eqb m (length s)) _ _ (need-placed p (distinct (t .subtrees)) _ _ refl)
 
 -- the answer at any place
-tree-placed : (p : ℕ) (d : List ℕ) → treeOf (readShape 20 0 d) ≡ treeOf (readShape 20 p d)
+tree-placed : (w p : ℕ) (d : List ℕ) → treeOf (readShape w 0 d) ≡ treeOf (readShape w p d)
 unfolding treeOf
-tree-placed p d = sym (ap treeOf (shape-placed p 20 d) ∙ by (readShape 20 0 d))
+tree-placed w p d = sym (ap treeOf (shape-placed p w d) ∙ by (readShape w 0 d))
   where
     by : (x : Read Tree) → treeOf (placed p x) ≡ treeOf x
     by (bad n q) = refl
     by (good t m) = refl
 
-pub answered : (d : List ℕ) (r : TreeRead) → treeOf (readShape 20 0 d) ≡ r → (p : ℕ) → r ≡ treeOf (readShape 20 p d)
-answered d r e p = sym e ∙ tree-placed p d
+pub answered : (w : ℕ) (d : List ℕ) (r : TreeRead) → treeOf (readShape w 0 d) ≡ r → (p : ℕ) → r ≡ treeOf (readShape w p d)
+answered w d r e p = sym e ∙ tree-placed w p d
 
 -- a refusal is 15 at the place
-pub tree-fault : (p : ℕ) (d : List ℕ) → T.Bad ≡ treeOf (readShape 20 p d) → readShape 20 p d ≡ bad 15 p
+pub tree-fault : (w p : ℕ) (d : List ℕ) → T.Bad ≡ treeOf (readShape w p d) → readShape w p d ≡ bad 15 p
 unfolding treeOf
-tree-fault p d e = shape-placed p 20 d ∙ by (readShape 20 0 d) (e ∙ sym (tree-placed p d))
+tree-fault w p d e = shape-placed p w d ∙ by (readShape w 0 d) (e ∙ sym (tree-placed w p d))
   where
     by : (x : Read Tree) → T.Bad ≡ treeOf x → placed p x ≡ bad 15 p
     by (bad n q) e = refl

@@ -1,4 +1,4 @@
--- Laws of lists of siblings: the first node and the others, the number of nodes.
+-- Laws of lists of siblings: the first node and the others, the number of nodes. w is the width of an object name.
 use mathlib.Core.Path.{_≡_, refl, sym, ap, _∙_}
 use mathlib.Core.List.{List}
 use mathlib.Core.Bool.{Bool, true, false, cond, not, _&&_}
@@ -95,51 +95,51 @@ unfolding bind
 step-by s rest go (bad n p) = refl
 step-by s rest go (good h m) = step-need s rest (h .node) m (okNodeName (h .node .name)) (go (h .subtrees) (drop m s))
 
-pub list-step : (l k : ℕ) (s : List ℕ) → readForest 20 0 l (suc k) s ≡ bind (readOne l s) λ t m. others t (readForest 20 0 l k (drop m s))
+pub list-step : (w : ℕ) (l k : ℕ) (s : List ℕ) → readForest w 0 l (suc k) s ≡ bind (readOne w l s) λ t m. others t (readForest w 0 l k (drop m s))
 unfolding readForest readSiblings readOne bind
-list-step zero k s = refl
-list-step (suc l) k s = step-by s (readForest 20 0 (suc l) k) (readForest 20 0 l) (readNode 20 0 s)
+list-step w zero k s = refl
+list-step w (suc l) k s = step-by s (readForest w 0 (suc l) k) (readForest w 0 l) (readNode w 0 s)
 
-pub list-none : (l : ℕ) (s : List ℕ) → readForest 20 0 l 0 s ≡ good nil 0
+pub list-none : (w : ℕ) (l : ℕ) (s : List ℕ) → readForest w 0 l 0 s ≡ good nil 0
 unfolding readForest readSiblings
-list-none zero s = refl
-list-none (suc l) s = refl
+list-none w zero s = refl
+list-none w (suc l) s = refl
 
 -- ---- how many nodes and bytes
 
 pub record Sized (most : ℕ) (r : Read Forest) : Type 0 where
   pub of : (f : Forest) (m : ℕ) → r ≡ good f m → (size f ≤ m) × (m ≤ most)
 
-one-sized : (l : ℕ) → ((k : ℕ) (s : List ℕ) → Sized (length s) (readForest 20 0 l k s)) → (s : List ℕ) → Sized (length s) (readOne (suc l) s)
+one-sized : (w : ℕ) (l : ℕ) → ((k : ℕ) (s : List ℕ) → Sized (length s) (readForest w 0 l k s)) → (s : List ℕ) → Sized (length s) (readOne w (suc l) s)
 unfolding readOne size
-one-sized l below s = record {
+one-sized w l below s = record {
   of = λ f j e.
-      bind-inv (readNode 20 0 s) _ f j e λ h m i q r is.
+      bind-inv (readNode w 0 s) _ f j e λ h m i q r is.
       need-inv (okNodeName (h .node .name)) 15 0 _ f i r λ ok r₁.
-      bind-inv (readForest 20 0 l (h .subtrees) (drop m s)) _ f i r₁ λ kids n o q₁ r₂ is₁.
+      bind-inv (readForest w 0 l (h .subtrees) (drop m s)) _ f i r₁ λ kids n o q₁ r₂ is₁.
       good-inv (tree (h .node) kids nil) f 0 o r₂ λ same z₁.
       let z : size f ≡ suc (size kids + 0) = sym (ap size same) in
       let b : (size kids ≤ n) × (n ≤ length (drop m s)) = below (h .subtrees) (drop m s) .of kids n q₁ in
-      let c : (1 ≤ m) × (m ≤ length s) = node-took 20 0 s .of h m q in
+      let c : (1 ≤ m) × (m ≤ length s) = node-took w 0 s .of h m q in
       let d : length (drop m s) ≡ length s - m = length-drop m s in
       (omega arith, omega arith);
 }
 
-none-sized : (l : ℕ) (s : List ℕ) → Sized (length s) (readForest 20 0 l 0 s)
+none-sized : (w : ℕ) (l : ℕ) (s : List ℕ) → Sized (length s) (readForest w 0 l 0 s)
 unfolding size
-none-sized l s = record {
+none-sized w l s = record {
   of = λ f m e.
-      good-inv nil f 0 m (sym (list-none l s) ∙ e) λ same z₁.
+      good-inv nil f 0 m (sym (list-none w l s) ∙ e) λ same z₁.
       let z : size f ≡ 0 = sym (ap size same) in
       (omega arith, omega arith);
 }
 
-more-sized : (l k : ℕ) (s : List ℕ) → Sized (length s) (readOne l s) → ((u : List ℕ) → Sized (length u) (readForest 20 0 l k u)) → Sized (length s) (readForest 20 0 l (suc k) s)
+more-sized : (w : ℕ) (l k : ℕ) (s : List ℕ) → Sized (length s) (readOne w l s) → ((u : List ℕ) → Sized (length u) (readForest w 0 l k u)) → Sized (length s) (readForest w 0 l (suc k) s)
 unfolding others
-more-sized l k s one rest = record {
+more-sized w l k s one rest = record {
   of = λ f j e.
-      bind-inv (readOne l s) _ f j (sym (list-step l k s) ∙ e) λ t m i q r is.
-      bind-inv (readForest 20 0 l k (drop m s)) _ f i r λ after n o q₁ r₁ is₁.
+      bind-inv (readOne w l s) _ f j (sym (list-step w l k s) ∙ e) λ t m i q r is.
+      bind-inv (readForest w 0 l k (drop m s)) _ f i r λ after n o q₁ r₁ is₁.
       good-inv (graft t after) f 0 o r₁ λ same z₁.
       let z : size f ≡ size t + size after = sym (ap size same) ∙ graft-size t after in
       let b : (size after ≤ n) × (n ≤ length (drop m s)) = rest (drop m s) .of after n q₁ in
@@ -148,19 +148,19 @@ more-sized l k s one rest = record {
       (omega arith, omega arith);
 }
 
-no-level : (s : List ℕ) → Sized (length s) (readOne 0 s)
+no-level : (w : ℕ) (s : List ℕ) → Sized (length s) (readOne w 0 s)
 unfolding readOne
-no-level s = record { of = λ f m e. bad-good 15 0 f m e }
+no-level w s = record { of = λ f m e. bad-good 15 0 f m e }
 
-pub forest-sized : (l k : ℕ) (s : List ℕ) → Sized (length s) (readForest 20 0 l k s)
-forest-sized zero zero s = none-sized zero s
-forest-sized zero (suc k) s = more-sized zero k s (no-level s) (forest-sized zero k)
-forest-sized (suc l) zero s = none-sized (suc l) s
-forest-sized (suc l) (suc k) s = more-sized (suc l) k s (one-sized l (forest-sized l) s) (forest-sized (suc l) k)
+pub forest-sized : (w : ℕ) (l k : ℕ) (s : List ℕ) → Sized (length s) (readForest w 0 l k s)
+forest-sized w zero zero s = none-sized w zero s
+forest-sized w zero (suc k) s = more-sized w zero k s (no-level w s) (forest-sized w zero k)
+forest-sized w (suc l) zero s = none-sized w (suc l) s
+forest-sized w (suc l) (suc k) s = more-sized w (suc l) k s (one-sized w l (forest-sized w l) s) (forest-sized w (suc l) k)
 
-pub subtree-sized : (l : ℕ) (s : List ℕ) → Sized (length s) (readOne l s)
-subtree-sized zero s = no-level s
-subtree-sized (suc l) s = one-sized l (forest-sized l) s
+pub subtree-sized : (w : ℕ) (l : ℕ) (s : List ℕ) → Sized (length s) (readOne w l s)
+subtree-sized w zero s = no-level w s
+subtree-sized w (suc l) s = one-sized w l (forest-sized w l) s
 
 -- ---- what an answer says of the format's reading
 
@@ -245,38 +245,38 @@ module _ (at : ℕ) where
   shift-others m next t (bad n p) i q = refl
   shift-others m next t (good f o) i q = rw (graft-below t f, q) (others-by m next o t f i (distinctBelow f))
 
-forest-more : (l k : ℕ) (s : List ℕ) → 0 < k → readForest 20 0 l k s ≡ bind (readOne l s) λ t m. others t (readForest 20 0 l (k - 1) (drop m s))
-forest-more l k s h = let e : k ≡ suc (k - 1) = omega arith in ap (λ (j : ℕ). readForest 20 0 l j s) e ∙ list-step l (k - 1) s
+forest-more : (w : ℕ) (l k : ℕ) (s : List ℕ) → 0 < k → readForest w 0 l k s ≡ bind (readOne w l s) λ t m. others t (readForest w 0 l (k - 1) (drop m s))
+forest-more w l k s h = let e : k ≡ suc (k - 1) = omega arith in ap (λ (j : ℕ). readForest w 0 l j s) e ∙ list-step w l (k - 1) s
 
-module _ (d : List ℕ) (l place left : ℕ) where
-  turn-none : left ≤ 0 → listAt place (tested distinctBelow (readForest 20 0 l left (drop place d))) ≡ L.Good place 0
+module _ (w : ℕ) (d : List ℕ) (l place left : ℕ) where
+  turn-none : left ≤ 0 → listAt place (tested distinctBelow (readForest w 0 l left (drop place d))) ≡ L.Good place 0
   unfolding listAt tested need distinctBelow size
-  turn-none h = let z : left ≡ 0 = omega arith in rw (z, list-none l (drop place d), add-zero place)
+  turn-none h = let z : left ≡ 0 = omega arith in rw (z, list-none w l (drop place d), add-zero place)
 
   module _ (some : 0 < left) where
-    turn-bad : L.Bad ≡ listAt place (tested distinctBelow (readOne l (drop place d))) → listAt place (tested distinctBelow (readForest 20 0 l left (drop place d))) ≡ L.Bad
-    turn-bad e = ap (λ (x : Read Forest). listAt place (tested distinctBelow x)) (forest-more l left (drop place d) some) ∙ forest-bad place (readOne l (drop place d)) (λ m. readForest 20 0 l (left - 1) (drop m (drop place d))) e
+    turn-bad : L.Bad ≡ listAt place (tested distinctBelow (readOne w l (drop place d))) → listAt place (tested distinctBelow (readForest w 0 l left (drop place d))) ≡ L.Bad
+    turn-bad e = ap (λ (x : Read Forest). listAt place (tested distinctBelow x)) (forest-more w l left (drop place d) some) ∙ forest-bad place (readOne w l (drop place d)) (λ m. readForest w 0 l (left - 1) (drop m (drop place d))) e
 
-    turn-good : (next n : ℕ) → ListIs distinctBelow d place (readOne l (drop place d)) next n
-        → listAt place (tested distinctBelow (readForest 20 0 l left (drop place d))) ≡ plus n (listAt next (tested distinctBelow (readForest 20 0 l (left - 1) (drop next d))))
+    turn-good : (next n : ℕ) → ListIs distinctBelow d place (readOne w l (drop place d)) next n
+        → listAt place (tested distinctBelow (readForest w 0 l left (drop place d))) ≡ plus n (listAt next (tested distinctBelow (readForest w 0 l (left - 1) (drop next d))))
     unfolding bind
     turn-good next n is =
         let b = is .few in
         let e : next ≡ place + (next - place) = omega arith in
-        ap (λ (x : Read Forest). listAt place (tested distinctBelow x)) (forest-more l left (drop place d) some)
-        ∙ rw (is .reads, drop-to d place (next - place) next e, is .nodes) (shift-others place (next - place) next (is .of) (readForest 20 0 l (left - 1) (drop next d)) e (is .passes))
+        ap (λ (x : Read Forest). listAt place (tested distinctBelow x)) (forest-more w l left (drop place d) some)
+        ∙ rw (is .reads, drop-to d place (next - place) next e, is .nodes) (shift-others place (next - place) next (is .of) (readForest w 0 l (left - 1) (drop next d)) e (is .passes))
 
 -- the loop over siblings: the answer for the whole list, of which some nodes are before the place, before the siblings' own names are tested
-module _ (d : List ℕ) (l place left : ℕ) (whole : ListRead) (nodes : ℕ) (so-far : whole ≡ plus nodes (listAt place (tested distinctBelow (readForest 20 0 l left (drop place d))))) where
+module _ (w : ℕ) (d : List ℕ) (l place left : ℕ) (whole : ListRead) (nodes : ℕ) (so-far : whole ≡ plus nodes (listAt place (tested distinctBelow (readForest w 0 l left (drop place d))))) where
   loop-end : left ≤ 0 → L.Good place nodes ≡ whole
-  loop-end h = sym (so-far ∙ ap (plus nodes) (turn-none d l place left h) ∙ rw (add-zero nodes))
+  loop-end h = sym (so-far ∙ ap (plus nodes) (turn-none w d l place left h) ∙ rw (add-zero nodes))
 
-  loop-bad : 0 < left → L.Bad ≡ listAt place (tested distinctBelow (readOne l (drop place d))) → L.Bad ≡ whole
-  loop-bad some e = sym (so-far ∙ ap (plus nodes) (turn-bad d l place left some e))
+  loop-bad : 0 < left → L.Bad ≡ listAt place (tested distinctBelow (readOne w l (drop place d))) → L.Bad ≡ whole
+  loop-bad some e = sym (so-far ∙ ap (plus nodes) (turn-bad w d l place left some e))
 
-  pub loop-more : (next n : ℕ) → 0 < left → ListIs distinctBelow d place (readOne l (drop place d)) next n
-      → whole ≡ plus (nodes + n) (listAt next (tested distinctBelow (readForest 20 0 l (left - 1) (drop next d))))
-  loop-more next n some is = so-far ∙ ap (plus nodes) (turn-good d l place left some next n is) ∙ plus-plus nodes n (listAt next (tested distinctBelow (readForest 20 0 l (left - 1) (drop next d))))
+  pub loop-more : (next n : ℕ) → 0 < left → ListIs distinctBelow d place (readOne w l (drop place d)) next n
+      → whole ≡ plus (nodes + n) (listAt next (tested distinctBelow (readForest w 0 l (left - 1) (drop next d))))
+  loop-more next n some is = so-far ∙ ap (plus nodes) (turn-good w d l place left some next n is) ∙ plus-plus nodes n (listAt next (tested distinctBelow (readForest w 0 l (left - 1) (drop next d))))
 
 -- ---- the siblings' own names
 
@@ -292,9 +292,9 @@ distinct-is nil = refl
 distinct-is (tree n kids after) =
     rw (has-names (n .name) after, distinct-is after) (and-names (hasName (n .name) (siblingNames after)) (distinct kids) (namesDiffer (siblingNames after)) (distinctBelow after))
 
-module _ (d : List ℕ) (at l k : ℕ) where
+module _ (w : ℕ) (d : List ℕ) (at l k : ℕ) where
   abbrev whole-list : Read Forest
-  whole-list = readForest 20 0 l k (drop at d)
+  whole-list = readForest w 0 l k (drop at d)
 
   -- two equal names further down
   below-bad : (x : Read Forest) → L.Bad ≡ listAt at (tested distinctBelow x) → L.Bad ≡ listAt at (tested distinct x)
@@ -303,62 +303,62 @@ module _ (d : List ℕ) (at l k : ℕ) where
   below-bad (good f m) e = rw (distinct-is f, bad-is at f m (distinctBelow f) e, and-false (namesDiffer (siblingNames f)))
 
   module _ (place nodes : ℕ) (is : ListIs distinctBelow d at whole-list place nodes) where
-    own-names : distinct (is .of) ≡ namesDiffer (namesOf k (drop at d))
-    own-names = distinct-is (is .of) ∙ rw (is .passes, ← (reads-names _ _ _ _ (forest-reads l k (drop at d) (is .of) (place - at) (is .reads)))) (and-true (namesDiffer (namesOf k (drop at d))))
+    own-names : distinct (is .of) ≡ namesDiffer (namesOf w k (drop at d))
+    own-names = distinct-is (is .of) ∙ rw (is .passes, ← (reads-names _ _ _ _ (forest-reads l k (drop at d) (is .of) (place - at) (is .reads)))) (and-true (namesDiffer (namesOf w k (drop at d))))
 
-    list-end : (b : Bool) → namesDiffer (namesOf k (drop at d)) ≡ b → listAt at (tested distinct whole-list) ≡ listAt at (need b 15 0 (good (is .of) (place - at)))
+    list-end : (b : Bool) → namesDiffer (namesOf w k (drop at d)) ≡ b → listAt at (tested distinct whole-list) ≡ listAt at (need b 15 0 (good (is .of) (place - at)))
     unfolding tested
     list-end b e = rw (is .reads, own-names, e)
 
-    pub list-differs : namesDiffer (namesOf k (drop at d)) ≡ true → L.Good place nodes ≡ listAt at (tested distinct whole-list)
+    pub list-differs : namesDiffer (namesOf w k (drop at d)) ≡ true → L.Good place nodes ≡ listAt at (tested distinct whole-list)
     unfolding need listAt
     list-differs e = let w = is .few in let i : at + (place - at) ≡ place = omega arith in sym (list-end true e ∙ rw (i, ← (is .nodes)))
 
-    pub list-equal : namesDiffer (namesOf k (drop at d)) ≡ false → L.Bad ≡ listAt at (tested distinct whole-list)
+    pub list-equal : namesDiffer (namesOf w k (drop at d)) ≡ false → L.Bad ≡ listAt at (tested distinct whole-list)
     unfolding need listAt
     list-equal e = sym (list-end false e)
 
-  module _ (place left nodes : ℕ) (so-far : listAt at (tested distinctBelow whole-list) ≡ plus nodes (listAt place (tested distinctBelow (readForest 20 0 l left (drop place d))))) where
-    pub list-bad : 0 < left → L.Bad ≡ listAt place (tested distinctBelow (readOne l (drop place d))) → L.Bad ≡ listAt at (tested distinct whole-list)
-    list-bad some e = below-bad whole-list (loop-bad d l place left _ nodes so-far some e)
+  module _ (place left nodes : ℕ) (so-far : listAt at (tested distinctBelow whole-list) ≡ plus nodes (listAt place (tested distinctBelow (readForest w 0 l left (drop place d))))) where
+    pub list-bad : 0 < left → L.Bad ≡ listAt place (tested distinctBelow (readOne w l (drop place d))) → L.Bad ≡ listAt at (tested distinct whole-list)
+    list-bad some e = below-bad whole-list (loop-bad w d l place left _ nodes so-far some e)
 
     pub list-all : at ≤ length d → left ≤ 0 → ListIs distinctBelow d at whole-list place nodes
-    list-all inside none = list-is distinctBelow d at place nodes inside whole-list (forest-sized l k (drop at d)) (loop-end d l place left _ nodes so-far none)
+    list-all inside none = list-is distinctBelow d at place nodes inside whole-list (forest-sized w l k (drop at d)) (loop-end w d l place left _ nodes so-far none)
 
 -- a sibling and all below it reach up to the next one
-one-alone : (l : ℕ) (s : List ℕ) (t : Forest) (m : ℕ) → readOne l s ≡ good t m → readForest 20 0 l 1 s ≡ good (graft t nil) (m + (0 + 0))
+one-alone : (w : ℕ) (l : ℕ) (s : List ℕ) (t : Forest) (m : ℕ) → readOne w l s ≡ good t m → readForest w 0 l 1 s ≡ good (graft t nil) (m + (0 + 0))
 unfolding bind shift others
-one-alone l s t m e = list-step l 0 s ∙ rw (e, list-none l (drop m s))
+one-alone w l s t m e = list-step w l 0 s ∙ rw (e, list-none w l (drop m s))
 
-one-some : (l : ℕ) (s : List ℕ) (f : Forest) (j : ℕ) → readOne l s ≡ good f j → 1 ≤ j
+one-some : (w : ℕ) (l : ℕ) (s : List ℕ) (f : Forest) (j : ℕ) → readOne w l s ≡ good f j → 1 ≤ j
 unfolding readOne
-one-some zero s f j e = bad-good 15 0 f j e
-one-some (suc l) s f j e =
-    bind-inv (readNode 20 0 s) _ f j e λ h m i q r is.
-    let c : (1 ≤ m) × (m ≤ length s) = node-took 20 0 s .of h m q in
+one-some w zero s f j e = bad-good 15 0 f j e
+one-some w (suc l) s f j e =
+    bind-inv (readNode w 0 s) _ f j e λ h m i q r is.
+    let c : (1 ≤ m) × (m ≤ length s) = node-took w 0 s .of h m q in
     omega arith
 
-pub one-length : (d : List ℕ) (l place next n : ℕ) → ListIs distinctBelow d place (readOne l (drop place d)) next n → (place < next) × (next ≡ place + treesLength 1 (drop place d))
-one-length d l place next n is =
+pub one-length : (w : ℕ) (d : List ℕ) (l place next n : ℕ) → ListIs distinctBelow d place (readOne w l (drop place d)) next n → (place < next) × (next ≡ place + treesLength w 1 (drop place d))
+one-length w d l place next n is =
     let few = is .few in
-    let some : 1 ≤ next - place = one-some l (drop place d) (is .of) (next - place) (is .reads) in
-    let r = forest-reads l 1 (drop place d) _ _ (one-alone l (drop place d) (is .of) (next - place) (is .reads)) in
-    let e : treesLength (1 + 0) (drop place d) ≡ next - place + (0 + 0) + treesLength 0 (drop (next - place + (0 + 0)) (drop place d)) = reads-length _ _ _ _ r 0 in
-    let z : treesLength 0 (drop (next - place + (0 + 0)) (drop place d)) ≡ 0 = trees-none (drop (next - place + (0 + 0)) (drop place d)) in
+    let some : 1 ≤ next - place = one-some w l (drop place d) (is .of) (next - place) (is .reads) in
+    let r = forest-reads l 1 (drop place d) _ _ (one-alone w l (drop place d) (is .of) (next - place) (is .reads)) in
+    let e : treesLength w (1 + 0) (drop place d) ≡ next - place + (0 + 0) + treesLength w 0 (drop (next - place + (0 + 0)) (drop place d)) = reads-length _ _ _ _ r 0 in
+    let z : treesLength w 0 (drop (next - place + (0 + 0)) (drop place d)) ≡ 0 = trees-none w (drop (next - place + (0 + 0)) (drop place d)) in
     (omega arith, omega arith)
 
 -- ---- a node and its list of subtrees
 
-one-more : (l : ℕ) (s : List ℕ) → (l ≡ 0 → ⊥) → readOne l s ≡ bind (readNode 20 0 s) λ h m.
-    need (okNodeName (h .node .name)) 15 0 (bind (readForest 20 0 (l - 1) (h .subtrees) (drop m s)) λ kids n. good (tree (h .node) kids nil) 0)
+one-more : (w : ℕ) (l : ℕ) (s : List ℕ) → (l ≡ 0 → ⊥) → readOne w l s ≡ bind (readNode w 0 s) λ h m.
+    need (okNodeName (h .node .name)) 15 0 (bind (readForest w 0 (l - 1) (h .subtrees) (drop m s)) λ kids n. good (tree (h .node) kids nil) 0)
 unfolding readOne
-one-more zero s e = absurd (e refl)
-one-more (suc l) s e = let k : suc l - 1 ≡ l = omega arith in rw k
+one-more w zero s e = absurd (e refl)
+one-more w (suc l) s e = let k : suc l - 1 ≡ l = omega arith in rw k
 
-no-node-by : (at : ℕ) (x : Read Head) (a : Head → ℕ → Read Forest) → R.Bad ≡ nodeAt at x → listAt at (tested distinctBelow (bind x a)) ≡ L.Bad
+no-node-by : (w : ℕ) (at : ℕ) (x : Read Head) (a : Head → ℕ → Read Forest) → R.Bad ≡ nodeAt w at x → listAt at (tested distinctBelow (bind x a)) ≡ L.Bad
 unfolding nodeAt
-no-node-by at (bad n p) a e = bad-on at _ a n p refl
-no-node-by at (good h m) a e = let z : _≡_ {A = ℕ} 0 1 = cc in absurd (omega arith)
+no-node-by w at (bad n p) a e = bad-on at _ a n p refl
+no-node-by w at (good h m) a e = let z : _≡_ {A = ℕ} 0 1 = cc in absurd (omega arith)
 
 -- a node with those subtrees
 one-tested : (at m next k : ℕ) (node : Node) (f : Forest) → next ≡ at + m → (b : Bool) → listAt at (need b 15 0 (good (tree node f nil) (m + (k + 0)))) ≡ rooted (listAt next (need b 15 0 (good f k)))
@@ -374,29 +374,29 @@ unfolding listAt bind shift tested distinctBelow
 one-rooted-by at m next node is (bad n p) = refl
 one-rooted-by at m next node is (good f k) = rw (and-true (distinct f)) (one-tested at m next k node f is (distinct f))
 
-module _ (d : List ℕ) (at l : ℕ) where
-  pub one-none : l ≡ 0 → listAt at (tested distinctBelow (readOne l (drop at d))) ≡ L.Bad
+module _ (w : ℕ) (d : List ℕ) (at l : ℕ) where
+  pub one-none : l ≡ 0 → listAt at (tested distinctBelow (readOne w l (drop at d))) ≡ L.Bad
   unfolding readOne tested listAt
   one-none e = rw e
 
   module _ (l-some : l ≡ 0 → ⊥) where
-    pub one-no-node : R.Bad ≡ nodeAt at (readNode 20 0 (drop at d)) → listAt at (tested distinctBelow (readOne l (drop at d))) ≡ L.Bad
-    one-no-node e = ap (λ (x : Read Forest). listAt at (tested distinctBelow x)) (one-more l (drop at d) l-some) ∙ no-node-by at (readNode 20 0 (drop at d)) _ e
+    pub one-no-node : R.Bad ≡ nodeAt w at (readNode w 0 (drop at d)) → listAt at (tested distinctBelow (readOne w l (drop at d))) ≡ L.Bad
+    one-no-node e = ap (λ (x : Read Forest). listAt at (tested distinctBelow x)) (one-more w l (drop at d) l-some) ∙ no-node-by w at (readNode w 0 (drop at d)) _ e
 
-    module _ (node : Code.Node) (is : NodeIs d at node) where
-      pub one-no-name : false ≡ okNodeName (take (node .nul - at) (drop at d)) → listAt at (tested distinctBelow (readOne l (drop at d))) ≡ L.Bad
+    module _ (node : Code.Node) (is : NodeIs w d at node) where
+      pub one-no-name : false ≡ okNodeName (take (node .nul - at) (drop at d)) → listAt at (tested distinctBelow (readOne w l (drop at d))) ≡ L.Bad
       unfolding bind shift need tested listAt
-      one-no-name e = ap (λ (x : Read Forest). listAt at (tested distinctBelow x)) (one-more l (drop at d) l-some) ∙ rw (is .reads, is .name, ← e)
+      one-no-name e = ap (λ (x : Read Forest). listAt at (tested distinctBelow x)) (one-more w l (drop at d) l-some) ∙ rw (is .reads, is .name, ← e)
 
       module _ (named : true ≡ okNodeName (take (node .nul - at) (drop at d))) where
-        one-list : readOne l (drop at d) ≡ shift (node .next - at) (bind (readForest 20 0 (l - 1) (node .subtrees) (drop (node .next) d)) λ kids n. good (tree (is .head .node) kids nil) 0)
+        one-list : readOne w l (drop at d) ≡ shift (node .next - at) (bind (readForest w 0 (l - 1) (node .subtrees) (drop (node .next) d)) λ kids n. good (tree (is .head .node) kids nil) 0)
         unfolding bind need
         one-list =
             let b : at ≤ node .next = omega (arith, is .named, is .ended) in
             let e : node .next ≡ at + (node .next - at) = omega arith in
-            one-more l (drop at d) l-some ∙ rw (is .reads, is .name, ← named, is .subtrees, drop-to d at (node .next - at) (node .next) e)
+            one-more w l (drop at d) l-some ∙ rw (is .reads, is .name, ← named, is .subtrees, drop-to d at (node .next - at) (node .next) e)
 
-        pub one-rooted : listAt at (tested distinctBelow (readOne l (drop at d))) ≡ rooted (listAt (node .next) (tested distinct (readForest 20 0 (l - 1) (node .subtrees) (drop (node .next) d))))
+        pub one-rooted : listAt at (tested distinctBelow (readOne w l (drop at d))) ≡ rooted (listAt (node .next) (tested distinct (readForest w 0 (l - 1) (node .subtrees) (drop (node .next) d))))
         one-rooted =
             let b : at ≤ node .next = omega (arith, is .named, is .ended) in
             ap (λ (x : Read Forest). listAt at (tested distinctBelow x)) one-list ∙ one-rooted-by at (node .next - at) (node .next) (is .head .node) (omega arith) _

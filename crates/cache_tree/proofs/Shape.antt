@@ -1,4 +1,4 @@
--- Laws of the whole data of TREE: the root and its list, the tests after it, node number k.
+-- Laws of the whole data of TREE: the root and its list, the tests after it, node number k. w is the width of an object name.
 use mathlib.Core.Path.{_≡_, refl, ap, _∙_}
 use mathlib.Core.List.{List}
 use mathlib.Core.Bool.{Bool, true, false}
@@ -50,14 +50,14 @@ tree-counts w ns p s = by (readNodes w p s)
 
 -- ---- all nodes
 
-pub record NodesAre (d : List ℕ) (next n : ℕ) : Type 0 where
+pub record NodesAre (w : ℕ) (d : List ℕ) (next n : ℕ) : Type 0 where
   pub of : Tree
-  pub reads : readNodes 20 0 d ≡ good of next
+  pub reads : readNodes w 0 d ≡ good of next
   pub nodes : n ≡ length (treeItems of)
   pub differ : distinct (of .subtrees) ≡ true
 
-module _ (d : List ℕ) (next n : ℕ) where
-  nodes-tested : (t : Tree) (m : ℕ) → readNodes 20 0 d ≡ good t m → (b : Bool) → distinct (t .subtrees) ≡ b → L.Good next n ≡ nodesAt (shift m (need b 15 0 (good t 0))) → NodesAre d next n
+module _ {w : ℕ} (d : List ℕ) (next n : ℕ) where
+  nodes-tested : (t : Tree) (m : ℕ) → readNodes w 0 d ≡ good t m → (b : Bool) → distinct (t .subtrees) ≡ b → L.Good next n ≡ nodesAt (shift m (need b 15 0 (good t 0))) → NodesAre w d next n
   unfolding need shift nodesAt
   nodes-tested t m q false f e = let z : _≡_ {A = ℕ} 0 1 = cc in absurd (omega arith)
   nodes-tested t m q true f e =
@@ -65,19 +65,19 @@ module _ (d : List ℕ) (next n : ℕ) where
       let j : m ≡ next = omega arith in
       record { of = t; reads = q ∙ ap (λ (k : ℕ). good t k) j; nodes = cc; differ = f }
 
-  nodes-are-by : (x : Read Tree) → readNodes 20 0 d ≡ x → L.Good next n ≡ nodesAt (bind x λ t m. need (distinct (t .subtrees)) 15 0 (good t 0)) → NodesAre d next n
+  nodes-are-by : (x : Read Tree) → readNodes w 0 d ≡ x → L.Good next n ≡ nodesAt (bind x λ t m. need (distinct (t .subtrees)) 15 0 (good t 0)) → NodesAre w d next n
   unfolding bind nodesAt
   nodes-are-by (bad a p) q e = let z : _≡_ {A = ℕ} 0 1 = cc in absurd (omega arith)
   nodes-are-by (good t m) q e = nodes-tested t m q (distinct (t .subtrees)) refl e
 
-  pub nodes-are : L.Good next n ≡ nodesAt (readDistinct d) → NodesAre d next n
+  pub nodes-are : L.Good next n ≡ nodesAt (readDistinct w d) → NodesAre w d next n
   unfolding readDistinct
-  nodes-are e = nodes-are-by (readNodes 20 0 d) refl e
+  nodes-are e = nodes-are-by (readNodes w 0 d) refl e
 
-no-root-by : (x : Read Head) (a : Head → ℕ → Read Tree) (c : Tree → ℕ → Read Tree) → R.Bad ≡ nodeAt 0 x → nodesAt (bind (bind x a) c) ≡ L.Bad
+no-root-by : (w : ℕ) (x : Read Head) (a : Head → ℕ → Read Tree) (c : Tree → ℕ → Read Tree) → R.Bad ≡ nodeAt w 0 x → nodesAt (bind (bind x a) c) ≡ L.Bad
 unfolding nodeAt bind nodesAt
-no-root-by (bad n p) a c e = refl
-no-root-by (good h m) a c e = let z : _≡_ {A = ℕ} 0 1 = cc in absurd (omega arith)
+no-root-by w (bad n p) a c e = refl
+no-root-by w (good h m) a c e = let z : _≡_ {A = ℕ} 0 1 = cc in absurd (omega arith)
 
 root-nodes : (t : Tree) → length (treeItems t) ≡ size (t .subtrees) + 1
 unfolding treeItems
@@ -94,12 +94,12 @@ unfolding nodesAt bind shift tested listAt
 nodes-rooted-by m n (bad a p) = refl
 nodes-rooted-by m n (good f k) = rooted-tested m k n f (distinct f)
 
-module _ (d : List ℕ) where
-  pub nodes-no-root : R.Bad ≡ nodeAt 0 (readNode 20 0 d) → nodesAt (readDistinct d) ≡ L.Bad
+module _ (w : ℕ) (d : List ℕ) where
+  pub nodes-no-root : R.Bad ≡ nodeAt w 0 (readNode w 0 d) → nodesAt (readDistinct w d) ≡ L.Bad
   unfolding readDistinct readNodes
-  nodes-no-root e = no-root-by (readNode 20 0 d) _ _ e
+  nodes-no-root e = no-root-by w (readNode w 0 d) _ _ e
 
-  module _ (root : Code.Node) (is : NodeIs d 0 root) where
+  module _ (root : Code.Node) (is : NodeIs w d 0 root) where
     name-length : length (is .head .node .name) ≡ root .nul
     name-length =
         let a = is .ended in
@@ -107,25 +107,25 @@ module _ (d : List ℕ) where
         let c : root .nul - 0 ≤ length d = omega arith in
         ap length (is .name) ∙ length-take-le (root .nul - 0) d c ∙ omega arith
 
-    root-reads : readNode 20 0 d ≡ good (is .head) (root .next)
+    root-reads : readNode w 0 d ≡ good (is .head) (root .next)
     root-reads = let e : root .next - 0 ≡ root .next = omega arith in is .reads ∙ ap (λ (n : ℕ). good (is .head) n) e
 
-    pub nodes-named : (root .nul ≡ 0 → ⊥) → nodesAt (readDistinct d) ≡ L.Bad
+    pub nodes-named : (root .nul ≡ 0 → ⊥) → nodesAt (readDistinct w d) ≡ L.Bad
     unfolding readDistinct readNodes bind shift need nodesAt
     nodes-named e = rw (root-reads, name-length, ne-eqb _ _ e)
 
     module _ (empty : root .nul ≡ 0) where
-      root-list : readNodes 20 0 d ≡ shift (root .next) (bind (readForest 20 0 127 (root .subtrees) (drop (root .next) d)) λ kids n. good (record { root = is .head .node; subtrees = kids }) 0)
+      root-list : readNodes w 0 d ≡ shift (root .next) (bind (readForest w 0 127 (root .subtrees) (drop (root .next) d)) λ kids n. good (record { root = is .head .node; subtrees = kids }) 0)
       unfolding readNodes bind need
       root-list = rw (root-reads, name-length, eq-eqb _ _ empty, is .subtrees)
 
-      pub nodes-rooted : nodesAt (readDistinct d) ≡ rooted (listAt (root .next) (tested distinct (readForest 20 0 127 (root .subtrees) (drop (root .next) d))))
+      pub nodes-rooted : nodesAt (readDistinct w d) ≡ rooted (listAt (root .next) (tested distinct (readForest w 0 127 (root .subtrees) (drop (root .next) d))))
       unfolding readDistinct
-      nodes-rooted = rw root-list (nodes-rooted-by (root .next) (is .head .node) (readForest 20 0 127 (root .subtrees) (drop (root .next) d)))
+      nodes-rooted = rw root-list (nodes-rooted-by (root .next) (is .head .node) (readForest w 0 127 (root .subtrees) (drop (root .next) d)))
 
 -- ---- the tests after the nodes
 
-module _ (d : List ℕ) where
+module _ (w : ℕ) (d : List ℕ) where
   -- two equal names, and no other test matters
   equal-by : (t : Tree) (m : ℕ) (a b : Bool) → L.Bad ≡ nodesAt (shift m (need b 15 0 (good t 0))) → treeOf (shift m (need a 15 0 (need b 15 0 (good t 0)))) ≡ T.Bad
   unfolding shift need nodesAt treeOf
@@ -138,23 +138,23 @@ module _ (d : List ℕ) where
   no-nodes-by (bad a p) e = refl
   no-nodes-by (good t m) e = equal-by t m (eqb m (length d)) (distinct (t .subtrees)) e
 
-  pub tree-no-nodes : L.Bad ≡ nodesAt (readDistinct d) → treeOf (readShape 20 0 d) ≡ T.Bad
+  pub tree-no-nodes : L.Bad ≡ nodesAt (readDistinct w d) → treeOf (readShape w 0 d) ≡ T.Bad
   unfolding readShape readDistinct
-  tree-no-nodes e = no-nodes-by (readNodes 20 0 d) e
+  tree-no-nodes e = no-nodes-by (readNodes w 0 d) e
 
-  module _ (next n : ℕ) (are : NodesAre d next n) where
-    pub tree-longer : (next ≡ length d → ⊥) → treeOf (readShape 20 0 d) ≡ T.Bad
+  module _ (next n : ℕ) (are : NodesAre w d next n) where
+    pub tree-longer : (next ≡ length d → ⊥) → treeOf (readShape w 0 d) ≡ T.Bad
     unfolding readShape bind shift need treeOf
     tree-longer e = rw (are .reads, ne-eqb _ _ e)
 
-    pub tree-shaped : next ≡ length d → treeOf (readShape 20 0 d) ≡ T.Good n
+    pub tree-shaped : next ≡ length d → treeOf (readShape w 0 d) ≡ T.Good n
     unfolding readShape bind shift need treeOf
     tree-shaped whole = rw (are .reads, eq-eqb _ _ whole, are .differ, ← (are .nodes))
 
 -- ---- node number k
 
 -- it is where k nodes have passed
-pub tree-item : (d : List ℕ) (t : Tree) (m : ℕ) → readNodes 20 0 d ≡ good t m → (k : ℕ) (z : Item) → k < length (treeItems t) → Shown (drop (nodeStart 20 k d) d) (getD (treeItems t) k z)
+pub tree-item : {w : ℕ} (d : List ℕ) (t : Tree) (m : ℕ) → readNodes w 0 d ≡ good t m → (k : ℕ) (z : Item) → k < length (treeItems t) → Shown w (drop (nodeStart w k d) d) (getD (treeItems t) k z)
 tree-item d t m e k z lt =
     let f : Forest = tree (t .root) (t .subtrees) nil in
     let r = tree-reads d t m e in

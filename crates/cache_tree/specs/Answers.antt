@@ -1,4 +1,4 @@
--- The format's readings as this crate's functions answer them. Every fault is 15, so an answer has no number.
+-- The format's readings as this crate's functions answer them. Every fault is 15, so an answer has no number. w is the width of an object name.
 use mathlib.Core.List.{List}
 use mathlib.Core.Bool.{Bool, true, _&&_}
 use Prim.Native.Nat.{ℕ, zero, suc, _+_}
@@ -12,11 +12,11 @@ use Rattle.cache_tree.specs.declared.list.ListRead.the-variants as L
 use Rattle.tree_nodes.specs.Flat.{size}
 
 -- one node and all below it, with at most the given number of levels
-unfoldable pub readOne : ℕ → List ℕ → Read Forest
-readOne zero s = bad 15 0
-readOne (suc levels) s =
-    bind (readNode 20 0 s) λ h m.
-    need (okNodeName (h .node .name)) 15 0 (bind (readForest 20 0 levels (h .subtrees) (drop m s)) λ kids n. good (tree (h .node) kids nil) 0)
+unfoldable pub readOne : ℕ → ℕ → List ℕ → Read Forest
+readOne w zero s = bad 15 0
+readOne w (suc levels) s =
+    bind (readNode w 0 s) λ h m.
+    need (okNodeName (h .node .name)) 15 0 (bind (readForest w 0 levels (h .subtrees) (drop m s)) λ kids n. good (tree (h .node) kids nil) 0)
 
 -- whether in each list further down no two siblings have the same name
 unfoldable pub distinctBelow : Forest → Bool

@@ -1,4 +1,4 @@
--- Names whose keys are in a table, and names chunk by chunk.
+-- Names whose keys are in a table, and names chunk by chunk. w is the width of an object name.
 use mathlib.Core.Path.{_≡_}
 use mathlib.Core.List.{List, [], _∷_}
 use mathlib.Core.Bool.{Bool, true, false, cond}
@@ -33,11 +33,11 @@ apart c [] = true
 apart c (x ∷ l) = cond (hasName x c) false (apart c l)
 
 -- what follows k siblings
-unfoldable pub restAfter : ℕ → List ℕ → List ℕ
-restAfter zero s = s
-restAfter (suc k) s = restAfter k (restOf s)
+unfoldable pub restAfter : ℕ → ℕ → List ℕ → List ℕ
+restAfter w zero s = s
+restAfter w (suc k) s = restAfter w k (restOf w s)
 
 -- the table after the k names from a place on were put in it, and the answer
-pub record Filled (d : List ℕ) (a k : ℕ) (t : List ℕ) (r : Chunk) : Type 0 where
-  pub equal : r ≡ C.Equal → namesDiffer (namesOf k (drop a d)) ≡ false
-  pub next : (y : ℕ) → r ≡ C.Next y → (y ≤ length d) × (drop y d ≡ restAfter k (drop a d)) × (namesDiffer (namesOf k (drop a d)) ≡ true) × (allHeld t (namesOf k (drop a d)) ≡ true)
+pub record Filled (w : ℕ) (d : List ℕ) (a k : ℕ) (t : List ℕ) (r : Chunk) : Type 0 where
+  pub equal : r ≡ C.Equal → namesDiffer (namesOf w k (drop a d)) ≡ false
+  pub next : (y : ℕ) → r ≡ C.Next y → (y ≤ length d) × (drop y d ≡ restAfter w k (drop a d)) × (namesDiffer (namesOf w k (drop a d)) ≡ true) × (allHeld t (namesOf w k (drop a d)) ≡ true)

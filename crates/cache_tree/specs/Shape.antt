@@ -1,4 +1,4 @@
--- The whole data of TREE but for its entry counts, and what this crate answers for it.
+-- The whole data of TREE but for its entry counts, and what this crate answers for it. w is the width of an object name.
 use mathlib.Core.List.{List}
 use Prim.Native.Nat.{ℕ}
 use lib.ListN.{length}
@@ -18,8 +18,8 @@ readShape w p s =
     need (eqb m (length s)) 15 p (need (distinct (t .subtrees)) 15 p (good t 0))
 
 -- all nodes, in which no two siblings have the same name
-unfoldable pub readDistinct : List ℕ → Read Tree
-readDistinct s = bind (readNodes 20 0 s) λ t m. need (distinct (t .subtrees)) 15 0 (good t 0)
+unfoldable pub readDistinct : ℕ → List ℕ → Read Tree
+readDistinct w s = bind (readNodes w 0 s) λ t m. need (distinct (t .subtrees)) 15 0 (good t 0)
 
 -- the bytes, the number of nodes
 unfoldable pub nodesAt : Read Tree → ListRead

@@ -1,4 +1,5 @@
-// Whether siblings in no order differ in name: chunk by chunk, each chunk's keys in a table in which the later ones are looked up.
+// Whether siblings in no order differ in name: chunk by chunk, each chunk's keys in a table in which the later ones are looked up. w is
+// the width of an object name.
 use fields::find;
 use fields::same;
 use tree_nodes::passes::after_tree;
@@ -38,9 +39,9 @@ fn same_at(d: &[u8], a: usize, b: usize) -> bool
 }
 
 // Whether the name at a is among the k from b on.
-fn has_name(d: &[u8], a: usize, b: usize, k: u32) -> bool
+fn has_name(d: &[u8], a: usize, b: usize, k: u32, w: usize) -> bool
     requires { ⌜ (a ≤ length (now d)) × (b ≤ length (now d)) × (length (now d) ≤ 16777216) ⌝ }
-    ensures { λ r. ⌜ r ≡ hasName (nameOf (drop a (now (d .entry)))) (namesOf k (drop b (now (d .entry)))) ⌝ }
+    ensures { λ r. ⌜ r ≡ hasName (nameOf (drop a (now (d .entry)))) (namesOf w k (drop b (now (d .entry)))) ⌝ }
 {
     let mut y = b;
     let mut left = k;
@@ -48,7 +49,7 @@ fn has_name(d: &[u8], a: usize, b: usize, k: u32) -> bool
         if same_at(d, a, y) {
             return true;
         }
-        y = after_tree(d, y);
+        y = after_tree(d, y, w);
         left -= 1;
     }
     false
@@ -64,21 +65,21 @@ pub fn key_at(d: &[u8], y: usize, nul: usize, t: &Table) -> u32
 
 // Whether the name at y, which ends at nul, is among the n from a on, whose keys are in the table. An empty slot says that it is not; one that is taken
 // may have another name's key.
-fn is_known(d: &[u8], y: usize, nul: usize, a: usize, n: u32, t: &Table) -> bool
-    requires { ⌜ EndsAt (now d) y nul × (y ≤ length (now d)) × (a ≤ length (now d)) × (length (now d) ≤ 16777216) × (allHeld (now t) (namesOf n (drop a (now d))) ≡ true) ⌝ }
-    ensures { λ r. ⌜ r ≡ hasName (nameOf (drop y (now (d .entry)))) (namesOf n (drop a (now (d .entry)))) ⌝ }
+fn is_known(d: &[u8], y: usize, nul: usize, a: usize, n: u32, t: &Table, w: usize) -> bool
+    requires { ⌜ EndsAt (now d) y nul × (y ≤ length (now d)) × (a ≤ length (now d)) × (length (now d) ≤ 16777216) × (allHeld (now t) (namesOf w n (drop a (now d))) ≡ true) ⌝ }
+    ensures { λ r. ⌜ r ≡ hasName (nameOf (drop y (now (d .entry)))) (namesOf w n (drop a (now (d .entry)))) ⌝ }
 {
     let slot = slot_of(t, 0, KEYS, key_at(d, y, nul, t));
     if t[slot] == 0 {
         return false;
     }
-    has_name(d, y, a, n)
+    has_name(d, y, a, n, w)
 }
 
 // The same, and the name's own key is put in the table.
-fn put(d: &[u8], y: usize, nul: usize, a: usize, n: u32, t: &mut Table) -> bool
-    requires { ⌜ EndsAt (now d) y nul × (y ≤ length (now d)) × (a ≤ length (now d)) × (length (now d) ≤ 16777216) × (allHeld (now t) (namesOf n (drop a (now d))) ≡ true) ⌝ }
-    ensures { λ r. ⌜ (r ≡ hasName (nameOf (drop y (now (d .entry)))) (namesOf n (drop a (now (d .entry))))) × (now (t .exit) ≡ putIn (now (t .entry)) (nameOf (drop y (now (d .entry))))) ⌝ }
+fn put(d: &[u8], y: usize, nul: usize, a: usize, n: u32, t: &mut Table, w: usize) -> bool
+    requires { ⌜ EndsAt (now d) y nul × (y ≤ length (now d)) × (a ≤ length (now d)) × (length (now d) ≤ 16777216) × (allHeld (now t) (namesOf w n (drop a (now d))) ≡ true) ⌝ }
+    ensures { λ r. ⌜ (r ≡ hasName (nameOf (drop y (now (d .entry)))) (namesOf w n (drop a (now (d .entry))))) × (now (t .exit) ≡ putIn (now (t .entry)) (nameOf (drop y (now (d .entry))))) ⌝ }
 {
     let key = key_at(d, y, nul, t);
     let slot = slot_of(t, 0, KEYS, key);
@@ -86,19 +87,19 @@ fn put(d: &[u8], y: usize, nul: usize, a: usize, n: u32, t: &mut Table) -> bool
         t[slot] = key;
         return false;
     }
-    has_name(d, y, a, n)
+    has_name(d, y, a, n, w)
 }
 
 // The keys of the k names from a on are put in the table, unless two of these names are equal.
-fn fill(d: &[u8], a: usize, k: u32, t: &mut Table) -> Chunk
+fn fill(d: &[u8], a: usize, k: u32, t: &mut Table, w: usize) -> Chunk
     requires { ⌜ (a ≤ length (now d)) × (length (now d) ≤ 16777216) × (length (now t) ≡ 3126) ⌝ }
-    ensures { λ r. ⌜ (length (now (t .exit)) ≡ 3126) × Filled (now (d .entry)) a k (now (t .exit)) r ⌝ }
+    ensures { λ r. ⌜ (length (now (t .exit)) ≡ 3126) × Filled w (now (d .entry)) a k (now (t .exit)) r ⌝ }
 {
     let mut y = a;
     let mut n: u32 = 0;
     while n < k {
-        let sibling = sibling_at(d, y);
-        if put(d, y, sibling.nul, a, n, t) {
+        let sibling = sibling_at(d, y, w);
+        if put(d, y, sibling.nul, a, n, t, w) {
             return Chunk::Equal;
         }
         y = sibling.next;
@@ -108,15 +109,15 @@ fn fill(d: &[u8], a: usize, k: u32, t: &mut Table) -> Chunk
 }
 
 // Whether none of the k names from b on is among the n from a on, whose keys are in the table.
-fn against(d: &[u8], a: usize, n: u32, b: usize, k: u32, t: &Table) -> bool
-    requires { ⌜ (b ≤ length (now d)) × (a ≤ length (now d)) × (length (now d) ≤ 16777216) × (allHeld (now t) (namesOf n (drop a (now d))) ≡ true) ⌝ }
-    ensures { λ r. ⌜ r ≡ apart (namesOf n (drop a (now (d .entry)))) (namesOf k (drop b (now (d .entry)))) ⌝ }
+fn against(d: &[u8], a: usize, n: u32, b: usize, k: u32, t: &Table, w: usize) -> bool
+    requires { ⌜ (b ≤ length (now d)) × (a ≤ length (now d)) × (length (now d) ≤ 16777216) × (allHeld (now t) (namesOf w n (drop a (now d))) ≡ true) ⌝ }
+    ensures { λ r. ⌜ r ≡ apart (namesOf w n (drop a (now (d .entry)))) (namesOf w k (drop b (now (d .entry)))) ⌝ }
 {
     let mut y = b;
     let mut left = k;
     while 0 < left {
-        let sibling = sibling_at(d, y);
-        if is_known(d, y, sibling.nul, a, n, t) {
+        let sibling = sibling_at(d, y, w);
+        if is_known(d, y, sibling.nul, a, n, t, w) {
             return false;
         }
         y = sibling.next;
@@ -136,9 +137,9 @@ fn chunk_size(left: u32) -> u32
 }
 
 // Whether the k names from a on differ.
-pub fn differ(d: &[u8], a: usize, k: u32, t: &mut Table) -> bool
+pub fn differ(d: &[u8], a: usize, k: u32, t: &mut Table, w: usize) -> bool
     requires { ⌜ (a ≤ length (now d)) × (length (now d) ≤ 16777216) × (length (now t) ≡ 3126) ⌝ }
-    ensures { λ r. ⌜ (r ≡ namesDiffer (namesOf k (drop a (now (d .entry))))) × (length (now (t .exit)) ≡ 3126) ⌝ }
+    ensures { λ r. ⌜ (r ≡ namesDiffer (namesOf w k (drop a (now (d .entry))))) × (length (now (t .exit)) ≡ 3126) ⌝ }
 {
     make_seed(d, t);
     let mut x = a;
@@ -146,11 +147,11 @@ pub fn differ(d: &[u8], a: usize, k: u32, t: &mut Table) -> bool
     while 0 < left {
         let n = chunk_size(left);
         clear(t, 0, KEYS);
-        let filled = fill(d, x, n, t);
+        let filled = fill(d, x, n, t, w);
         let Chunk::Next(y) = filled else {
             return false;
         };
-        if against(d, x, n, y, left - n, t) {
+        if against(d, x, n, y, left - n, t, w) {
             x = y;
             left -= n;
         } else {

@@ -1,4 +1,5 @@
 // The cache tree: reading the data of the TREE extension. Every fault of the data is refusal 15, so the answers have no number.
+// w is the width of an object name.
 pub mod differ;
 pub mod list;
 pub mod orders;
@@ -21,16 +22,16 @@ pub enum TreeRead {
 }
 
 // The root, whose name is empty, and all below it.
-fn read_nodes(d: &[u8], t: &mut Table) -> ListRead
+fn read_nodes(d: &[u8], t: &mut Table, w: usize) -> ListRead
     requires { ⌜ (length (now d) ≤ 16777216) × (length (now t) ≡ 3126) ⌝ }
-    ensures { λ r. ⌜ (r ≡ nodesAt (readDistinct (now (d .entry)))) × (length (now (t .exit)) ≡ 3126) ⌝ }
+    ensures { λ r. ⌜ (r ≡ nodesAt (readDistinct w (now (d .entry)))) × (length (now (t .exit)) ≡ 3126) ⌝ }
 {
-    let read = read_node(d, 0);
+    let read = read_node(d, 0, w);
     match read {
         NodeRead::Bad => ListRead::Bad,
         NodeRead::Good(root) => {
             if root.nul == 0 {
-                let listed = read_list(d, root.next, 127, root.subtrees, t);
+                let listed = read_list(d, root.next, 127, root.subtrees, t, w);
                 return with_root(listed);
             }
             ListRead::Bad
@@ -39,11 +40,11 @@ fn read_nodes(d: &[u8], t: &mut Table) -> ListRead
 }
 
 // The whole data but for its entry counts.
-pub fn read_tree(d: &[u8], t: &mut Table) -> TreeRead
+pub fn read_tree(d: &[u8], t: &mut Table, w: usize) -> TreeRead
     requires { ⌜ (length (now d) ≤ 16777216) × (length (now t) ≡ 3126) ⌝ }
-    ensures { λ r. ⌜ ((p : ℕ) → r ≡ treeOf (readShape 20 p (now (d .entry)))) × (length (now (t .exit)) ≡ 3126) ⌝ }
+    ensures { λ r. ⌜ ((p : ℕ) → r ≡ treeOf (readShape w p (now (d .entry)))) × (length (now (t .exit)) ≡ 3126) ⌝ }
 {
-    let read = read_nodes(d, t);
+    let read = read_nodes(d, t, w);
     let ListRead::Good { next, nodes } = read else {
         return TreeRead::Bad;
     };

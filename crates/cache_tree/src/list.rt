@@ -1,5 +1,6 @@
 // Lists of siblings. Reading a node means reading its list of subtrees, and each of these is a node: the two readers call each other.
 // They end because fewer bytes remain: a node's list is after the node. The levels are a limit of the format, and tested as such.
+// w is the width of an object name.
 use crate::differ::differ;
 use crate::orders::Rising;
 use crate::orders::rise;
@@ -45,20 +46,20 @@ pub(crate) fn with_root(listed: ListRead) -> ListRead
 }
 
 // The node at a place and all below it, with at most the given number of levels.
-pub fn read_subtree(d: &[u8], at: usize, levels: u32, t: &mut Table) -> ListRead
+pub fn read_subtree(d: &[u8], at: usize, levels: u32, t: &mut Table, w: usize) -> ListRead
     requires { ⌜ (at ≤ length (now d)) × (length (now d) ≤ 16777216) × (levels ≤ 127) × (length (now t) ≡ 3126) ⌝ }
-    ensures { λ r. ⌜ (r ≡ listAt at (tested distinctBelow (readOne levels (drop at (now (d .entry)))))) × (length (now (t .exit)) ≡ 3126) ⌝ }
+    ensures { λ r. ⌜ (r ≡ listAt at (tested distinctBelow (readOne w levels (drop at (now (d .entry)))))) × (length (now (t .exit)) ≡ 3126) ⌝ }
 {
     if levels == 0 {
         return ListRead::Bad;
     }
-    let read = read_node(d, at);
+    let read = read_node(d, at, w);
     match read {
         NodeRead::Bad => ListRead::Bad,
         NodeRead::Good(node) => {
             let nul = node.nul;
             if name_ok(&d[at..nul]) {
-                let listed = read_list(d, node.next, levels - 1, node.subtrees, t);
+                let listed = read_list(d, node.next, levels - 1, node.subtrees, t, w);
                 return with_root(listed);
             }
             ListRead::Bad
@@ -67,9 +68,9 @@ pub fn read_subtree(d: &[u8], at: usize, levels: u32, t: &mut Table) -> ListRead
 }
 
 // k siblings at a place and all below them, with at most the given number of levels. Names that rise in one of two orders differ; others are looked at again.
-pub fn read_list(d: &[u8], at: usize, levels: u32, k: u32, t: &mut Table) -> ListRead
+pub fn read_list(d: &[u8], at: usize, levels: u32, k: u32, t: &mut Table, w: usize) -> ListRead
     requires { ⌜ (at ≤ length (now d)) × (length (now d) ≤ 16777216) × (levels ≤ 127) × (length (now t) ≡ 3126) ⌝ }
-    ensures { λ r. ⌜ (r ≡ listAt at (tested distinct (readForest 20 0 levels k (drop at (now (d .entry)))))) × (length (now (t .exit)) ≡ 3126) ⌝ }
+    ensures { λ r. ⌜ (r ≡ listAt at (tested distinct (readForest w 0 levels k (drop at (now (d .entry)))))) × (length (now (t .exit)) ≡ 3126) ⌝ }
 {
     let mut place = at;
     let mut previous = at;
@@ -80,7 +81,7 @@ pub fn read_list(d: &[u8], at: usize, levels: u32, k: u32, t: &mut Table) -> Lis
         by_length: true,
     };
     while 0 < left {
-        let read = read_subtree(d, place, levels, t);
+        let read = read_subtree(d, place, levels, t, w);
         let ListRead::Good { next, nodes: n } = read else {
             return ListRead::Bad;
         };
@@ -100,7 +101,7 @@ pub fn read_list(d: &[u8], at: usize, levels: u32, k: u32, t: &mut Table) -> Lis
     if rises.by_length {
         return listed;
     }
-    if differ(d, at, k, t) {
+    if differ(d, at, k, t, w) {
         return listed;
     }
     ListRead::Bad

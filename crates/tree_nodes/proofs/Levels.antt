@@ -1,4 +1,5 @@
--- Laws of the pass that finds a node's level: the stack of what remains, what it says of the items that are still to come, and the loop.
+-- Laws of the pass that finds a node's level: the stack of what remains, what it says of the items that are still to come, and the loop. w is the
+-- width of an object name.
 use mathlib.Core.Path.{_≡_, refl, sym, ap, _∙_}
 use mathlib.Core.List.{List, [], _∷_, _++_, append-nil, append-assoc}
 use Prim.Native.Nat.{ℕ, zero, suc, _+_, _-_, _≤_, _<_}
@@ -90,26 +91,26 @@ climb-more r (suc depth) some h =
 
 -- ---- the items that are still to come
 
--- Pending s st is: on each level of the stack st its number of siblings are in s, the deepest first, each followed by all below it; is are
+-- Pending w s st is: on each level of the stack st its number of siblings are in s, the deepest first, each followed by all below it; is are
 -- the items of all of them
-data Pending : List ℕ → List ℕ → List Item → Type 0 where
-  pending-none : {s : List ℕ} → Pending s [] []
+data Pending (w : ℕ) : List ℕ → List ℕ → List Item → Type 0 where
+  pending-none : {s : List ℕ} → Pending w s [] []
   pending-list :
       {s : List ℕ} {f : Forest} {l n m : ℕ} {st : List ℕ} {is rest : List Item} →
-      Reads s f n m →
+      Reads w s f n m →
       Levels l f →
       l + length st ≡ 128 →
-      Pending (drop m s) st rest →
+      Pending w (drop m s) st rest →
       is ≡ items (suc (length st)) f ++ rest →
-      Pending s (n ∷ st) is
+      Pending w s (n ∷ st) is
 
 -- a level on which none are left
-pending-up : (s st : List ℕ) (is : List Item) (n : ℕ) → n ≡ 0 → Pending s (n ∷ st) is → Pending s st is
+pending-up : {w : ℕ} (s st : List ℕ) (is : List Item) (n : ℕ) → n ≡ 0 → Pending w s (n ∷ st) is → Pending w s st is
 unfolding items
 pending-up s st is _ z (pending-list reads-none l b p e) = rw e p
 pending-up s st is _ z (pending-list (reads-more q r t) l b p e) = absurd (omega arith)
 
-pending-climbed : (s st : List ℕ) (is : List Item) → Pending s st is → Pending s (climbed st) is
+pending-climbed : {w : ℕ} (s st : List ℕ) (is : List Item) → Pending w s st is → Pending w s (climbed st) is
 unfolding climbed
 pending-climbed s [] is p = p
 pending-climbed s (n ∷ []) is p = p
@@ -117,30 +118,30 @@ pending-climbed s (zero ∷ m ∷ st) is p = pending-climbed s (m ∷ st) is (pe
 pending-climbed s (suc n ∷ m ∷ st) is p = p
 
 -- as many levels as there may be
-pending-deep : (s st : List ℕ) (is : List Item) (n : ℕ) → 0 < n → Pending s (n ∷ st) is → length st ≤ 127
+pending-deep : {w : ℕ} (s st : List ℕ) (is : List Item) (n : ℕ) → 0 < n → Pending w s (n ∷ st) is → length st ≤ 127
 pending-deep s st is _ h (pending-list reads-none l b p e) = absurd (omega arith)
 pending-deep s st is _ h (pending-list (reads-more q r t) (levels-more k a) b p e) = omega arith
 
 -- a node is next
-record Next (s : List ℕ) (n : ℕ) (st : List ℕ) (is : List Item) : Type 0 where
+record Next (w : ℕ) (s : List ℕ) (n : ℕ) (st : List ℕ) (is : List Item) : Type 0 where
   item : Item
   rest : List Item
   split : is ≡ item ∷ rest
   level : item .level ≡ suc (length st)
   head : Head
   taken : ℕ
-  reads : readNode 20 0 s ≡ good head taken
-  pending : Pending (drop taken s) (head .subtrees ∷ (n - 1) ∷ st) rest
+  reads : readNode w 0 s ≡ good head taken
+  pending : Pending w (drop taken s) (head .subtrees ∷ (n - 1) ∷ st) rest
 
-pending-next : (s st : List ℕ) (is : List Item) (n : ℕ) → 0 < n → Pending s (n ∷ st) is → Next s n st is
+pending-next : {w : ℕ} (s st : List ℕ) (is : List Item) (n : ℕ) → 0 < n → Pending w s (n ∷ st) is → Next w s n st is
 unfolding items
 pending-next s st is _ h (pending-list reads-none l b p e) = absurd (omega arith)
-pending-next s st is _ h (pending-list {rest = more} (reads-more {h = head} {kids = kids} {after = after} {a = a} {b = b} {c = c} {k = k} q r t) (levels-more {l = l} below beside) sum p e) =
+pending-next {w} s st is _ h (pending-list {rest = more} (reads-more {h = head} {kids = kids} {after = after} {a = a} {b = b} {c = c} {k = k} q r t) (levels-more {l = l} below beside) sum p e) =
     let item : Item = record { node = head .node; level = suc (length st); subtrees = width kids } in
     let under : List Item = items (suc (suc (length st))) kids in
     let later : List Item = items (suc (length st)) after ++ more in
-    let last : Pending (drop c (drop b (drop a s))) st more = rw (drops a b c s) p in
-    let rest : Pending (drop b (drop a s)) (k ∷ st) later = pending-list t beside sum last refl in
+    let last : Pending w (drop c (drop b (drop a s))) st more = rw (drops a b c s) p in
+    let rest : Pending w (drop b (drop a s)) (k ∷ st) later = pending-list t beside sum last refl in
     let one : suc k - 1 ≡ k = omega arith in
     let levels : l + suc (length st) ≡ 128 = omega arith in
     record {
@@ -154,11 +155,11 @@ pending-next s st is _ h (pending-list {rest = more} (reads-more {h = head} {kid
       pending = rw one (pending-list r below levels rest refl);
     }
 
-pending-all : (s : List ℕ) (is : List Item) → Pending s [] is → length is ≡ 0
+pending-all : {w : ℕ} (s : List ℕ) (is : List Item) → Pending w s [] is → length is ≡ 0
 pending-all s _ pending-none = refl
 
 -- where the climb has ended and not all is passed
-climbed-next : (s : List ℕ) (n : ℕ) (st : List ℕ) (is : List Item) → climbed (n ∷ st) ≡ n ∷ st → Pending s (n ∷ st) is → 0 < length is → Next s n st is
+climbed-next : {w : ℕ} (s : List ℕ) (n : ℕ) (st : List ℕ) (is : List Item) → climbed (n ∷ st) ≡ n ∷ st → Pending w s (n ∷ st) is → 0 < length is → Next w s n st is
 unfolding climbed
 climbed-next s zero [] is is-climbed p some = let none = pending-all s is (pending-up s [] is 0 refl p) in absurd (omega arith)
 climbed-next s zero (m ∷ st) is is-climbed p some = let l = climb-length (m ∷ st) in absurd (omega (arith, ap length is-climbed))
@@ -167,18 +168,18 @@ climbed-next s (suc n) st is is-climbed p some = pending-next s st is (suc n) (o
 -- ---- the loop
 
 -- after some nodes, left before node number k of the tree t: what is still to come from place on
-record Remains (d : List ℕ) (k : ℕ) (t : Tree) (place left : ℕ) (st : List ℕ) : Type 0 where
+record Remains (w : ℕ) (d : List ℕ) (k : ℕ) (t : Tree) (place left : ℕ) (st : List ℕ) : Type 0 where
   rest : List Item
-  pending : Pending (drop place d) st rest
+  pending : Pending w (drop place d) st rest
   is-climbed : climbed st ≡ st
   more : left < length rest
   same : (z : Item) → getD (treeItems t) k z ≡ getD rest left z
 
 -- the same for any tree that the data may be
-pub record Passing (d : List ℕ) (k place left : ℕ) (st : List ℕ) : Type 0 where
-  of : (t : Tree) (m : ℕ) → readNodes 20 0 d ≡ good t m → k < length (treeItems t) → Remains d k t place left st
+pub record Passing (w : ℕ) (d : List ℕ) (k place left : ℕ) (st : List ℕ) : Type 0 where
+  of : (t : Tree) (m : ℕ) → readNodes w 0 d ≡ good t m → k < length (treeItems t) → Remains w d k t place left st
 
-pub passing-start : (d : List ℕ) (k : ℕ) (st : List ℕ) → st ≡ 1 ∷ [] → Passing d k 0 k st
+pub passing-start : {w : ℕ} (d : List ℕ) (k : ℕ) (st : List ℕ) → st ≡ 1 ∷ [] → Passing w d k 0 k st
 unfolding climbed
 passing-start d k st one =
     record {
@@ -197,12 +198,12 @@ rest-item : (is : List Item) (i : Item) (rest : List Item) (z : Item) (left : �
 rest-item is i rest z zero e some = absurd (omega arith)
 rest-item is i rest z (suc left) e some = let one : suc left - 1 ≡ left = omega arith in rw (e, one)
 
-module _ (d : List ℕ) (k : ℕ) (t : Tree) (place left n : ℕ) (st : List ℕ) (h : Remains d k t place left (n ∷ st)) where
-  remains-next : Next (drop place d) n st (h .rest)
+module _ {w : ℕ} (d : List ℕ) (k : ℕ) (t : Tree) (place left n : ℕ) (st : List ℕ) (h : Remains w d k t place left (n ∷ st)) where
+  remains-next : Next w (drop place d) n st (h .rest)
   remains-next = climbed-next (drop place d) n st (h .rest) (h .is-climbed) (h .pending) (omega (arith, h .more))
 
-  remains-more : 0 < left → (node : Code.Node) → NodeIs d place node
-      → (st′ : List ℕ) → ((0 < node .subtrees → length st < 127) → st′ ≡ passed (node .subtrees) (n ∷ st)) → Remains d k t (node .next) (left - 1) st′
+  remains-more : 0 < left → (node : Code.Node) → NodeIs w d place node
+      → (st′ : List ℕ) → ((0 < node .subtrees → length st < 127) → st′ ≡ passed (node .subtrees) (n ∷ st)) → Remains w d k t (node .next) (left - 1) st′
   unfolding passed
   remains-more some node is st′ e =
       let x = remains-next in
@@ -211,7 +212,7 @@ module _ (d : List ℕ) (k : ℕ) (t : Tree) (place left n : ℕ) (st : List ℕ
       let same-head : is .head ≡ x .head = cc (is .reads, x .reads) in
       let same-size : node .next - place ≡ x .taken = cc (is .reads, x .reads) in
       let to : node .next ≡ place + (node .next - place) = omega arith in
-      let after : Pending (drop (node .next) d) (node .subtrees ∷ (n - 1) ∷ st) (x .rest) =
+      let after : Pending w (drop (node .next) d) (node .subtrees ∷ (n - 1) ∷ st) (x .rest) =
       rw (← (is .subtrees), same-head, ← (drop-to d place (node .next - place) (node .next) to), same-size) (x .pending) in
       let here = e (λ subtrees. let deep = pending-deep _ _ _ _ subtrees after in omega arith) in
       record {
@@ -222,23 +223,23 @@ module _ (d : List ℕ) (k : ℕ) (t : Tree) (place left n : ℕ) (st : List ℕ
         same = λ z. h .same z ∙ rest-item (h .rest) (x .item) (x .rest) z left (x .split) some;
       }
 
-module _ (d : List ℕ) (k place left : ℕ) (r : List ℕ) (depth : ℕ) (h : Passing d k place left (stackOf r (suc depth))) where
+module _ {w : ℕ} (d : List ℕ) (k place left : ℕ) (r : List ℕ) (depth : ℕ) (h : Passing w d k place left (stackOf r (suc depth))) where
   -- a node is passed, and the climb from it
-  pub passing-more : 0 < left → (node : Code.Node) → NodeIs d place node
-      → (st : List ℕ) → ((0 < node .subtrees → depth < 127) → st ≡ passed (node .subtrees) (stackOf r (suc depth))) → Passing d k (node .next) (left - 1) st
+  pub passing-more : 0 < left → (node : Code.Node) → NodeIs w d place node
+      → (st : List ℕ) → ((0 < node .subtrees → depth < 127) → st ≡ passed (node .subtrees) (stackOf r (suc depth))) → Passing w d k (node .next) (left - 1) st
   unfolding stackOf
   passing-more some node is st e =
       record { of = λ t m q few. remains-more d k t place left _ (stackOf r depth) (h .of t m q few) some node is st (λ deep. e (λ subtrees. rw (stack-length r depth) at (deep subtrees))) }
 
   -- no node where there must be one
-  pub passing-stop : R.Bad ≡ nodeAt place (readNode 20 0 (drop place d)) → (t : Tree) (m : ℕ) → readNodes 20 0 d ≡ good t m → k < length (treeItems t) → ⊥
+  pub passing-stop : R.Bad ≡ nodeAt w place (readNode w 0 (drop place d)) → (t : Tree) (m : ℕ) → readNodes w 0 d ≡ good t m → k < length (treeItems t) → ⊥
   unfolding stackOf
   passing-stop none t m e few =
       let x = remains-next d k t place left _ _ (h .of t m e few) in
-      no-node d place none λ n p q. bad-good n p (x .head) (x .taken) (sym q ∙ x .reads)
+      no-node w d place none λ n p q. bad-good n p (x .head) (x .taken) (sym q ∙ x .reads)
 
   -- the next node is the one
-  pub passing-end : left ≤ 0 → (t : Tree) (m : ℕ) (z : Item) → readNodes 20 0 d ≡ good t m → k < length (treeItems t) → suc depth ≡ getD (treeItems t) k z .level
+  pub passing-end : left ≤ 0 → (t : Tree) (m : ℕ) (z : Item) → readNodes w 0 d ≡ good t m → k < length (treeItems t) → suc depth ≡ getD (treeItems t) k z .level
   unfolding stackOf
   passing-end last t m z e few =
       let y = h .of t m e few in

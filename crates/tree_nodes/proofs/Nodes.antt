@@ -1,4 +1,4 @@
--- Laws of the parts of a node at a place of the data.
+-- Laws of the parts of a node at a place of the data. w is the width of an object name.
 use mathlib.Core.Path.{_≡_, refl, sym, ap, _∙_}
 use mathlib.Core.List.{List, [], _∷_}
 use mathlib.Core.Bool.{Bool, true, false, cond, _&&_, true≢false}
@@ -157,111 +157,111 @@ module _ (d : List ℕ) (at : ℕ) (inside : at ≤ length d) where
 -- ---- a node, part after part
 
 -- the rest of a node after its name, its entry count, its number of subtrees
-unfoldable pub afterSubtrees : List ℕ → Records.Count → ℕ → List ℕ → Read Head
-afterSubtrees name count subtrees s = bind (readObject 20 0 count s) λ object q. good (record { node = record { name = name; count = count; object = object }; subtrees = subtrees }) 0
+unfoldable pub afterSubtrees : ℕ → List ℕ → Records.Count → ℕ → List ℕ → Read Head
+afterSubtrees w name count subtrees s = bind (readObject w 0 count s) λ object q. good (record { node = record { name = name; count = count; object = object }; subtrees = subtrees }) 0
 
-unfoldable pub afterCount : List ℕ → Records.Count → List ℕ → Read Head
-afterCount name count s = bind (readSubtrees 0 s) λ subtrees o. afterSubtrees name count subtrees (drop o s)
+unfoldable pub afterCount : ℕ → List ℕ → Records.Count → List ℕ → Read Head
+afterCount w name count s = bind (readSubtrees 0 s) λ subtrees o. afterSubtrees w name count subtrees (drop o s)
 
-unfoldable pub afterName : List ℕ → List ℕ → Read Head
-afterName name s = bind (readCount 0 s) λ count n. afterCount name count (drop n s)
+unfoldable pub afterName : ℕ → List ℕ → List ℕ → Read Head
+afterName w name s = bind (readCount 0 s) λ count n. afterCount w name count (drop n s)
 
 -- the node that begins at a place, of which the rest is at another
-unfoldable pub nodeFrom : ℕ → ℕ → Read Head → NodeRead
-nodeFrom at place (bad n p) = R.Bad
-nodeFrom at place (good h m) = R.Good (record {
+unfoldable pub nodeFrom : ℕ → ℕ → ℕ → Read Head → NodeRead
+nodeFrom w at place (bad n p) = R.Bad
+nodeFrom w at place (good h m) = R.Good (record {
   nul = at + length (h .node .name);
   valid = isValid (h .node .count);
   count = counted (h .node .count);
   subtrees = h .subtrees;
-  object = place + m - objectLength (h .node .count);
+  object = place + m - objectLength w (h .node .count);
   next = place + m;
 })
 
-from-here : (at : ℕ) (r : Read Head) → nodeAt at r ≡ nodeFrom at at r
+from-here : (w : ℕ) (at : ℕ) (r : Read Head) → nodeAt w at r ≡ nodeFrom w at at r
 unfolding nodeAt nodeFrom
-from-here at (bad n p) = refl
-from-here at (good h m) = refl
+from-here w at (bad n p) = refl
+from-here w at (good h m) = refl
 
-from-shift : (at place m : ℕ) (r : Read Head) → nodeFrom at place (shift m r) ≡ nodeFrom at (place + m) r
+from-shift : (w : ℕ) (at place m : ℕ) (r : Read Head) → nodeFrom w at place (shift m r) ≡ nodeFrom w at (place + m) r
 unfolding nodeFrom shift
-from-shift at place m (bad n p) = refl
-from-shift at place m (good h k) = rw (add-assoc place m k)
+from-shift w at place m (bad n p) = refl
+from-shift w at place m (good h k) = rw (add-assoc place m k)
 
-from-bind : {A : Type 0} (at place next m : ℕ) (a : A) (x : Read A) (k : A → ℕ → Read Head) → x ≡ good a m → next ≡ place + m → nodeFrom at place (bind x k) ≡ nodeFrom at next (k a m)
+from-bind : (w : ℕ) {A : Type 0} (at place next m : ℕ) (a : A) (x : Read A) (k : A → ℕ → Read Head) → x ≡ good a m → next ≡ place + m → nodeFrom w at place (bind x k) ≡ nodeFrom w at next (k a m)
 unfolding bind
-from-bind at place next m a x k e i = rw (e, i) (from-shift at place m (k a m))
+from-bind w at place next m a x k e i = rw (e, i) (from-shift w at place m (k a m))
 
-from-bad : {A : Type 0} (at place n p : ℕ) (x : Read A) (k : A → ℕ → Read Head) → x ≡ bad n p → nodeFrom at place (bind x k) ≡ R.Bad
+from-bad : (w : ℕ) {A : Type 0} (at place n p : ℕ) (x : Read A) (k : A → ℕ → Read Head) → x ≡ bad n p → nodeFrom w at place (bind x k) ≡ R.Bad
 unfolding bind nodeFrom
-from-bad at place n p x k e = rw e
+from-bad w at place n p x k e = rw e
 
-module _ (d : List ℕ) (at z : ℕ) (is : z ≡ at + before 0 (drop at d)) where
-  pub node-none : z ≡ length d → nodeAt at (readNode 20 0 (drop at d)) ≡ R.Bad
+module _ (w : ℕ) (d : List ℕ) (at z : ℕ) (is : z ≡ at + before 0 (drop at d)) where
+  pub node-none : z ≡ length d → nodeAt w at (readNode w 0 (drop at d)) ≡ R.Bad
   unfolding readNode
-  node-none h = from-here at _ ∙ from-bad at at 15 0 _ _ (text-none 0 15 0 d at z is h)
+  node-none h = from-here w at _ ∙ from-bad w at at 15 0 _ _ (text-none 0 15 0 d at z is h)
 
-  pub node-name : z < length d → nodeAt at (readNode 20 0 (drop at d)) ≡ nodeFrom at (z + 1) (afterName (take (z - at) (drop at d)) (drop (z + 1) d))
+  pub node-name : z < length d → nodeAt w at (readNode w 0 (drop at d)) ≡ nodeFrom w at (z + 1) (afterName w (take (z - at) (drop at d)) (drop (z + 1) d))
   unfolding readNode afterName afterCount afterSubtrees
   node-name h =
       let next : z + 1 ≡ at + (z + 1 - at) = omega arith in
-      from-here at _ ∙ from-bind at at (z + 1) (z + 1 - at) (take (z - at) (drop at d)) _ _ (text-some 0 15 0 d at z is h) next
-      ∙ ap (λ (s : List ℕ). nodeFrom at (z + 1) (afterName (take (z - at) (drop at d)) s)) (drop-to d at (z + 1 - at) (z + 1) next)
+      from-here w at _ ∙ from-bind w at at (z + 1) (z + 1 - at) (take (z - at) (drop at d)) _ _ (text-some 0 15 0 d at z is h) next
+      ∙ ap (λ (s : List ℕ). nodeFrom w at (z + 1) (afterName w (take (z - at) (drop at d)) s)) (drop-to d at (z + 1 - at) (z + 1) next)
 
-module _ (d name : List ℕ) (at place : ℕ) where
-  pub from-count : (v : Bool) (n next : ℕ) (is : CountIs d place v n next) → nodeFrom at place (afterName name (drop place d)) ≡ nodeFrom at next (afterCount name (is .of) (drop next d))
+module _ (w : ℕ) (d name : List ℕ) (at place : ℕ) where
+  pub from-count : (v : Bool) (n next : ℕ) (is : CountIs d place v n next) → nodeFrom w at place (afterName w name (drop place d)) ≡ nodeFrom w at next (afterCount w name (is .of) (drop next d))
   unfolding afterName
   from-count v n next is =
       let q = is .after in
       let e : next ≡ place + (next - place) = omega arith in
-      from-bind at place next (next - place) (is .of) _ _ (is .reads) e ∙ rw (drop-to d place (next - place) next e)
+      from-bind w at place next (next - place) (is .of) _ _ (is .reads) e ∙ rw (drop-to d place (next - place) next e)
 
-  no-count-by : (x : Read Records.Count) → C.Bad ≡ countAt place x → (k : Records.Count → ℕ → Read Head) → nodeFrom at place (bind x k) ≡ R.Bad
+  no-count-by : (x : Read Records.Count) → C.Bad ≡ countAt place x → (k : Records.Count → ℕ → Read Head) → nodeFrom w at place (bind x k) ≡ R.Bad
   unfolding countAt
-  no-count-by (bad a p) e k = from-bad at place a p _ k refl
+  no-count-by (bad a p) e k = from-bad w at place a p _ k refl
   no-count-by (good c m) e k = let z : _≡_ {A = ℕ} 0 1 = cc in absurd (omega arith)
 
-  pub from-no-count : C.Bad ≡ countAt place (readCount 0 (drop place d)) → nodeFrom at place (afterName name (drop place d)) ≡ R.Bad
+  pub from-no-count : C.Bad ≡ countAt place (readCount 0 (drop place d)) → nodeFrom w at place (afterName w name (drop place d)) ≡ R.Bad
   unfolding afterName
   from-no-count e = no-count-by (readCount 0 (drop place d)) e _
 
   module _ (count : Records.Count) where
-    pub from-subtrees : (k next : ℕ) (is : SubtreesIs d place k next) → nodeFrom at place (afterCount name count (drop place d)) ≡ nodeFrom at next (afterSubtrees name count k (drop next d))
+    pub from-subtrees : (k next : ℕ) (is : SubtreesIs d place k next) → nodeFrom w at place (afterCount w name count (drop place d)) ≡ nodeFrom w at next (afterSubtrees w name count k (drop next d))
     unfolding afterCount
     from-subtrees k next is =
         let q = is .after in
         let e : next ≡ place + (next - place) = omega arith in
-        from-bind at place next (next - place) k _ _ (is .reads) e ∙ rw (drop-to d place (next - place) next e)
+        from-bind w at place next (next - place) k _ _ (is .reads) e ∙ rw (drop-to d place (next - place) next e)
 
-    no-subtrees-by : (x : Read ℕ) → S.Bad ≡ subtreesAt place x → (k : ℕ → ℕ → Read Head) → nodeFrom at place (bind x k) ≡ R.Bad
+    no-subtrees-by : (x : Read ℕ) → S.Bad ≡ subtreesAt place x → (k : ℕ → ℕ → Read Head) → nodeFrom w at place (bind x k) ≡ R.Bad
     unfolding subtreesAt
-    no-subtrees-by (bad a p) e k = from-bad at place a p _ k refl
+    no-subtrees-by (bad a p) e k = from-bad w at place a p _ k refl
     no-subtrees-by (good c m) e k = let z : _≡_ {A = ℕ} 0 1 = cc in absurd (omega arith)
 
-    pub from-no-subtrees : S.Bad ≡ subtreesAt place (readSubtrees 0 (drop place d)) → nodeFrom at place (afterCount name count (drop place d)) ≡ R.Bad
+    pub from-no-subtrees : S.Bad ≡ subtreesAt place (readSubtrees 0 (drop place d)) → nodeFrom w at place (afterCount w name count (drop place d)) ≡ R.Bad
     unfolding afterCount
     from-no-subtrees e = no-subtrees-by (readSubtrees 0 (drop place d)) e _
 
 -- the end of a node whose name ends at z
-module _ (d : List ℕ) (at z place k n : ℕ) (named : at ≤ z) (inside : z ≤ length d) (within : place ≤ length d) where
+module _ (w : ℕ) (d : List ℕ) (at z place k n : ℕ) (named : at ≤ z) (inside : z ≤ length d) (within : place ≤ length d) where
   name-length : length (take (z - at) (drop at d)) ≡ z - at
   name-length = simp (length-take, length-drop) (omega arith)
 
-  pub from-short : length d - place < 20 → nodeFrom at place (afterSubtrees (take (z - at) (drop at d)) (Records.valid n) k (drop place d)) ≡ R.Bad
+  pub from-short : length d - place < w → nodeFrom w at place (afterSubtrees w (take (z - at) (drop at d)) (Records.valid n) k (drop place d)) ≡ R.Bad
   unfolding afterSubtrees readObject need
   from-short h =
-      let l : length (drop place d) < 20 = simp length-drop (omega arith) in
-      rw (lt-leb _ _ l) (from-bad {A = List ℕ} at place 15 0 (bad 15 0) _ refl)
+      let l : length (drop place d) < w = simp length-drop (omega arith) in
+      rw (lt-leb _ _ l) (from-bad w {A = List ℕ} at place 15 0 (bad 15 0) _ refl)
 
-  pub from-valid : 20 ≤ length d - place → nodeFrom at place (afterSubtrees (take (z - at) (drop at d)) (Records.valid n) k (drop place d)) ≡ R.Good (record { nul = z; valid = true; count = n; subtrees = k; object = place; next = place + 20 })
+  pub from-valid : w ≤ length d - place → nodeFrom w at place (afterSubtrees w (take (z - at) (drop at d)) (Records.valid n) k (drop place d)) ≡ R.Good (record { nul = z; valid = true; count = n; subtrees = k; object = place; next = place + w })
   unfolding afterSubtrees readObject need nodeFrom bind shift
   from-valid h =
-      let l : 20 ≤ length (drop place d) = simp length-drop (omega arith) in
+      let l : w ≤ length (drop place d) = simp length-drop (omega arith) in
       let e : at + length (take (z - at) (drop at d)) ≡ z = omega (arith, name-length) in
-      let o : place + (20 + 0) - 20 ≡ place = omega arith in
-      rw (le-leb _ _ l, e, o)
+      let o : place + (w + 0) - w ≡ place = omega arith in
+      rw (le-leb _ _ l, e, o, add-zero w)
 
-  pub from-invalid : nodeFrom at place (afterSubtrees (take (z - at) (drop at d)) Records.invalid k (drop place d)) ≡ R.Good (record { nul = z; valid = false; count = 0; subtrees = k; object = place; next = place })
+  pub from-invalid : nodeFrom w at place (afterSubtrees w (take (z - at) (drop at d)) Records.invalid k (drop place d)) ≡ R.Good (record { nul = z; valid = false; count = 0; subtrees = k; object = place; next = place })
   unfolding afterSubtrees readObject nodeFrom bind shift
   from-invalid =
       let e : at + length (take (z - at) (drop at d)) ≡ z = omega (arith, name-length) in
@@ -278,57 +278,57 @@ invalid-of Records.invalid e = refl
 
 -- ---- the whole node
 
-module _ (d : List ℕ) (at z : ℕ) (named : z ≡ at + before 0 (drop at d)) (inside : z < length d) where
-  pub node-no-count : C.Bad ≡ countAt (z + 1) (readCount 0 (drop (z + 1) d)) → nodeAt at (readNode 20 0 (drop at d)) ≡ R.Bad
-  node-no-count e = node-name d at z named inside ∙ from-no-count d _ at (z + 1) e
+module _ (w : ℕ) (d : List ℕ) (at z : ℕ) (named : z ≡ at + before 0 (drop at d)) (inside : z < length d) where
+  pub node-no-count : C.Bad ≡ countAt (z + 1) (readCount 0 (drop (z + 1) d)) → nodeAt w at (readNode w 0 (drop at d)) ≡ R.Bad
+  node-no-count e = node-name w d at z named inside ∙ from-no-count w d _ at (z + 1) e
 
   module _ (v : Bool) (n middle : ℕ) (c : CountIs d (z + 1) v n middle) where
-    pub node-no-subtrees : S.Bad ≡ subtreesAt middle (readSubtrees 0 (drop middle d)) → nodeAt at (readNode 20 0 (drop at d)) ≡ R.Bad
-    node-no-subtrees e = node-name d at z named inside ∙ from-count d _ at (z + 1) v n middle c ∙ from-no-subtrees d _ at middle (c .of) e
+    pub node-no-subtrees : S.Bad ≡ subtreesAt middle (readSubtrees 0 (drop middle d)) → nodeAt w at (readNode w 0 (drop at d)) ≡ R.Bad
+    node-no-subtrees e = node-name w d at z named inside ∙ from-count w d _ at (z + 1) v n middle c ∙ from-no-subtrees w d _ at middle (c .of) e
 
     module _ (k object : ℕ) (s : SubtreesIs d middle k object) where
-      to-object : (count : Records.Count) → c .of ≡ count → nodeAt at (readNode 20 0 (drop at d)) ≡ nodeFrom at object (afterSubtrees (take (z - at) (drop at d)) count k (drop object d))
-      to-object count e = rw (← e) (node-name d at z named inside ∙ from-count d _ at (z + 1) v n middle c ∙ from-subtrees d _ at middle (c .of) k object s)
+      to-object : (count : Records.Count) → c .of ≡ count → nodeAt w at (readNode w 0 (drop at d)) ≡ nodeFrom w at object (afterSubtrees w (take (z - at) (drop at d)) count k (drop object d))
+      to-object count e = rw (← e) (node-name w d at z named inside ∙ from-count w d _ at (z + 1) v n middle c ∙ from-subtrees w d _ at middle (c .of) k object s)
 
       within : object ≤ length d
       within = s .within
 
-      node-valid : v ≡ true → 20 ≤ length d - object → nodeAt at (readNode 20 0 (drop at d)) ≡ R.Good (record { nul = z; valid = true; count = n; subtrees = k; object = object; next = object + 20 })
+      node-valid : v ≡ true → w ≤ length d - object → nodeAt w at (readNode w 0 (drop at d)) ≡ R.Good (record { nul = z; valid = true; count = n; subtrees = k; object = object; next = object + w })
       node-valid e h =
           let o : c .of ≡ Records.valid n = valid-of (c .of) (c .is-valid ∙ e) ∙ ap Records.valid (c .is-count) in
-          to-object (Records.valid n) o ∙ from-valid d at z object k n (omega arith) (omega arith) within h
+          to-object (Records.valid n) o ∙ from-valid w d at z object k n (omega arith) (omega arith) within h
 
-      node-invalid : v ≡ false → nodeAt at (readNode 20 0 (drop at d)) ≡ R.Good (record { nul = z; valid = false; count = n; subtrees = k; object = object; next = object + 0 })
+      node-invalid : v ≡ false → nodeAt w at (readNode w 0 (drop at d)) ≡ R.Good (record { nul = z; valid = false; count = n; subtrees = k; object = object; next = object + 0 })
       node-invalid e =
           let o : c .of ≡ Records.invalid = invalid-of (c .of) (c .is-valid ∙ e) in
           let zero-count : n ≡ 0 = sym (c .is-count) ∙ ap counted o in
-          rw (zero-count, add-zero object) (to-object Records.invalid o ∙ from-invalid d at z object k 0 (omega arith) (omega arith) within)
+          rw (zero-count, add-zero object) (to-object Records.invalid o ∙ from-invalid w d at z object k 0 (omega arith) (omega arith) within)
 
-      node-cut : v ≡ true → length d - object < 20 → nodeAt at (readNode 20 0 (drop at d)) ≡ R.Bad
+      node-cut : v ≡ true → length d - object < w → nodeAt w at (readNode w 0 (drop at d)) ≡ R.Bad
       node-cut e h =
-          to-object (Records.valid (counted (c .of))) (valid-of (c .of) (c .is-valid ∙ e)) ∙ from-short d at z object k (counted (c .of)) (omega arith) (omega arith) within h
+          to-object (Records.valid (counted (c .of))) (valid-of (c .of) (c .is-valid ∙ e)) ∙ from-short w d at z object k (counted (c .of)) (omega arith) (omega arith) within h
 
     -- r is the length of its object name
-    module _ (k object : ℕ) (s : SubtreesIs d middle k object) (r : ℕ) (is : r ≡ cond v 20 0) where
-      pub node-short : length d - object < r → nodeAt at (readNode 20 0 (drop at d)) ≡ R.Bad
+    module _ (k object : ℕ) (s : SubtreesIs d middle k object) (r : ℕ) (is : r ≡ cond v w 0) where
+      pub node-short : length d - object < r → nodeAt w at (readNode w 0 (drop at d)) ≡ R.Bad
       node-short h = by v refl
         where
-          by : (b : Bool) → v ≡ b → nodeAt at (readNode 20 0 (drop at d)) ≡ R.Bad
-          by true e = let q : r ≡ 20 = is ∙ ap (λ (b : Bool). cond b 20 0) e in node-cut k object s e (omega arith)
-          by false e = let q : r ≡ 0 = is ∙ ap (λ (b : Bool). cond b 20 0) e in absurd (omega arith)
+          by : (b : Bool) → v ≡ b → nodeAt w at (readNode w 0 (drop at d)) ≡ R.Bad
+          by true e = let q : r ≡ w = is ∙ ap (λ (b : Bool). cond b w 0) e in node-cut k object s e (omega arith)
+          by false e = let q : r ≡ 0 = is ∙ ap (λ (b : Bool). cond b w 0) e in absurd (omega arith)
 
-      pub node-good : r ≤ length d - object → nodeAt at (readNode 20 0 (drop at d)) ≡ R.Good (record { nul = z; valid = v; count = n; subtrees = k; object = object; next = object + r })
+      pub node-good : r ≤ length d - object → nodeAt w at (readNode w 0 (drop at d)) ≡ R.Good (record { nul = z; valid = v; count = n; subtrees = k; object = object; next = object + r })
       node-good h = by v refl
         where
-          by : (b : Bool) → v ≡ b → nodeAt at (readNode 20 0 (drop at d)) ≡ R.Good (record { nul = z; valid = v; count = n; subtrees = k; object = object; next = object + r })
-          by true e = let q : r ≡ 20 = is ∙ ap (λ (b : Bool). cond b 20 0) e in rw (q, e) (node-valid k object s e (omega arith))
-          by false e = let q : r ≡ 0 = is ∙ ap (λ (b : Bool). cond b 20 0) e in rw (q, e) (node-invalid k object s e)
+          by : (b : Bool) → v ≡ b → nodeAt w at (readNode w 0 (drop at d)) ≡ R.Good (record { nul = z; valid = v; count = n; subtrees = k; object = object; next = object + r })
+          by true e = let q : r ≡ w = is ∙ ap (λ (b : Bool). cond b w 0) e in rw (q, e) (node-valid k object s e (omega arith))
+          by false e = let q : r ≡ 0 = is ∙ ap (λ (b : Bool). cond b w 0) e in rw (q, e) (node-invalid k object s e)
 
 -- ---- what a node's answer says of the format's reading
 
-pub record NodeIs (d : List ℕ) (at : ℕ) (node : Node) : Type 0 where
+pub record NodeIs (w : ℕ) (d : List ℕ) (at : ℕ) (node : Node) : Type 0 where
   pub head : Head
-  pub reads : readNode 20 0 (drop at d) ≡ good head (node .next - at)
+  pub reads : readNode w 0 (drop at d) ≡ good head (node .next - at)
   pub name : head .node .name ≡ take (node .nul - at) (drop at d)
   pub subtrees : head .subtrees ≡ node .subtrees
   pub named : at ≤ node .nul
@@ -347,17 +347,17 @@ node-named w p s h m e =
     let same : record { node = record { name = name; count = count; object = object }; subtrees = k } ≡ h = cc in
     (sym (ap (λ (x : Head). x .node .name) same) ∙ sym text, omega arith, within)
 
-module _ (d : List ℕ) (at : ℕ) (inside : at ≤ length d) where
-  node-is-by : (node : Node) (x : Read Head) → readNode 20 0 (drop at d) ≡ x → R.Good node ≡ nodeAt at x → NodeIs d at node
+module _ {w : ℕ} (d : List ℕ) (at : ℕ) (inside : at ≤ length d) where
+  node-is-by : (node : Node) (x : Read Head) → readNode w 0 (drop at d) ≡ x → R.Good node ≡ nodeAt w at x → NodeIs w d at node
   unfolding nodeAt
   node-is-by node (bad n p) q e = let z : _≡_ {A = ℕ} 0 1 = cc in absurd (omega arith)
   node-is-by node (good h m) q e =
-      let is : node ≡ nodeOf at h m = cc in
+      let is : node ≡ nodeOf w at h m = cc in
       let nul : node .nul ≡ at + length (h .node .name) = ap (λ (n : Node). n .nul) is in
       let next : node .next ≡ at + m = ap (λ (n : Node). n .next) is in
       let l : length (drop at d) ≡ length d - at = length-drop at d in
-      let b : (1 ≤ m) × (m ≤ length (drop at d)) = node-took 20 0 (drop at d) .of h m q in
-      let g = node-named 20 0 (drop at d) h m q in
+      let b : (1 ≤ m) × (m ≤ length (drop at d)) = node-took w 0 (drop at d) .of h m q in
+      let g = node-named w 0 (drop at d) h m q in
       let g₁ : before 0 (drop at d) < m = g .1 in
       let g₂ : before 0 (drop at d) < length (drop at d) = g .2 in
       let k : length (h .node .name) ≡ before 0 (drop at d) = ap length (g .0) ∙ simp length-take (omega arith) in
@@ -373,16 +373,16 @@ module _ (d : List ℕ) (at : ℕ) (inside : at ≤ length d) where
         within = omega arith;
       }
 
-  pub node-is : (node : Node) → R.Good node ≡ nodeAt at (readNode 20 0 (drop at d)) → NodeIs d at node
+  pub node-is : (node : Node) → R.Good node ≡ nodeAt w at (readNode w 0 (drop at d)) → NodeIs w d at node
   node-is node e = node-is-by node _ refl e
 
-no-node-by {ℓ} : {X : Type ℓ} (at : ℕ) (x : Read Head) → R.Bad ≡ nodeAt at x → ((n p : ℕ) → x ≡ bad n p → X) → X
+no-node-by {ℓ} : (w : ℕ) {X : Type ℓ} (at : ℕ) (x : Read Head) → R.Bad ≡ nodeAt w at x → ((n p : ℕ) → x ≡ bad n p → X) → X
 unfolding nodeAt
-no-node-by at (bad n p) e f = f n p refl
-no-node-by at (good h m) e f = let z : _≡_ {A = ℕ} 0 1 = cc in absurd (omega arith)
+no-node-by w at (bad n p) e f = f n p refl
+no-node-by w at (good h m) e f = let z : _≡_ {A = ℕ} 0 1 = cc in absurd (omega arith)
 
-pub no-node {ℓ} : {X : Type ℓ} (d : List ℕ) (at : ℕ) → R.Bad ≡ nodeAt at (readNode 20 0 (drop at d)) → ((n p : ℕ) → readNode 20 0 (drop at d) ≡ bad n p → X) → X
-no-node d at e f = no-node-by at (readNode 20 0 (drop at d)) e f
+pub no-node {ℓ} : (w : ℕ) {X : Type ℓ} (d : List ℕ) (at : ℕ) → R.Bad ≡ nodeAt w at (readNode w 0 (drop at d)) → ((n p : ℕ) → readNode w 0 (drop at d) ≡ bad n p → X) → X
+no-node w d at e f = no-node-by w at (readNode w 0 (drop at d)) e f
 
 -- ---- the object name of a node that was read
 

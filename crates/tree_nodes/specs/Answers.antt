@@ -1,4 +1,5 @@
--- The format's readings as this crate's functions answer them. Every fault is 15, so an answer has no number.
+-- The format's readings as this crate's functions answer them. Every fault is 15, so an answer has no number. w is the width of
+-- an object name.
 use mathlib.Core.List.{List}
 use mathlib.Core.Bool.{cond, _&&_}
 use mathlib.Core.Option.{Option, none, some}
@@ -37,9 +38,9 @@ abbrev pub counted : Records.Count → ℕ
 counted (Records.valid n) = n
 counted Records.invalid = 0
 
-abbrev pub objectLength : Records.Count → ℕ
-objectLength (Records.valid n) = 20
-objectLength Records.invalid = 0
+abbrev pub objectLength : ℕ → Records.Count → ℕ
+objectLength w (Records.valid n) = w
+objectLength w Records.invalid = 0
 
 unfoldable pub countTo : ℕ → Option Records.Count → Count
 countTo next none = C.Bad
@@ -55,16 +56,16 @@ subtreesAt at (good n m) = S.Good n (at + m)
 
 -- ---- a whole node
 
-abbrev pub nodeOf : ℕ → Head → ℕ → Node
-nodeOf at h m = record {
+abbrev pub nodeOf : ℕ → ℕ → Head → ℕ → Node
+nodeOf w at h m = record {
   nul = at + length (h .node .name);
   valid = isValid (h .node .count);
   count = counted (h .node .count);
   subtrees = h .subtrees;
-  object = at + m - objectLength (h .node .count);
+  object = at + m - objectLength w (h .node .count);
   next = at + m;
 }
 
-unfoldable pub nodeAt : ℕ → Read Head → NodeRead
-nodeAt at (bad n p) = R.Bad
-nodeAt at (good h m) = R.Good (nodeOf at h m)
+unfoldable pub nodeAt : ℕ → ℕ → Read Head → NodeRead
+nodeAt w at (bad n p) = R.Bad
+nodeAt w at (good h m) = R.Good (nodeOf w at h m)

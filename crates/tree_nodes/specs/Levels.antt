@@ -1,5 +1,5 @@
 -- The level of a node, by a pass over the nodes one after another. A stack says how many siblings are still to come on each level down to
--- that of the next node, the deepest first.
+-- that of the next node, the deepest first. w is the width of an object name.
 use mathlib.Core.Path.{_≡_}
 use mathlib.Core.List.{List, [], _∷_}
 use Prim.Native.Nat.{ℕ, zero, suc, _-_, _≤_, _<_}
@@ -28,7 +28,7 @@ passed k [] = []
 passed k (n ∷ st) = climbed (k ∷ (n - 1) ∷ st)
 
 -- node number k of the data d: where it begins, and its level where the data are a tree that has it
-pub record NodeFound (d : List ℕ) (k : ℕ) (r : NodePlace) : Type 0 where
-  pub place : r .place ≡ nodeStart 20 k d
+pub record NodeFound (w : ℕ) (d : List ℕ) (k : ℕ) (r : NodePlace) : Type 0 where
+  pub place : r .place ≡ nodeStart w k d
   pub inside : r .place ≤ length d
-  pub level : (t : Tree) (m : ℕ) (z : Item) → readNodes 20 0 d ≡ good t m → k < length (treeItems t) → r .level ≡ getD (treeItems t) k z .level
+  pub level : (t : Tree) (m : ℕ) (z : Item) → readNodes w 0 d ≡ good t m → k < length (treeItems t) → r .level ≡ getD (treeItems t) k z .level

@@ -1,4 +1,4 @@
-// One node of the tree: its name, its entry count, its number of subtrees and its object name.
+// One node of the tree: its name, its entry count, its number of subtrees and its object name. w is the width of an object name.
 use crate::number::Number;
 use crate::number::read_number;
 use fields::find;
@@ -26,7 +26,7 @@ pub enum Subtrees {
 }
 
 // A node: the place of the NUL after its name, its entry count, 0 where that is invalid, its number of subtrees, the place of its
-// 20-byte object name, which is there where the count is valid, and the place after it all.
+// object name, which is there where the count is valid, and the place after it all.
 pub struct Node {
     pub nul: usize,
     pub valid: bool,
@@ -106,19 +106,19 @@ pub fn read_subtrees(d: &[u8], at: usize) -> Subtrees
 }
 
 // The length of the object name, which is there where the count is valid.
-fn object_length(valid: bool) -> usize
-    ensures { λ r. ⌜ r ≡ cond valid 20 0 ⌝ }
+fn object_length(valid: bool, w: usize) -> usize
+    ensures { λ r. ⌜ r ≡ cond valid w 0 ⌝ }
 {
     if valid {
-        return 20;
+        return w;
     }
     0
 }
 
 // The node at a place.
-pub fn read_node(d: &[u8], at: usize) -> NodeRead
+pub fn read_node(d: &[u8], at: usize, w: usize) -> NodeRead
     requires { ⌜ at ≤ length (now d) ⌝ }
-    ensures { λ r. ⌜ r ≡ nodeAt at (readNode 20 0 (drop at (now (d .entry)))) ⌝ }
+    ensures { λ r. ⌜ r ≡ nodeAt w at (readNode w 0 (drop at (now (d .entry)))) ⌝ }
 {
     let nul = find(d, at, 0);
     if nul == d.len() {
@@ -141,7 +141,7 @@ pub fn read_node(d: &[u8], at: usize) -> NodeRead
     else {
         return NodeRead::Bad;
     };
-    let n = object_length(valid);
+    let n = object_length(valid, w);
     if d.len() - object < n {
         return NodeRead::Bad;
     }

@@ -1,4 +1,4 @@
-// The nodes one after another, as they are in the data.
+// The nodes one after another, as they are in the data. w is the width of an object name.
 use crate::node::NodeRead;
 use crate::node::read_node;
 use fields::find;
@@ -63,8 +63,8 @@ fn climb(remaining: &[u32; 128], depth: usize) -> usize
 
 // Node number k, from 0 on; the end where there are fewer. remaining has the number of siblings that are still to come on each depth down
 // to the next node's.
-pub fn find_node(d: &[u8], k: u32) -> NodePlace
-    ensures { λ r. ⌜ NodeFound (now (d .entry)) k r ⌝ }
+pub fn find_node(d: &[u8], k: u32, w: usize) -> NodePlace
+    ensures { λ r. ⌜ NodeFound w (now (d .entry)) k r ⌝ }
 {
     let mut remaining = [0u32; 128];
     remaining[0] = 1;
@@ -72,7 +72,7 @@ pub fn find_node(d: &[u8], k: u32) -> NodePlace
     let mut place: usize = 0;
     let mut left = k;
     while 0 < left {
-        let read = read_node(d, place);
+        let read = read_node(d, place, w);
         match read {
             NodeRead::Bad => {
                 return NodePlace {
@@ -95,14 +95,14 @@ pub fn find_node(d: &[u8], k: u32) -> NodePlace
 }
 
 // The place after k trees, one after another; the end where one of them has no node. Each node adds its subtrees to those that are still to pass.
-pub fn after_trees(d: &[u8], at: usize, k: u32) -> usize
+pub fn after_trees(d: &[u8], at: usize, k: u32, w: usize) -> usize
     requires { ⌜ (at ≤ length (now d)) × (length (now d) ≤ 16777216) ⌝ }
-    ensures { λ r. ⌜ (r ≡ at + treesLength k (drop at (now (d .entry)))) × (r ≤ length (now (d .entry))) ⌝ }
+    ensures { λ r. ⌜ (r ≡ at + treesLength w k (drop at (now (d .entry)))) × (r ≤ length (now (d .entry))) ⌝ }
 {
     let mut place = at;
     let mut pending = k as u64;
     while 0 < pending {
-        let read = read_node(d, place);
+        let read = read_node(d, place, w);
         match read {
             NodeRead::Bad => {
                 return d.len();
@@ -117,19 +117,19 @@ pub fn after_trees(d: &[u8], at: usize, k: u32) -> usize
 }
 
 // The place after a node and all below it; the end where there is none.
-pub fn after_tree(d: &[u8], at: usize) -> usize
+pub fn after_tree(d: &[u8], at: usize, w: usize) -> usize
     requires { ⌜ (at ≤ length (now d)) × (length (now d) ≤ 16777216) ⌝ }
-    ensures { λ r. ⌜ (r ≡ at + treesLength 1 (drop at (now (d .entry)))) × (r ≤ length (now (d .entry))) ⌝ }
+    ensures { λ r. ⌜ (r ≡ at + treesLength w 1 (drop at (now (d .entry)))) × (r ≤ length (now (d .entry))) ⌝ }
 {
-    after_trees(d, at, 1)
+    after_trees(d, at, 1, w)
 }
 
 // Where the name of the node at a place ends, and the place after the node and all below it; the end where there is none.
-pub fn sibling_at(d: &[u8], at: usize) -> Sibling
+pub fn sibling_at(d: &[u8], at: usize, w: usize) -> Sibling
     requires { ⌜ (at ≤ length (now d)) × (length (now d) ≤ 16777216) ⌝ }
-    ensures { λ r. ⌜ SiblingAt (now (d .entry)) at r ⌝ }
+    ensures { λ r. ⌜ SiblingAt w (now (d .entry)) at r ⌝ }
 {
-    let read = read_node(d, at);
+    let read = read_node(d, at, w);
     match read {
         NodeRead::Bad => Sibling {
             nul: find(d, at, 0),
@@ -137,7 +137,7 @@ pub fn sibling_at(d: &[u8], at: usize) -> Sibling
         },
         NodeRead::Good(node) => Sibling {
             nul: node.nul,
-            next: after_trees(d, node.next, node.subtrees),
+            next: after_trees(d, node.next, node.subtrees, w),
         },
     }
 }

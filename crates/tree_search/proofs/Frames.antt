@@ -1,4 +1,4 @@
--- A table and a row of cursors are known as before where only other cells of the array change.
+-- A table and a row of cursors are known as before where only other cells of the array change. w is the width of an object name.
 use mathlib.Core.Path.{_≡_}
 use mathlib.Core.List.{List}
 use Prim.Native.Nat.{ℕ, _+_, _*_, _≤_, _<_}
@@ -24,7 +24,7 @@ module _ (from slots list : ℕ) (d t t′ : List ℕ)
     number-stays : (i : ℕ) → from ≤ i → i < from + slots → placeAt slots t′ i ≡ placeAt slots t i
     number-stays i a b = cells (slots + i) (omega arith) (omega arith)
 
-    pub table-stays : TableKnown from slots list d t → TableKnown from slots list d t′
+    pub table-stays : {w : ℕ} → TableKnown w from slots list d t → TableKnown w from slots list d t′
     table-stays known = record {
       inside = rw (place, number) λ h.
           let x = known .inside h in
@@ -39,7 +39,7 @@ module _ (row list : ℕ) (d t t′ : List ℕ)
     (place : getD t′ list 0 ≡ getD t list 0)
     (number : getD t′ (list + 1) 0 ≡ getD t (list + 1) 0)
   where
-    pub row-stays : RowKnown row list d t → RowKnown row list d t′
+    pub row-stays : {w : ℕ} → RowKnown w row list d t → RowKnown w row list d t′
     row-stays known = record {
       is = rw (place, number) λ h.
           record {

@@ -1,4 +1,4 @@
--- Laws of a table of siblings: one more is put down, all are.
+-- Laws of a table of siblings: one more is put down, all are. w is the width of an object name.
 use mathlib.Core.Path.{_≡_, refl, sym, ap, subst, _∙_}
 use mathlib.Core.List.{List}
 use mathlib.Core.Bool.{true, false}
@@ -29,9 +29,9 @@ pub record SameKeys (from slots : ℕ) (t u : List ℕ) : Type 0 where
   pub second : getD t 3073 0 ≡ getD u 3073 0
 
 -- a pass over siblings that has come to a place: those before it were put down
-pub record Placing (from slots : ℕ) (d : List ℕ) (f : Forest) (t : List ℕ) (place left : ℕ) : Type 0 where
-  pub last : Last d f place left
-  pub is : PutDown from slots d f t (last .siblings)
+pub record Placing (w : ℕ) (from slots : ℕ) (d : List ℕ) (f : Forest) (t : List ℕ) (place left : ℕ) : Type 0 where
+  pub last : Last w d f place left
+  pub is : PutDown w from slots d f t (last .siblings)
 
 -- ---- a table whose keys are from a slot on
 
@@ -54,16 +54,16 @@ module _ (from slots : ℕ) (many : 512 ≤ slots) where
     same-slot = slot-same from slots t u (same .keys) (keyIn t y) many ∙ ap (slotIn from slots u) same-key
 
     same-has : HasKey from slots t y → HasKey from slots u y
-    same-has w = ap (λ (i : ℕ). getD u i 0) (sym same-slot) ∙ sym (same .keys (slotFor from slots t y) (name-least t y) (name-most t y)) ∙ w ∙ same-key
+    same-has has = ap (λ (i : ℕ). getD u i 0) (sym same-slot) ∙ sym (same .keys (slotFor from slots t y) (name-least t y) (name-most t y)) ∙ has ∙ same-key
 
   -- what was put down is put down in a table with the same keys and numbers
-  pub put-same : (d : List ℕ) (f : Forest) (t u : List ℕ) (rest : Forest) → SameKeys from slots u t
-      → ((i : ℕ) → from ≤ i → i < from + slots → placeAt slots u i ≡ placeAt slots t i) → PutDown from slots d f t rest → PutDown from slots d f u rest
-  put-same d f t u rest keys same h = record {
-    last = λ i a b two. subst (λ (n : ℕ). Last d f (n - 2) 1) (sym (same i a b)) (h .last i a b (subst (λ (n : ℕ). 2 ≤ n) (same i a b) two));
-    none = λ y w z. h .none y (same-has u t keys y w) (number-is y ∙ z);
-    one = λ y w two e.
-        h .one y (same-has u t keys y w) (subst (λ (n : ℕ). 2 ≤ n) (sym (number-is y)) two)
+  pub put-same : {w : ℕ} (d : List ℕ) (f : Forest) (t u : List ℕ) (rest : Forest) → SameKeys from slots u t
+      → ((i : ℕ) → from ≤ i → i < from + slots → placeAt slots u i ≡ placeAt slots t i) → PutDown w from slots d f t rest → PutDown w from slots d f u rest
+  put-same {w} d f t u rest keys same h = record {
+    last = λ i a b two. subst (λ (n : ℕ). Last w d f (n - 2) 1) (sym (same i a b)) (h .last i a b (subst (λ (n : ℕ). 2 ≤ n) (same i a b) two));
+    none = λ y has z. h .none y (same-has u t keys y has) (number-is y ∙ z);
+    one = λ y has two e.
+        h .one y (same-has u t keys y has) (subst (λ (n : ℕ). 2 ≤ n) (sym (number-is y)) two)
         (subst (λ (n : ℕ). eqList y (nameOf (drop (n - 2) d)) ≡ false) (sym (number-is y)) e);
   }
     where
@@ -76,25 +76,25 @@ module _ (from slots : ℕ) (many : 512 ≤ slots) where
     pub clear-inside : (at : ℕ) → Inside from slots d at t
     clear-inside at = record { most = λ i a b. omega (arith, clear i a b); least = λ i a b two. absurd (omega (arith, clear i a b)) }
 
-    clear-put : (f : Forest) → PutDown from slots d f t f
+    clear-put : {w : ℕ} (f : Forest) → PutDown w from slots d f t f
     clear-put f = record {
       last = λ i a b two. absurd (omega (arith, clear i a b));
-      none = λ y w z. refl;
-      one = λ y w two e. absurd (omega (arith, clear (slotFor from slots t y) (name-least t y) (name-most t y)));
+      none = λ y has z. refl;
+      one = λ y has two e. absurd (omega (arith, clear (slotFor from slots t y) (name-least t y) (name-most t y)));
     }
 
-    pub placing-start : (f : Forest) (at k m : ℕ) → distinct f ≡ true → Reads (drop at d) f k m → Placing from slots d f t at k
+    pub placing-start : {w : ℕ} (f : Forest) (at k m : ℕ) → distinct f ≡ true → Reads w (drop at d) f k m → Placing w from slots d f t at k
     placing-start f at k m differ r = record { last = record { siblings = f; taken = m; reads = r; differ = differ; part = λ name x e. e }; is = clear-put f }
 
-  pub placing-end : (d : List ℕ) (f : Forest) (t : List ℕ) (place left : ℕ) → Placing from slots d f t place left → left ≤ 0 → PutDown from slots d f t nil
-  placing-end d f t place left h l = subst (PutDown from slots d f t) (reads-empty _ _ _ _ (h .last .reads) l) (h .is)
+  pub placing-end : {w : ℕ} (d : List ℕ) (f : Forest) (t : List ℕ) (place left : ℕ) → Placing w from slots d f t place left → left ≤ 0 → PutDown w from slots d f t nil
+  placing-end {w} d f t place left h l = subst (PutDown w from slots d f t) (reads-empty _ _ _ _ (h .last .reads) l) (h .is)
 
   -- ---- the table t fits an array
 
   module _ (t : List ℕ) (fits : from + slots + slots ≤ 3072) (long : length t ≡ 3126) where
     -- the sibling at a place is put down
-    module _ (d : List ℕ) (f : Forest) (place left : ℕ) (rest : Last d f place left) (some-left : 0 < left)
-        (next : ℕ) (is : next ≡ place + treesLength 1 (drop place d)) (h : PutDown from slots d f t (rest .siblings)) where
+    module _ {w : ℕ} (d : List ℕ) (f : Forest) (place left : ℕ) (rest : Last w d f place left) (some-left : 0 < left)
+        (next : ℕ) (is : next ≡ place + treesLength w 1 (drop place d)) (h : PutDown w from slots d f t (rest .siblings)) where
       abbrev here : ℕ
       here = slotFor from slots t (nameOf (drop place d))
 
@@ -104,7 +104,7 @@ module _ (from slots : ℕ) (many : 512 ≤ slots) where
       here-least : from ≤ here
       here-least = name-least t (nameOf (drop place d))
 
-      after : Last d f next (left - 1)
+      after : Last w d f next (left - 1)
       after = last-next d f place left rest some-left next is
 
       -- of another name than the sibling's
@@ -112,17 +112,17 @@ module _ (from slots : ℕ) (many : 512 ≤ slots) where
       unfolding after
       pass y e = last-on d f place left rest some-left y e next is
 
-      key-missing : eqb (getD t here 0) (keyIn t (nameOf (drop place d))) ≡ false → PutDown from slots d f t (after .siblings)
+      key-missing : eqb (getD t here 0) (keyIn t (nameOf (drop place d))) ≡ false → PutDown w from slots d f t (after .siblings)
       key-missing not-in = record {
         last = h .last;
-        none = λ y w n. h .none y w n ∙ pass y (other y w);
-        one = λ y w two e. h .one y w two e ∙ pass y (other y w);
+        none = λ y has n. h .none y has n ∙ pass y (other y has);
+        one = λ y has two e. h .one y has two e ∙ pass y (other y has);
       }
         where
           other : (y : List ℕ) → HasKey from slots t y → eqList y (nameOf (drop place d)) ≡ false
-          other y w =
+          other y has =
               by-test (eqList y (nameOf (drop place d)))
-              (λ e. absurd (eqb-false _ _ not-in (subst (λ (x : List ℕ). HasKey from slots t x) (eqList-true y (nameOf (drop place d)) e) w)))
+              (λ e. absurd (eqb-false _ _ not-in (subst (λ (x : List ℕ). HasKey from slots t x) (eqList-true y (nameOf (drop place d)) e) has)))
               (λ e. e)
 
       module _ (v : ℕ) where
@@ -151,53 +151,53 @@ module _ (from slots : ℕ) (many : 512 ≤ slots) where
         slot-is : (y : List ℕ) → slotFor from slots with-it y ≡ slotFor from slots t y
         slot-is y = same-slot with-it t with-keys y
 
-        key-there : (2 ≤ v → Last d f (v - 2) 1) → (v ≡ 0 → ⊥)
+        key-there : (2 ≤ v → Last w d f (v - 2) 1) → (v ≡ 0 → ⊥)
             → ((y : List ℕ) → HasKey from slots t y → slotFor from slots t y ≡ here → 2 ≤ v → eqList y (nameOf (drop (v - 2) d)) ≡ false → child y f ≡ child y (after .siblings))
-            → PutDown from slots d f with-it (after .siblings)
+            → PutDown w from slots d f with-it (after .siblings)
         key-there two not-zero only = record {
           last = λ i a b more.
               by-test (eqb i here)
               (λ e.
               let n : placeAt slots with-it i ≡ v = ap (placeAt slots with-it) (eqb-true i here e) ∙ number-here in
-              subst (λ (x : ℕ). Last d f (x - 2) 1) (sym n) (two (subst (λ (x : ℕ). 2 ≤ x) n more)))
-              (λ e. subst (λ (x : ℕ). Last d f (x - 2) 1) (sym (number-other i e)) (h .last i a b (subst (λ (x : ℕ). 2 ≤ x) (number-other i e) more)));
-          none = λ y w z.
+              subst (λ (x : ℕ). Last w d f (x - 2) 1) (sym n) (two (subst (λ (x : ℕ). 2 ≤ x) n more)))
+              (λ e. subst (λ (x : ℕ). Last w d f (x - 2) 1) (sym (number-other i e)) (h .last i a b (subst (λ (x : ℕ). 2 ≤ x) (number-other i e) more)));
+          none = λ y has z.
               let n : placeAt slots with-it (slotFor from slots t y) ≡ 0 = ap (placeAt slots with-it) (sym (slot-is y)) ∙ z in
               by-test (eqb (slotFor from slots t y) here)
               (λ e. absurd (not-zero (sym number-here ∙ ap (placeAt slots with-it) (sym (eqb-true _ _ e)) ∙ n)))
-              (λ e. h .none y (same-has with-it t with-keys y w) (sym (number-other _ e) ∙ n) ∙ pass y (other-name y e));
-          one = λ y w more e.
+              (λ e. h .none y (same-has with-it t with-keys y has) (sym (number-other _ e) ∙ n) ∙ pass y (other-name y e));
+          one = λ y has more e.
               let s : placeAt slots with-it (slotFor from slots with-it y) ≡ placeAt slots with-it (slotFor from slots t y) = ap (placeAt slots with-it) (slot-is y) in
               by-test (eqb (slotFor from slots t y) here)
               (λ q.
               let n : placeAt slots with-it (slotFor from slots with-it y) ≡ v = s ∙ ap (placeAt slots with-it) (eqb-true _ _ q) ∙ number-here in
-              only y (same-has with-it t with-keys y w) (eqb-true _ _ q) (subst (λ (x : ℕ). 2 ≤ x) n more) (subst (λ (x : ℕ). eqList y (nameOf (drop (x - 2) d)) ≡ false) n e))
+              only y (same-has with-it t with-keys y has) (eqb-true _ _ q) (subst (λ (x : ℕ). 2 ≤ x) n more) (subst (λ (x : ℕ). eqList y (nameOf (drop (x - 2) d)) ≡ false) n e))
               (λ q.
               let n : placeAt slots with-it (slotFor from slots with-it y) ≡ placeAt slots t (slotFor from slots t y) = s ∙ number-other _ q in
-              h .one y (same-has with-it t with-keys y w) (subst (λ (x : ℕ). 2 ≤ x) n more) (subst (λ (x : ℕ). eqList y (nameOf (drop (x - 2) d)) ≡ false) n e)
+              h .one y (same-has with-it t with-keys y has) (subst (λ (x : ℕ). 2 ≤ x) n more) (subst (λ (x : ℕ). eqList y (nameOf (drop (x - 2) d)) ≡ false) n e)
               ∙ pass y (other-name y q));
         }
 
-      put-first : placeAt slots t here ≡ 0 → PutDown from slots d f (set t (slots + here) (place + 2)) (after .siblings)
+      put-first : placeAt slots t here ≡ 0 → PutDown w from slots d f (set t (slots + here) (place + 2)) (after .siblings)
       put-first free =
           let e : place + 2 - 2 ≡ place = omega arith in
           key-there (place + 2)
-          (λ two. subst (λ (x : ℕ). Last d f x 1) (sym e) (last-one d f place left rest some-left))
+          (λ two. subst (λ (x : ℕ). Last w d f x 1) (sym e) (last-one d f place left rest some-left))
           (λ z. omega arith)
-          (λ y w s two q. h .none y w (ap (placeAt slots t) s ∙ free) ∙ pass y (subst (λ (x : ℕ). eqList y (nameOf (drop x d)) ≡ false) e q))
+          (λ y has s two q. h .none y has (ap (placeAt slots t) s ∙ free) ∙ pass y (subst (λ (x : ℕ). eqList y (nameOf (drop x d)) ≡ false) e q))
 
-      put-more : PutDown from slots d f (set t (slots + here) 1) (after .siblings)
-      put-more = key-there 1 (λ two. absurd (omega arith)) (λ z. omega arith) (λ y w s two q. absurd (omega arith))
+      put-more : PutDown w from slots d f (set t (slots + here) 1) (after .siblings)
+      put-more = key-there 1 (λ two. absurd (omega arith)) (λ z. omega arith) (λ y has s two q. absurd (omega arith))
 
-      put-on : PutDown from slots d f (withPlace from slots d place t) (after .siblings)
+      put-on : PutDown w from slots d f (withPlace from slots d place t) (after .siblings)
       unfolding withPlace
       put-on =
           by-test (eqb (getD t here 0) (keyIn t (nameOf (drop place d))))
           (λ q. by-test (eqb (placeAt slots t here) 0) (λ z. rw (q, z) (put-first (eqb-true _ _ z))) (λ z. rw (q, z) put-more))
           (λ q. rw q (key-missing q))
 
-    pub placing-on : (d : List ℕ) (f : Forest) (place left : ℕ) → Placing from slots d f t place left → 0 < left
-        → (next : ℕ) → next ≡ place + treesLength 1 (drop place d) → Placing from slots d f (withPlace from slots d place t) next (left - 1)
+    pub placing-on : {w : ℕ} (d : List ℕ) (f : Forest) (place left : ℕ) → Placing w from slots d f t place left → 0 < left
+        → (next : ℕ) → next ≡ place + treesLength w 1 (drop place d) → Placing w from slots d f (withPlace from slots d place t) next (left - 1)
     placing-on d f place left h l next is = record { last = after d f place left (h .last) l next is (h .is); is = put-on d f place left (h .last) l next is (h .is) }
 
     -- what holds of a number that was set, and of what is put down elsewhere

@@ -1,4 +1,4 @@
--- Laws of the rows of cursors.
+-- Laws of the rows of cursors. w is the width of an object name.
 use mathlib.Core.Path.{_≡_, refl, sym, _∙_}
 use mathlib.Core.List.{List}
 use mathlib.Core.Bool.{true, false, not}
@@ -19,7 +19,7 @@ use Rattle.tree_search.proofs.Frames.{table-stays, row-stays}
 -- ---- a cursor that went on
 
 -- no name was found
-pub moved-past : (d : List ℕ) (at k : ℕ) (name : List ℕ) (place left : ℕ) → Cursor d at k place left → Moved d at k name false place left
+pub moved-past : {w : ℕ} (d : List ℕ) (at k : ℕ) (name : List ℕ) (place left : ℕ) → Cursor w d at k place left → Moved w d at k name false place left
 moved-past d at k name place left cursor = record { cursor = cursor; told = λ e. false-true e }
 
 -- ---- two numbers, one after the other, are set
@@ -42,9 +42,9 @@ module _ (t : List ℕ) (i x y : ℕ) where
 
 -- ---- the array changes in the row of one level and in its list alone
 
-module _ (d t t′ : List ℕ) (level : ℕ) (upper : level < 16) (known : Known d t) (long : length t′ ≡ 3126)
+module _ {w : ℕ} (d t t′ : List ℕ) (level : ℕ) (upper : level < 16) (known : Known w d t) (long : length t′ ≡ 3126)
     (same : (i : ℕ) → (2560 + level * 32 ≤ i → i < 2560 + level * 32 + 32 → ⊥) → (3078 + level * 3 ≤ i → i < 3078 + level * 3 + 3 → ⊥) → getD t′ i 0 ≡ getD t i 0)
-    (own : RowKnown (2560 + level * 32) (3078 + level * 3) d t′)
+    (own : RowKnown w (2560 + level * 32) (3078 + level * 3) d t′)
   where
     before-rows : (i : ℕ) → i < 2560 → getD t′ i 0 ≡ getD t i 0
     before-rows i l = same i (λ a b. omega arith) (λ a b. omega arith)
@@ -52,7 +52,7 @@ module _ (d t t′ : List ℕ) (level : ℕ) (upper : level < 16) (known : Known
     after-rows : (i : ℕ) → 3072 ≤ i → i < 3078 → getD t′ i 0 ≡ getD t i 0
     after-rows i h l = same i (λ a b. omega arith) (λ a b. omega arith)
 
-    row-of-other : (j : ℕ) → j < 16 → (j ≡ level → ⊥) → RowKnown (2560 + j * 32) (3078 + j * 3) d t′
+    row-of-other : (j : ℕ) → j < 16 → (j ≡ level → ⊥) → RowKnown w (2560 + j * 32) (3078 + j * 3) d t′
     row-of-other j l other =
         row-stays (2560 + j * 32) (3078 + j * 3) d t t′
         (λ i a b. same i (λ x y. other (omega arith)) (λ x y. omega arith))
@@ -60,7 +60,7 @@ module _ (d t t′ : List ℕ) (level : ℕ) (upper : level < 16) (known : Known
         (same (3078 + j * 3 + 1) (λ x y. omega arith) (λ x y. other (omega arith)))
         (known .rows j l)
 
-    pub known-row : Known d t′
+    pub known-row : Known w d t′
     known-row = record {
       long = long;
       short-lists = table-stays 0 512 3074 d t t′
@@ -86,25 +86,25 @@ module _ (d t t′ : List ℕ) (level : ℕ) (upper : level < 16) (known : Known
 
 module _ (d : List ℕ) (at k level : ℕ) (t : List ℕ) where
   -- it was of them before
-  pub row-is-of : level < 16 → at ≤ length d → 1 ≤ k → (list : ℕ) → list ≡ 3078 + level * 3 → isOf t list at k ≡ true → Known d t → RowOf d at k level t
+  pub row-is-of : {w : ℕ} → level < 16 → at ≤ length d → 1 ≤ k → (list : ℕ) → list ≡ 3078 + level * 3 → isOf t list at k ≡ true → Known w d t → RowOf w d at k level t
   unfolding isOf
   row-is-of upper inside some list is e known =
       let i = and-inv₃ (not (eqb k 0)) (eqb (getD t list 0) at) (eqb (getD t (list + 1) 0) k) e in
       record { known = known; upper = upper; inside = inside; place = rw (sym is) (eqb-true _ _ (i .1)); number = rw (sym is) (eqb-true _ _ (i .2)); some = some }
 
-  module _ (row : RowOf d at k level t) where
-    pub row-own : RowOf d (getD t (3078 + level * 3) 0) (getD t (3078 + level * 3 + 1) 0) level t
+  module _ {w : ℕ} (row : RowOf w d at k level t) where
+    pub row-own : RowOf w d (getD t (3078 + level * 3) 0) (getD t (3078 + level * 3 + 1) 0) level t
     row-own = record { known = row .known; upper = row .upper; inside = rw (row .place) (row .inside); place = refl; number = refl; some = rw (row .number) (row .some) }
 
-    row-cursors : Cursors (2560 + level * 32) d at k t
+    row-cursors : Cursors w (2560 + level * 32) d at k t
     row-cursors = rw (row .place, row .number) at (row .known .rows level (row .upper) .is (rw (row .number) (row .some)))
 
     -- a cursor of it that is set
-    pub cursor-at : (c : ℕ) → c < 16 → (i : ℕ) → i ≡ 2560 + level * 32 + c * 2 → (getD t (i + 1) 0 ≡ 0 → ⊥) → (from : ℕ) → from ≡ getD t i 0 → Cursor d at k from (getD t (i + 1) 0)
+    pub cursor-at : (c : ℕ) → c < 16 → (i : ℕ) → i ≡ 2560 + level * 32 + c * 2 → (getD t (i + 1) 0 ≡ 0 → ⊥) → (from : ℕ) → from ≡ getD t i 0 → Cursor w d at k from (getD t (i + 1) 0)
     cursor-at c l i is more from e = rw (e, is) (row-cursors .is c l (let m = rw is at more in omega arith))
 
     -- the number after its list is set
-    pub mark-set : (i : ℕ) → i ≡ 3078 + level * 3 + 2 → (x : ℕ) → RowOf d at k level (set t i x)
+    pub mark-set : (i : ℕ) → i ≡ 3078 + level * 3 + 2 → (x : ℕ) → RowOf w d at k level (set t i x)
     mark-set i is x = record {
       known = known-row d t (set t i x) level (row .upper) (row .known) (length-set t i x ∙ row .known .long)
           (λ j a b. stays j (λ e. b (omega arith) (omega arith)))
@@ -124,14 +124,14 @@ module _ (d : List ℕ) (at k level : ℕ) (t : List ℕ) where
         stays j other = getD-set-other t i j x 0 other
 
     -- a cursor of it is set
-    module _ (c : ℕ) (l : c < 16) (i : ℕ) (is : i ≡ 2560 + level * 32 + c * 2) (place left : ℕ) (cursor : Cursor d at k place left) where
+    module _ (c : ℕ) (l : c < 16) (i : ℕ) (is : i ≡ 2560 + level * 32 + c * 2) (place left : ℕ) (cursor : Cursor w d at k place left) where
       abbrev put : List ℕ
       put = two t i place left
 
       put-room : i + 1 < length t
       put-room = omega (arith, row .known .long, row .upper)
 
-      put-cursors : Cursors (2560 + level * 32) d at k put
+      put-cursors : Cursors w (2560 + level * 32) d at k put
       put-cursors = record {
         is = λ b h.
             by-test (eqb b c)
@@ -150,7 +150,7 @@ module _ (d : List ℕ) (at k level : ℕ) (t : List ℕ) where
       put-number : getD put (3078 + level * 3 + 1) 0 ≡ k
       put-number = put-list (3078 + level * 3 + 1) (omega arith) ∙ row .number
 
-      pub cursor-set : RowOf d at k level put
+      pub cursor-set : RowOf w d at k level put
       cursor-set = record {
         known = known-row d t put level (row .upper) (row .known) (two-length t i place left ∙ row .known .long)
             (λ j a b. two-other t i place left j (λ x. a (omega arith) (omega arith)) (λ x. a (omega arith) (omega arith)))
@@ -163,7 +163,7 @@ module _ (d : List ℕ) (at k level : ℕ) (t : List ℕ) where
       }
 
 -- the row of a level was cleared: t′ is the array after that. Its first cursor is at the first of k siblings, and its list is of these
-module _ (d : List ℕ) (at k level : ℕ) (t t′ : List ℕ) (inside : at ≤ length d) (known : Known d t) (upper : level < 16) (some : 1 ≤ k)
+module _ {w : ℕ} (d : List ℕ) (at k level : ℕ) (t t′ : List ℕ) (inside : at ≤ length d) (known : Known w d t) (upper : level < 16) (some : 1 ≤ k)
     (row : ℕ) (is : row ≡ 2560 + level * 32 + 0 * 2) (list : ℕ) (list-is : list ≡ 3078 + level * 3)
     (long : length t′ ≡ length t)
     (clear : (i : ℕ) → i < 32 → getD t′ (row + i) 0 ≡ 0)
@@ -193,13 +193,13 @@ module _ (d : List ℕ) (at k level : ℕ) (t t′ : List ℕ) (inside : at ≤ 
         ∙ two-other t′ row at k (row + i) (λ e. omega arith) (λ e. omega arith)
         ∙ clear i l
 
-    new-cursors : Cursors (2560 + level * 32) d at k new
+    new-cursors : Cursors w (2560 + level * 32) d at k new
     new-cursors = record { is = λ c l. by-test (eqb c 0) (λ e. is-first c (eqb-true c 0 e)) (λ e. is-none c l (eqb-false c 0 e)) }
       where
-        is-first : (c : ℕ) → c ≡ 0 → 1 ≤ getD new (2560 + level * 32 + c * 2 + 1) 0 → Cursor d at k (getD new (2560 + level * 32 + c * 2) 0) (getD new (2560 + level * 32 + c * 2 + 1) 0)
+        is-first : (c : ℕ) → c ≡ 0 → 1 ≤ getD new (2560 + level * 32 + c * 2 + 1) 0 → Cursor w d at k (getD new (2560 + level * 32 + c * 2) 0) (getD new (2560 + level * 32 + c * 2 + 1) 0)
         is-first c e = rw (e, sym is, new-first, new-second) (λ h. cursor-all d at k inside)
 
-        is-none : (c : ℕ) → c < 16 → (c ≡ 0 → ⊥) → 1 ≤ getD new (2560 + level * 32 + c * 2 + 1) 0 → Cursor d at k (getD new (2560 + level * 32 + c * 2) 0) (getD new (2560 + level * 32 + c * 2 + 1) 0)
+        is-none : (c : ℕ) → c < 16 → (c ≡ 0 → ⊥) → 1 ≤ getD new (2560 + level * 32 + c * 2 + 1) 0 → Cursor w d at k (getD new (2560 + level * 32 + c * 2) 0) (getD new (2560 + level * 32 + c * 2 + 1) 0)
         is-none c l other h =
             let e : 2560 + level * 32 + c * 2 + 1 ≡ row + (c * 2 + 1) = omega arith in
             let z : getD new (2560 + level * 32 + c * 2 + 1) 0 ≡ 0 = rw e (new-none (c * 2 + 1) (omega arith) (omega arith)) in
@@ -217,7 +217,7 @@ module _ (d : List ℕ) (at k level : ℕ) (t t′ : List ℕ) (inside : at ≤ 
         ∙ two-other t′ row at k i (λ e. a (omega arith) (omega arith)) (λ e. a (omega arith) (omega arith))
         ∙ same i (λ x y. a (omega arith) (omega arith))
 
-    pub row-new : RowOf d at k level new
+    pub row-new : RowOf w d at k level new
     row-new = record {
       known = known-row d t new level upper known (two-length first list at k ∙ two-length t′ row at k ∙ long ∙ known .long) new-other
           (record { is = rw (new-place, new-number) (λ h. new-cursors) });

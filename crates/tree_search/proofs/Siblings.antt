@@ -1,4 +1,4 @@
--- Laws of siblings in the data: the first of them, and the search for one by its name.
+-- Laws of siblings in the data: the first of them, and the search for one by its name. w is the width of an object name.
 use mathlib.Core.Path.{_≡_, refl, sym, ap, subst, _∙_}
 use mathlib.Core.List.{List, []}
 use mathlib.Core.Bool.{true, false, not}
@@ -56,14 +56,14 @@ unfolding child
 child-none name = refl
 
 module _ (d : List ℕ) (f : Forest) where
-  pub last-all : (at k m : ℕ) → distinct f ≡ true → Reads (drop at d) f k m → Last d f at k
+  pub last-all : {w : ℕ} (at k m : ℕ) → distinct f ≡ true → Reads w (drop at d) f k m → Last w d f at k
   last-all at k m differ r = record { siblings = f; taken = m; reads = r; differ = differ; part = λ name t e. e }
 
-  module _ (place left : ℕ) (l : Last d f place left) (some-left : 0 < left) where
-    first-of : First (drop place d) (l .siblings) left
+  module _ {w : ℕ} (place left : ℕ) (l : Last w d f place left) (some-left : 0 < left) where
+    first-of : First w (drop place d) (l .siblings) left
     first-of = reads-first _ _ _ _ (l .reads) some-left
 
-    next-is : (next : ℕ) → next ≡ place + treesLength 1 (drop place d) → drop (first-of .below) (drop (first-of .own) (drop place d)) ≡ drop next d
+    next-is : (next : ℕ) → next ≡ place + treesLength w 1 (drop place d) → drop (first-of .below) (drop (first-of .own) (drop place d)) ≡ drop next d
     next-is next is =
         let e : place + (first-of .own + first-of .below) ≡ next = omega (arith, first-length _ _ _ first-of) in
         drop-drop (first-of .below) (first-of .own) (drop place d)
@@ -73,17 +73,17 @@ module _ (d : List ℕ) (f : Forest) where
     differs : distinct (tree (first-of .head .node) (first-of .kids) (first-of .after)) ≡ true
     differs = ap distinct (sym (first-of .is)) ∙ l .differ
 
-    pub last-next : (next : ℕ) → next ≡ place + treesLength 1 (drop place d) → Last d f next (left - 1)
+    pub last-next : (next : ℕ) → next ≡ place + treesLength w 1 (drop place d) → Last w d f next (left - 1)
     last-next next is = record {
       siblings = first-of .after;
       taken = first-of .rest;
-      reads = subst (λ (s : List ℕ). Reads s (first-of .after) (left - 1) (first-of .rest)) (next-is next is) (first-of .reads-after);
+      reads = subst (λ (s : List ℕ). Reads w s (first-of .after) (left - 1) (first-of .rest)) (next-is next is) (first-of .reads-after);
       differ = distinct-parts [] (first-of .head .node) (first-of .kids) (first-of .after) differs .1;
       part = λ name t e. l .part name t (ap (child name) (first-of .is) ∙ child-after name (first-of .head .node) (first-of .kids) (first-of .after) t differs e);
     }
 
     -- the first alone
-    pub last-one : Last d f place 1
+    pub last-one : Last w d f place 1
     unfolding child distinct has
     last-one = record {
       siblings = tree (first-of .head .node) (first-of .kids) nil;
@@ -100,29 +100,29 @@ module _ (d : List ℕ) (f : Forest) where
       same-name : eqList name (nameOf (drop place d)) ≡ eqList name (first-of .head .node .name)
       same-name = ap (eqList name) (first-named _ _ _ first-of)
 
-      pub last-here : eqList name (nameOf (drop place d)) ≡ true → FoundAt d f name place
+      pub last-here : eqList name (nameOf (drop place d)) ≡ true → FoundAt w d f name place
       last-here e = record {
         found = record { root = first-of .head .node; subtrees = first-of .kids };
         is = l .part name _ (ap (child name) (first-of .is) ∙ child-here name (first-of .head .node) (first-of .kids) (first-of .after) (sym same-name ∙ e));
         tree = record { subtrees = first-of .head .subtrees; own = first-of .own; below = first-of .below; node = first-of .node; kids = first-of .reads-kids };
       }
 
-      pub last-on : eqList name (nameOf (drop place d)) ≡ false → (next : ℕ) (is : next ≡ place + treesLength 1 (drop place d)) → child name (l .siblings) ≡ child name (last-next next is .siblings)
+      pub last-on : eqList name (nameOf (drop place d)) ≡ false → (next : ℕ) (is : next ≡ place + treesLength w 1 (drop place d)) → child name (l .siblings) ≡ child name (last-next next is .siblings)
       unfolding last-next first-of
       last-on e next is = ap (child name) (first-of .is) ∙ child-on name (first-of .head .node) (first-of .kids) (first-of .after) (sym same-name ∙ e)
 
 -- a search that has come to a place: the name is not before it
-pub record Searching (d : List ℕ) (f : Forest) (name : List ℕ) (place left : ℕ) : Type 0 where
-  pub last : Last d f place left
+pub record Searching (w : ℕ) (d : List ℕ) (f : Forest) (name : List ℕ) (place left : ℕ) : Type 0 where
+  pub last : Last w d f place left
   pub same : child name f ≡ child name (last .siblings)
 
 module _ (d : List ℕ) (f : Forest) (name : List ℕ) where
-  pub search-start : (at k m : ℕ) → distinct f ≡ true → Reads (drop at d) f k m → Searching d f name at k
+  pub search-start : {w : ℕ} (at k m : ℕ) → distinct f ≡ true → Reads w (drop at d) f k m → Searching w d f name at k
   unfolding last-all
   search-start at k m differ r = record { last = last-all d f at k m differ r; same = refl }
 
-  module _ (place left : ℕ) (x : Searching d f name place left) where
-    pub search-on : 0 < left → eqList name (nameOf (drop place d)) ≡ false → (next : ℕ) → next ≡ place + treesLength 1 (drop place d) → Searching d f name next (left - 1)
+  module _ {w : ℕ} (place left : ℕ) (x : Searching w d f name place left) where
+    pub search-on : 0 < left → eqList name (nameOf (drop place d)) ≡ false → (next : ℕ) → next ≡ place + treesLength w 1 (drop place d) → Searching w d f name next (left - 1)
     search-on l e next is = record { last = last-next d f place left (x .last) l next is; same = x .same ∙ last-on d f place left (x .last) l name e next is }
 
     pub search-end : left ≤ 0 → child name f ≡ none

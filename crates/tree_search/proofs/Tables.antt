@@ -1,4 +1,4 @@
--- Laws of the array: what is known of it as it changes.
+-- Laws of the array: what is known of it as it changes. w is the width of an object name.
 use mathlib.Core.Path.{_≡_, refl, ap, _∙_}
 use mathlib.Core.List.{List}
 use mathlib.Core.Bool.{true}
@@ -38,11 +38,11 @@ list-most R.Short = omega arith
 list-most R.Long = omega arith
 
 -- a table that is of no list
-pub no-list : (from slots list : ℕ) (d t : List ℕ) → getD t (list + 1) 0 ≡ 0 → TableKnown from slots list d t
+pub no-list : {w : ℕ} (from slots list : ℕ) (d t : List ℕ) → getD t (list + 1) 0 ≡ 0 → TableKnown w from slots list d t
 no-list from slots list d t none = record { inside = λ some. absurd (omega arith); is = λ some. absurd (omega arith) }
 
 -- what is known of one of the tables
-pub known-table : (region : Region) (d t : List ℕ) → Known d t → TableKnown (firstSlot region) (slotsOf region) (listOf region) d t
+pub known-table : {w : ℕ} (region : Region) (d t : List ℕ) → Known w d t → TableKnown w (firstSlot region) (slotsOf region) (listOf region) d t
 known-table R.Short d t known = known .short-lists
 known-table R.Long d t known = known .long-lists
 
@@ -53,7 +53,7 @@ module _ (t : List ℕ) (clear : (i : ℕ) → i < 52 → getD t (3074 + i) 0 �
   list-none : (list : ℕ) → 3074 ≤ list → list < 3126 → getD t list 0 ≡ 0
   list-none list a b = let e : 3074 + (list - 3074) ≡ list = omega arith in ap (λ (i : ℕ). getD t i 0) (omega (arith, e)) ∙ clear (list - 3074) (omega arith)
 
-  pub reset-known : length t ≡ 3126 → (d : List ℕ) → Known d t
+  pub reset-known : {w : ℕ} → length t ≡ 3126 → (d : List ℕ) → Known w d t
   reset-known long d = record {
     long = long;
     short-lists = no-list 0 512 3074 d t (list-none 3075 (omega arith) (omega arith));
@@ -72,37 +72,37 @@ pub record Within (region : Region) (t t′ : List ℕ) : Type 0 where
   pub same : (i : ℕ) → (firstSlot region ≤ i → i < firstSlot region + slotsOf region + slotsOf region → ⊥) → (i ≡ listOf region → ⊥) → (i ≡ listOf region + 1 → ⊥) → getD t′ i 0 ≡ getD t i 0
 
 -- all else is known as before
-pub known-within : (region : Region) (d t t′ : List ℕ) → Within region t t′ → TableKnown (firstSlot region) (slotsOf region) (listOf region) d t′ → Known d t → Known d t′
-known-within R.Short d t t′ w table known = record {
-  long = w .long ∙ known .long;
+pub known-within : {w : ℕ} (region : Region) (d t t′ : List ℕ) → Within region t t′ → TableKnown w (firstSlot region) (slotsOf region) (listOf region) d t′ → Known w d t → Known w d t′
+known-within R.Short d t t′ kept table known = record {
+  long = kept .long ∙ known .long;
   short-lists = table;
   long-lists =
-      table-stays 1024 768 3076 d t t′ (λ i a b. w .same i (λ x y. omega arith) (λ e. omega arith) (λ e. omega arith))
-      (w .same 3072 (λ x y. omega arith) (λ e. omega arith) (λ e. omega arith))
-      (w .same 3073 (λ x y. omega arith) (λ e. omega arith) (λ e. omega arith))
-      (w .same 3076 (λ x y. omega arith) (λ e. omega arith) (λ e. omega arith))
-      (w .same 3077 (λ x y. omega arith) (λ e. omega arith) (λ e. omega arith))
+      table-stays 1024 768 3076 d t t′ (λ i a b. kept .same i (λ x y. omega arith) (λ e. omega arith) (λ e. omega arith))
+      (kept .same 3072 (λ x y. omega arith) (λ e. omega arith) (λ e. omega arith))
+      (kept .same 3073 (λ x y. omega arith) (λ e. omega arith) (λ e. omega arith))
+      (kept .same 3076 (λ x y. omega arith) (λ e. omega arith) (λ e. omega arith))
+      (kept .same 3077 (λ x y. omega arith) (λ e. omega arith) (λ e. omega arith))
       (omega arith) (known .long-lists);
   rows = λ j l.
-      row-stays (2560 + j * 32) (3078 + j * 3) d t t′ (λ i a b. w .same i (λ x y. omega arith) (λ e. omega arith) (λ e. omega arith))
-      (w .same (3078 + j * 3) (λ x y. omega arith) (λ e. omega arith) (λ e. omega arith))
-      (w .same (3078 + j * 3 + 1) (λ x y. omega arith) (λ e. omega arith) (λ e. omega arith))
+      row-stays (2560 + j * 32) (3078 + j * 3) d t t′ (λ i a b. kept .same i (λ x y. omega arith) (λ e. omega arith) (λ e. omega arith))
+      (kept .same (3078 + j * 3) (λ x y. omega arith) (λ e. omega arith) (λ e. omega arith))
+      (kept .same (3078 + j * 3 + 1) (λ x y. omega arith) (λ e. omega arith) (λ e. omega arith))
       (known .rows j l);
 }
-known-within R.Long d t t′ w table known = record {
-  long = w .long ∙ known .long;
+known-within R.Long d t t′ kept table known = record {
+  long = kept .long ∙ known .long;
   short-lists =
-      table-stays 0 512 3074 d t t′ (λ i a b. w .same i (λ x y. omega arith) (λ e. omega arith) (λ e. omega arith))
-      (w .same 3072 (λ x y. omega arith) (λ e. omega arith) (λ e. omega arith))
-      (w .same 3073 (λ x y. omega arith) (λ e. omega arith) (λ e. omega arith))
-      (w .same 3074 (λ x y. omega arith) (λ e. omega arith) (λ e. omega arith))
-      (w .same 3075 (λ x y. omega arith) (λ e. omega arith) (λ e. omega arith))
+      table-stays 0 512 3074 d t t′ (λ i a b. kept .same i (λ x y. omega arith) (λ e. omega arith) (λ e. omega arith))
+      (kept .same 3072 (λ x y. omega arith) (λ e. omega arith) (λ e. omega arith))
+      (kept .same 3073 (λ x y. omega arith) (λ e. omega arith) (λ e. omega arith))
+      (kept .same 3074 (λ x y. omega arith) (λ e. omega arith) (λ e. omega arith))
+      (kept .same 3075 (λ x y. omega arith) (λ e. omega arith) (λ e. omega arith))
       (omega arith) (known .short-lists);
   long-lists = table;
   rows = λ j l.
-      row-stays (2560 + j * 32) (3078 + j * 3) d t t′ (λ i a b. w .same i (λ x y. omega arith) (λ e. omega arith) (λ e. omega arith))
-      (w .same (3078 + j * 3) (λ x y. omega arith) (λ e. omega arith) (λ e. omega arith))
-      (w .same (3078 + j * 3 + 1) (λ x y. omega arith) (λ e. omega arith) (λ e. omega arith))
+      row-stays (2560 + j * 32) (3078 + j * 3) d t t′ (λ i a b. kept .same i (λ x y. omega arith) (λ e. omega arith) (λ e. omega arith))
+      (kept .same (3078 + j * 3) (λ x y. omega arith) (λ e. omega arith) (λ e. omega arith))
+      (kept .same (3078 + j * 3 + 1) (λ x y. omega arith) (λ e. omega arith) (λ e. omega arith))
       (known .rows j l);
 }
 
@@ -119,7 +119,7 @@ module _ (region : Region) (t t′ : List ℕ) (cells : CellsOnly region t t′)
     none = cells .same (listOf region + 1) (λ x y. omega (arith, region-fits region, list-least region)) ∙ vacant .none;
   }
 
-  pub known-stays : (d : List ℕ) → Known d t → Known d t′
+  pub known-stays : {w : ℕ} (d : List ℕ) → Known w d t → Known w d t′
   known-stays d = known-within region d t t′ (record { long = cells .long; same = λ i a b c. cells .same i a }) (no-list _ _ _ d t′ (vacant-stays .none))
 
 -- one of them is set
@@ -168,9 +168,9 @@ module _ (region : Region) (t : List ℕ) (at k : ℕ) (long : length t ≡ 3126
       ∙ getD-set-other t (listOf region) i at 0 (λ e. omega (arith, list-least region))
 
   -- all of its siblings were put down
-  list-known : (d : List ℕ) → Known d t → Inside (firstSlot region) (slotsOf region) d at t
-      → ((f : Forest) (m : ℕ) → distinct f ≡ true → Reads (drop at d) f k m → PutDown (firstSlot region) (slotsOf region) d f t nil) → Known d listed
-  list-known d known inside is = known-within region d t listed list-within table known
+  list-known : {w : ℕ} (d : List ℕ) → Known w d t → Inside (firstSlot region) (slotsOf region) d at t
+      → ((f : Forest) (m : ℕ) → distinct f ≡ true → Reads w (drop at d) f k m → PutDown w (firstSlot region) (slotsOf region) d f t nil) → Known w d listed
+  list-known {w} d known inside is = known-within region d t listed list-within table known
     where
       number-is : (i : ℕ) → firstSlot region ≤ i → i < firstSlot region + slotsOf region → placeAt (slotsOf region) listed i ≡ placeAt (slotsOf region) t i
       number-is i a b = cell-same (slotsOf region + i) (omega (arith, region-fits region))
@@ -178,7 +178,7 @@ module _ (region : Region) (t : List ℕ) (at k : ℕ) (long : length t ≡ 3126
       keys-same : SameKeys (firstSlot region) (slotsOf region) listed t
       keys-same = record { keys = λ j a b. cell-same j (omega (arith, region-fits region)); first = cell-same 3072 (omega arith); second = cell-same 3073 (omega arith) }
 
-      table : TableKnown (firstSlot region) (slotsOf region) (listOf region) d listed
+      table : TableKnown w (firstSlot region) (slotsOf region) (listOf region) d listed
       table = record {
         inside = λ some. record {
           most = λ i a b. rw (number-is i a b) (inside .most i a b);
@@ -189,19 +189,19 @@ module _ (region : Region) (t : List ℕ) (at k : ℕ) (long : length t ≡ 3126
 
 -- ---- a pass that puts down the k siblings at a place has come to another place
 
-pub record Filling (region : Region) (d : List ℕ) (at k : ℕ) (t : List ℕ) (place left : ℕ) : Type 0 where
+pub record Filling (w : ℕ) (region : Region) (d : List ℕ) (at k : ℕ) (t : List ℕ) (place left : ℕ) : Type 0 where
   pub least : at ≤ place
   pub most : place ≤ length d
   pub vacant : Vacant region t
-  pub known : Known d t
+  pub known : Known w d t
   pub inside : Inside (firstSlot region) (slotsOf region) d at t
-  pub is : (f : Forest) (m : ℕ) → distinct f ≡ true → Reads (drop at d) f k m → Placing (firstSlot region) (slotsOf region) d f t place left
+  pub is : (f : Forest) (m : ℕ) → distinct f ≡ true → Reads w (drop at d) f k m → Placing w (firstSlot region) (slotsOf region) d f t place left
 
 module _ (region : Region) (d : List ℕ) (at k : ℕ) where
   -- the numbers are cleared
-  pub filling-start : (t t′ : List ℕ) (from slots : ℕ) → at ≤ length d → Vacant region t → Known d t → from ≡ firstSlot region → slots ≡ slotsOf region
+  pub filling-start : {w : ℕ} (t t′ : List ℕ) (from slots : ℕ) → at ≤ length d → Vacant region t → Known w d t → from ≡ firstSlot region → slots ≡ slotsOf region
       → length t′ ≡ length t → ((i : ℕ) → i < slots → getD t′ (from + slots + i) 0 ≡ 0) → ((i : ℕ) → (from + slots ≤ i → i < from + slots + slots → ⊥) → getD t′ i 0 ≡ getD t i 0)
-      → Filling region d at k t′ at k
+      → Filling w region d at k t′ at k
   filling-start t t′ from slots l vacant known is-from is-slots long clear same = record {
     least = omega arith;
     most = l;
@@ -217,8 +217,8 @@ module _ (region : Region) (d : List ℕ) (at k : ℕ) where
       empty : (i : ℕ) → firstSlot region ≤ i → i < firstSlot region + slotsOf region → placeAt (slotsOf region) t′ i ≡ 0
       empty i a b = let e : slotsOf region + i ≡ from + slots + (i - from) = omega arith in ap (λ (j : ℕ). getD t′ j 0) e ∙ clear (i - from) (omega arith)
 
-  module _ (t : List ℕ) (place left : ℕ) (x : Filling region d at k t place left) where
-    pub filling-on : 0 < left → (next : ℕ) → next ≡ place + treesLength 1 (drop place d) → next ≤ length d → Filling region d at k (withPlace (firstSlot region) (slotsOf region) d place t) next (left - 1)
+  module _ {w : ℕ} (t : List ℕ) (place left : ℕ) (x : Filling w region d at k t place left) where
+    pub filling-on : 0 < left → (next : ℕ) → next ≡ place + treesLength w 1 (drop place d) → next ≤ length d → Filling w region d at k (withPlace (firstSlot region) (slotsOf region) d place t) next (left - 1)
     filling-on some-left next is l = record {
       least = omega (arith, x .least);
       most = l;
@@ -228,7 +228,7 @@ module _ (region : Region) (d : List ℕ) (at k : ℕ) where
       is = λ f m differ r. placing-on (firstSlot region) (slotsOf region) (region-many region) t (omega (arith, region-fits region)) (x .vacant .long) d f place left (x .is f m differ r) some-left next is;
     }
 
-    pub filling-end : left ≤ 0 → Known d (set (set t (listOf region) at) (listOf region + 1) k)
+    pub filling-end : left ≤ 0 → Known w d (set (set t (listOf region) at) (listOf region + 1) k)
     filling-end l =
         list-known region t at k (x .vacant .long) d (x .known) (x .inside)
         (λ f m differ r. placing-end (firstSlot region) (slotsOf region) (region-many region) d f t place left (x .is f m differ r) l)
@@ -239,12 +239,12 @@ module _ (region : Region) (t : List ℕ) (long : length t ≡ 3126) where
   pub unlist-vacant : Vacant region (set (set t (listOf region) 0) (listOf region + 1) 0)
   unlist-vacant = record { long = list-within region t 0 0 long .long ∙ long; none = list-number region t 0 0 long }
 
-  pub unlist-known : (d : List ℕ) → Known d t → Known d (set (set t (listOf region) 0) (listOf region + 1) 0)
+  pub unlist-known : {w : ℕ} (d : List ℕ) → Known w d t → Known w d (set (set t (listOf region) 0) (listOf region + 1) 0)
   unlist-known d = known-within region d t _ (list-within region t 0 0 long) (no-list _ _ _ d _ (list-number region t 0 0 long))
 
 -- of no list and without keys: u is the array before these are cleared
-pub begun : (region : Region) (d t u t′ : List ℕ) (list from n : ℕ) → list ≡ listOf region → from ≡ firstSlot region → n ≡ slotsOf region → Known d t → u ≡ set (set t list 0) (list + 1) 0
-    → length t′ ≡ length u → ((i : ℕ) → (from ≤ i → i < from + n → ⊥) → getD t′ i 0 ≡ getD u i 0) → Known d t′ × Vacant region t′
+pub begun : {w : ℕ} (region : Region) (d t u t′ : List ℕ) (list from n : ℕ) → list ≡ listOf region → from ≡ firstSlot region → n ≡ slotsOf region → Known w d t → u ≡ set (set t list 0) (list + 1) 0
+    → length t′ ≡ length u → ((i : ℕ) → (from ≤ i → i < from + n → ⊥) → getD t′ i 0 ≡ getD u i 0) → Known w d t′ × Vacant region t′
 begun region d t u t′ list from n is-list is-from is-n known is long same = (known-stays region u t′ cells vacant d (rw (is, is-list) (unlist-known region t (known .long) d known)), vacant-stays region u t′ cells vacant)
   where
     cells : CellsOnly region u t′
@@ -273,7 +273,7 @@ module _ (d t u : List ℕ) (seed : SeedOnly t u) where
       ∙ getD-set-other (set (set u 3074 0) 3075 0) 3076 3075 0 0 (λ e. omega arith)
       ∙ set-zero (set u 3074 0) 3075
 
-  pub seed-known : Known d t → Known d seeded
+  pub seed-known : {w : ℕ} → Known w d t → Known w d seeded
   seed-known known = record {
     long = simp length-set (seed .long ∙ known .long);
     short-lists = no-list 0 512 3074 d seeded short-none;

@@ -1,4 +1,4 @@
-// The sibling of a name, found without a table.
+// The sibling of a name, found without a table. w is the width of an object name.
 use fields::find;
 use fields::same;
 use tree_nodes::node::NodeRead;
@@ -33,9 +33,9 @@ pub fn is_named(d: &[u8], at: usize, name: &[u8]) -> bool
 }
 
 // The first of k siblings at a place that has this name.
-pub fn scan(d: &[u8], at: usize, k: u32, name: &[u8]) -> Child
+pub fn scan(d: &[u8], at: usize, k: u32, name: &[u8], w: usize) -> Child
     requires { ⌜ (at ≤ length (now d)) × (length (now d) ≤ 16777216) ⌝ }
-    ensures { λ r. ⌜ Finds (now (d .entry)) at k (now (name .entry)) r ⌝ }
+    ensures { λ r. ⌜ Finds w (now (d .entry)) at k (now (name .entry)) r ⌝ }
 {
     let mut place = at;
     let mut left = k;
@@ -43,14 +43,14 @@ pub fn scan(d: &[u8], at: usize, k: u32, name: &[u8]) -> Child
         if is_named(d, place, name) {
             return Child::Found(place);
         }
-        place = after_tree(d, place);
+        place = after_tree(d, place, w);
         left -= 1;
     }
     Child::Missing
 }
 
 // Whether k trees at a place take more than limit bytes. The look at them ends there. It only chooses how to search: nothing rests on the answer.
-pub fn is_longer(d: &[u8], at: usize, k: u32, limit: usize) -> bool
+pub fn is_longer(d: &[u8], at: usize, k: u32, limit: usize, w: usize) -> bool
     requires { ⌜ (at ≤ length (now d)) × (length (now d) ≤ 16777216) ⌝ }
 {
     let mut place = at;
@@ -59,7 +59,7 @@ pub fn is_longer(d: &[u8], at: usize, k: u32, limit: usize) -> bool
         if limit < place - at {
             return true;
         }
-        let read = read_node(d, place);
+        let read = read_node(d, place, w);
         let NodeRead::Good(node) = read else {
             return true;
         };

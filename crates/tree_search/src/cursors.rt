@@ -1,6 +1,7 @@
 // Cursors over lists of siblings. Names of entries rise in the index's order, so siblings in that order are asked for one after another; in Git's order
 // those of one length are. A cursor is a place in a list and the number of siblings from it on; it passes no sibling twice. Each of the upper levels has
 // a row of cursors for the list that is walked there: one for the index's order, and one for each length of a name.
+// w is the width of an object name.
 use crate::child::Answer;
 use crate::child::Child;
 use cache_tree::orders::slash_below;
@@ -73,9 +74,9 @@ struct Ahead {
 }
 
 // From a cursor on, past the siblings that are below a name, to the first one that is not.
-fn find_ahead(d: &[u8], name: &[u8], from: usize, count: u32, by_length: bool) -> Ahead
+fn find_ahead(d: &[u8], name: &[u8], from: usize, count: u32, by_length: bool, w: usize) -> Ahead
     requires { ⌜ (from ≤ length (now d)) × (length (now d) ≤ 16777216) ⌝ }
-    ensures { λ r. ⌜ (r .place ≤ length (now (d .entry))) × ((at k : ℕ) → Cursor (now (d .entry)) at k from count → Moved (now (d .entry)) at k (now (name .entry)) (r .found) (r .place) (r .left)) ⌝ }
+    ensures { λ r. ⌜ (r .place ≤ length (now (d .entry))) × ((at k : ℕ) → Cursor w (now (d .entry)) at k from count → Moved w (now (d .entry)) at k (now (name .entry)) (r .found) (r .place) (r .left)) ⌝ }
 {
     let mut place = from;
     let mut left = count;
@@ -83,7 +84,7 @@ fn find_ahead(d: &[u8], name: &[u8], from: usize, count: u32, by_length: bool) -
         let order = order_at(d, place, name, by_length);
         match order {
             Order::Below => {
-                place = after_tree(d, place);
+                place = after_tree(d, place, w);
                 left -= 1;
             }
             Order::Same => {
@@ -140,9 +141,10 @@ fn find_by_cursor(
     c: usize,
     by_length: bool,
     t: &mut Table,
+    w: usize,
 ) -> Answer
-    requires { ⌜ (c < 16) × (length (now d) ≤ 16777216) × RowOf (now d) (getD (now t) (3078 + level * 3) 0) (getD (now t) (3078 + level * 3 + 1) 0) level (now t) ⌝ }
-    ensures { λ r. ⌜ ((at k : ℕ) → RowOf (now (d .entry)) at k level (now (t .entry)) → AnswerHolds (now (d .entry)) at k (now (name .entry)) r × RowOf (now (d .entry)) at k level (now (t .exit))) ⌝ }
+    requires { ⌜ (c < 16) × (length (now d) ≤ 16777216) × RowOf w (now d) (getD (now t) (3078 + level * 3) 0) (getD (now t) (3078 + level * 3 + 1) 0) level (now t) ⌝ }
+    ensures { λ r. ⌜ ((at k : ℕ) → RowOf w (now (d .entry)) at k level (now (t .entry)) → AnswerHolds w (now (d .entry)) at k (now (name .entry)) r × RowOf w (now (d .entry)) at k level (now (t .exit))) ⌝ }
 {
     let i = cell_of(level, c);
     let count = t[i + 1];
@@ -150,7 +152,7 @@ fn find_by_cursor(
         return Answer::Unknown;
     }
     let from = place_of(t[i]);
-    let ahead = find_ahead(d, name, from, count, by_length);
+    let ahead = find_ahead(d, name, from, count, by_length, w);
     set_list(t, i, ahead.place, ahead.left);
     if ahead.found {
         return Answer::Known(Child::Found(ahead.place));
@@ -161,7 +163,7 @@ fn find_by_cursor(
 // The row of a level is of the k siblings at a place. If it was not, its first cursor is at the first of them, and the others are not set.
 fn open_row(at: usize, k: u32, level: usize, t: &mut Table)
     requires { ⌜ (level < 16) × (1 ≤ k) × (at ≤ 16777216) ⌝ }
-    ensures { λ _. ⌜ ((d : List ℕ) → at ≤ length d → Known d (now (t .entry)) → RowOf d at k level (now (t .exit))) ⌝ }
+    ensures { λ _. ⌜ ((w : ℕ) (d : List ℕ) → at ≤ length d → Known w d (now (t .entry)) → RowOf w d at k level (now (t .exit))) ⌝ }
 {
     let list = list_of(level);
     if is_of(t, list, at, k) {
@@ -177,7 +179,7 @@ fn open_row(at: usize, k: u32, level: usize, t: &mut Table)
 // The cursor for the length of the sibling at a place is at that sibling, if it was not set yet.
 fn set_cursor(d: &[u8], place: usize, left: u32, level: usize, t: &mut Table)
     requires { ⌜ (place ≤ length (now d)) × (length (now d) ≤ 16777216) × (level < 16) ⌝ }
-    ensures { λ _. ⌜ ((at k : ℕ) → Cursor (now (d .entry)) at k place left → RowOf (now (d .entry)) at k level (now (t .entry)) → RowOf (now (d .entry)) at k level (now (t .exit))) ⌝ }
+    ensures { λ _. ⌜ ((w at k : ℕ) → Cursor w (now (d .entry)) at k place left → RowOf w (now (d .entry)) at k level (now (t .entry)) → RowOf w (now (d .entry)) at k level (now (t .exit))) ⌝ }
 {
     let nul = find(d, place, 0);
     let i = cell_of(level, cursor_for(nul - place));
@@ -187,15 +189,15 @@ fn set_cursor(d: &[u8], place: usize, left: u32, level: usize, t: &mut Table)
 }
 
 // Each cursor for lengths is at the first of the k siblings at a place that has such a length.
-fn set_cursors(d: &[u8], at: usize, k: u32, level: usize, t: &mut Table)
-    requires { ⌜ (length (now d) ≤ 16777216) × RowOf (now d) at k level (now t) ⌝ }
-    ensures { λ _. ⌜ RowOf (now (d .entry)) at k level (now (t .exit)) ⌝ }
+fn set_cursors(d: &[u8], at: usize, k: u32, level: usize, t: &mut Table, w: usize)
+    requires { ⌜ (length (now d) ≤ 16777216) × RowOf w (now d) at k level (now t) ⌝ }
+    ensures { λ _. ⌜ RowOf w (now (d .entry)) at k level (now (t .exit)) ⌝ }
 {
     let mut place = at;
     let mut left = k;
     while 0 < left {
         set_cursor(d, place, left, level, t);
-        place = after_tree(d, place);
+        place = after_tree(d, place, w);
         left -= 1;
     }
     t[list_of(level) + 2] = 1;
@@ -203,30 +205,46 @@ fn set_cursors(d: &[u8], at: usize, k: u32, level: usize, t: &mut Table)
 
 // The one of k siblings at a place that has this name, by the row of a level, which is of them: where the cursors for lengths are set by these, else by the
 // one for the index's order, and where that does not tell, those for lengths are set.
-fn find_in_row(d: &[u8], at: usize, k: u32, name: &[u8], level: usize, t: &mut Table) -> Answer
-    requires { ⌜ (length (now d) ≤ 16777216) × RowOf (now d) at k level (now t) ⌝ }
-    ensures { λ r. ⌜ AnswerHolds (now (d .entry)) at k (now (name .entry)) r × Known (now (d .entry)) (now (t .exit)) ⌝ }
+fn find_in_row(
+    d: &[u8],
+    at: usize,
+    k: u32,
+    name: &[u8],
+    level: usize,
+    t: &mut Table,
+    w: usize,
+) -> Answer
+    requires { ⌜ (length (now d) ≤ 16777216) × RowOf w (now d) at k level (now t) ⌝ }
+    ensures { λ r. ⌜ AnswerHolds w (now (d .entry)) at k (now (name .entry)) r × Known w (now (d .entry)) (now (t .exit)) ⌝ }
 {
     let c = cursor_for(name.len());
     if t[list_of(level) + 2] == 1 {
-        let told = find_by_cursor(d, name, level, c, true, t);
+        let told = find_by_cursor(d, name, level, c, true, t, w);
         if let Answer::Known(_) = told {
             return told;
         }
-        return find_by_cursor(d, name, level, 0, false, t);
+        return find_by_cursor(d, name, level, 0, false, t, w);
     }
-    let next = find_by_cursor(d, name, level, 0, false, t);
+    let next = find_by_cursor(d, name, level, 0, false, t, w);
     if let Answer::Known(_) = next {
         return next;
     }
-    set_cursors(d, at, k, level, t);
-    find_by_cursor(d, name, level, c, true, t)
+    set_cursors(d, at, k, level, t, w);
+    find_by_cursor(d, name, level, c, true, t, w)
 }
 
 // The one of k siblings at a place that has this name, by the cursors of their level, if that has a row and its cursors tell.
-pub fn find_in_order(d: &[u8], at: usize, k: u32, name: &[u8], level: u32, t: &mut Table) -> Answer
-    requires { ⌜ (at ≤ length (now d)) × (length (now d) ≤ 16777216) × Known (now d) (now t) ⌝ }
-    ensures { λ r. ⌜ AnswerHolds (now (d .entry)) at k (now (name .entry)) r × Known (now (d .entry)) (now (t .exit)) ⌝ }
+pub fn find_in_order(
+    d: &[u8],
+    at: usize,
+    k: u32,
+    name: &[u8],
+    level: u32,
+    t: &mut Table,
+    w: usize,
+) -> Answer
+    requires { ⌜ (at ≤ length (now d)) × (length (now d) ≤ 16777216) × Known w (now d) (now t) ⌝ }
+    ensures { λ r. ⌜ AnswerHolds w (now (d .entry)) at k (now (name .entry)) r × Known w (now (d .entry)) (now (t .exit)) ⌝ }
 {
     if k == 0 {
         return Answer::Known(Child::Missing);
@@ -236,5 +254,5 @@ pub fn find_in_order(d: &[u8], at: usize, k: u32, name: &[u8], level: u32, t: &m
     }
     let upper = level as usize;
     open_row(at, k, upper, t);
-    find_in_row(d, at, k, name, upper, t)
+    find_in_row(d, at, k, name, upper, t, w)
 }

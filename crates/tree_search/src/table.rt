@@ -1,4 +1,5 @@
-// Two tables, each of some siblings of a list: of those whose keys are in it, one pass over the list puts down where each is.
+// Two tables, each of some siblings of a list: of those whose keys are in it, one pass over the list puts down where each is. w is
+// the width of an object name.
 use crate::child::Answer;
 use crate::child::Child;
 use crate::child::is_named;
@@ -79,7 +80,7 @@ fn list_of(region: Region) -> usize
 // The tables and the rows are of no list.
 pub fn reset(t: &mut Table)
     requires { ⌜ length (now t) ≡ 3126 ⌝ }
-    ensures { λ _. ⌜ ((d : List ℕ) → Known d (now (t .exit))) × ((region : Region) → Vacant region (now (t .exit))) ⌝ }
+    ensures { λ _. ⌜ ((w : ℕ) (d : List ℕ) → Known w d (now (t .exit))) × ((region : Region) → Vacant region (now (t .exit))) ⌝ }
 {
     clear(t, LISTS, LIST_NUMBERS);
 }
@@ -93,9 +94,9 @@ pub fn most_keys(region: Region) -> u32 {
 }
 
 // The seed is made from data, if it was not made yet. The keys in the tables were made with another, so these are of no list then.
-fn seed_tables(d: &[u8], t: &mut Table)
-    requires { ⌜ Known (now d) (now t) ⌝ }
-    ensures { λ _. ⌜ Known (now (d .entry)) (now (t .exit)) ⌝ }
+fn seed_tables(d: &[u8], t: &mut Table, w: usize)
+    requires { ⌜ Known w (now d) (now t) ⌝ }
+    ensures { λ _. ⌜ Known w (now (d .entry)) (now (t .exit)) ⌝ }
 {
     if has_seed(t) {
         return;
@@ -106,11 +107,11 @@ fn seed_tables(d: &[u8], t: &mut Table)
 }
 
 // A table is of no list and has no keys. d is the data that the seed is made from.
-pub fn begin(d: &[u8], region: Region, t: &mut Table)
-    requires { ⌜ Known (now d) (now t) ⌝ }
-    ensures { λ _. ⌜ Known (now (d .entry)) (now (t .exit)) × Vacant region (now (t .exit)) ⌝ }
+pub fn begin(d: &[u8], region: Region, t: &mut Table, w: usize)
+    requires { ⌜ Known w (now d) (now t) ⌝ }
+    ensures { λ _. ⌜ Known w (now (d .entry)) (now (t .exit)) × Vacant region (now (t .exit)) ⌝ }
 {
-    seed_tables(d, t);
+    seed_tables(d, t, w);
     set_list(t, list_of(region), 0, 0);
     clear(t, first_slot(region), slots_of(region));
 }
@@ -118,7 +119,7 @@ pub fn begin(d: &[u8], region: Region, t: &mut Table)
 // A key is in a table that is of no list. How many were added.
 pub fn put_key(region: Region, key: u32, t: &mut Table) -> u32
     requires { ⌜ Vacant region (now t) ⌝ }
-    ensures { λ r. ⌜ (r < 2) × Vacant region (now (t .exit)) × ((d : List ℕ) → Known d (now (t .entry)) → Known d (now (t .exit))) ⌝ }
+    ensures { λ r. ⌜ (r < 2) × Vacant region (now (t .exit)) × ((w : ℕ) (d : List ℕ) → Known w d (now (t .entry)) → Known w d (now (t .exit))) ⌝ }
 {
     let i = slot_of(t, first_slot(region), slots_of(region), key);
     if t[i] == key {
@@ -147,16 +148,16 @@ fn put_place(d: &[u8], place: usize, nul: usize, region: Region, t: &mut Table)
 }
 
 // Of the k siblings at a place those whose keys are in the table are put down, and the table is of these.
-pub fn put_places(d: &[u8], at: usize, k: u32, region: Region, t: &mut Table)
-    requires { ⌜ (at ≤ length (now d)) × (length (now d) ≤ 16777216) × Vacant region (now t) × Known (now d) (now t) ⌝ }
-    ensures { λ _. ⌜ Known (now (d .entry)) (now (t .exit)) ⌝ }
+pub fn put_places(d: &[u8], at: usize, k: u32, region: Region, t: &mut Table, w: usize)
+    requires { ⌜ (at ≤ length (now d)) × (length (now d) ≤ 16777216) × Vacant region (now t) × Known w (now d) (now t) ⌝ }
+    ensures { λ _. ⌜ Known w (now (d .entry)) (now (t .exit)) ⌝ }
 {
     let slots = slots_of(region);
     clear(t, first_slot(region) + slots, slots);
     let mut place = at;
     let mut left = k;
     while 0 < left {
-        let sibling = sibling_at(d, place);
+        let sibling = sibling_at(d, place, w);
         put_place(d, place, sibling.nul, region, t);
         place = sibling.next;
         left -= 1;
@@ -165,9 +166,17 @@ pub fn put_places(d: &[u8], at: usize, k: u32, region: Region, t: &mut Table)
 }
 
 // What a table says of a name among the k siblings at a place.
-pub fn find_in_table(d: &[u8], at: usize, k: u32, name: &[u8], region: Region, t: &Table) -> Answer
-    requires { ⌜ (at ≤ length (now d)) × (length (now d) ≤ 16777216) × Known (now d) (now t) ⌝ }
-    ensures { λ r. ⌜ AnswerHolds (now (d .entry)) at k (now (name .entry)) r ⌝ }
+pub fn find_in_table(
+    d: &[u8],
+    at: usize,
+    k: u32,
+    name: &[u8],
+    region: Region,
+    t: &Table,
+    w: usize,
+) -> Answer
+    requires { ⌜ (at ≤ length (now d)) × (length (now d) ≤ 16777216) × Known w (now d) (now t) ⌝ }
+    ensures { λ r. ⌜ AnswerHolds w (now (d .entry)) at k (now (name .entry)) r ⌝ }
 {
     if !is_of(t, list_of(region), at, k) {
         return Answer::Unknown;

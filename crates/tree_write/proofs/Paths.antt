@@ -1,4 +1,4 @@
--- Siblings of which those on the path to a name's directory are made invalid.
+-- Siblings of which those on the path to a name's directory are made invalid. w is the width of an object name.
 use mathlib.Core.Path.{_≡_, refl, ap}
 use mathlib.Core.List.{List, _++_, append-assoc, append-nil}
 use mathlib.Core.Bool.{true, false}

@@ -1,4 +1,4 @@
--- One step along siblings of which those on the path to a name's directory are made invalid.
+-- One step along siblings of which those on the path to a name's directory are made invalid. w is the width of an object name.
 use mathlib.Core.Path.{_≡_, refl, sym, ap, subst, _∙_}
 use mathlib.Core.List.{List, _++_, append-nil}
 use mathlib.Core.Bool.{true, false}
@@ -34,81 +34,81 @@ use Rattle.tree_write.proofs.Paths.{path-enters, path-passes, path-none
 
 -- ---- where siblings end
 
-reads-total : (s : List ℕ) (f : Forest) (k m : ℕ) → Reads s f k m → m ≡ treesLength k s
-reads-total s f k m r =
-    let e : treesLength (k + 0) s ≡ m + treesLength 0 (drop m s) = reads-length s f k m r 0 in
-    let z : treesLength 0 (drop m s) ≡ 0 = trees-none (drop m s) in
-    let same : treesLength (k + 0) s ≡ treesLength k s = ap (λ (n : ℕ). treesLength n s) (omega arith) in
+reads-total : {w : ℕ} (s : List ℕ) (f : Forest) (k m : ℕ) → Reads w s f k m → m ≡ treesLength w k s
+reads-total {w} s f k m r =
+    let e : treesLength w (k + 0) s ≡ m + treesLength w 0 (drop m s) = reads-length s f k m r 0 in
+    let z : treesLength w 0 (drop m s) ≡ 0 = trees-none w (drop m s) in
+    let same : treesLength w (k + 0) s ≡ treesLength w k s = ap (λ (n : ℕ). treesLength w n s) (omega arith) in
     omega arith
 
-first-total : (s : List ℕ) (f : Forest) (k m : ℕ) → Reads s f k m → 0 < k → (x : First s f k) → m ≡ x .own + (x .below + x .rest)
-first-total s f k m r some x =
-    let more : Reads s (tree (x .head .node) (x .kids) (x .after)) (suc (k - 1)) (x .own + (x .below + x .rest)) = reads-more (x .node) (x .reads-kids) (x .reads-after) in
+first-total : {w : ℕ} (s : List ℕ) (f : Forest) (k m : ℕ) → Reads w s f k m → 0 < k → (x : First w s f k) → m ≡ x .own + (x .below + x .rest)
+first-total {w} s f k m r some x =
+    let more : Reads w s (tree (x .head .node) (x .kids) (x .after)) (suc (k - 1)) (x .own + (x .below + x .rest)) = reads-more (x .node) (x .reads-kids) (x .reads-after) in
     let k-is : suc (k - 1) ≡ k = omega arith in
-    reads-total s f k m r ∙ ap (λ (n : ℕ). treesLength n s) (sym k-is) ∙ sym (reads-total s _ _ _ more)
+    reads-total s f k m r ∙ ap (λ (n : ℕ). treesLength w n s) (sym k-is) ∙ sym (reads-total s _ _ _ more)
 
 -- ---- what is written of a sibling, and what is left
 
-module _ (d name : List ℕ) (w : PathPlace) (s : List ℕ) (x : ToWrite d name w s) where
-  module _ (some : 0 < w .left) where
-    first-of : First (drop (w .place) d) (x .siblings) (w .left)
+module _ {w : ℕ} (d name : List ℕ) (way : PathPlace) (s : List ℕ) (x : ToWrite w d name way s) where
+  module _ (some : 0 < way .left) where
+    first-of : First w (drop (way .place) d) (x .siblings) (way .left)
     first-of = reads-first _ _ _ _ (x .reads) some
 
     sound-of : SoundForest (tree (first-of .head .node) (first-of .kids) (first-of .after))
     sound-of = subst SoundForest (first-of .is) (x .sound)
 
-    text-is : s ≡ writeForest (invalidPath 20 (drop (w .from) name) (tree (first-of .head .node) (first-of .kids) (first-of .after))) ++ writeForest (x .trees)
-    text-is = x .is ∙ ap (λ (f : Forest). writeForest (invalidPath 20 (drop (w .from) name) f) ++ writeForest (x .trees)) (first-of .is)
+    text-is : s ≡ writeForest (invalidPath w (drop (way .from) name) (tree (first-of .head .node) (first-of .kids) (first-of .after))) ++ writeForest (x .trees)
+    text-is = x .is ∙ ap (λ (f : Forest). writeForest (invalidPath w (drop (way .from) name) f) ++ writeForest (x .trees)) (first-of .is)
 
     -- the trees that follow are after the first sibling, its subtrees and its later siblings
-    follows : Reads (drop (first-of .rest) (drop (first-of .below) (drop (first-of .own) (drop (w .place) d)))) (x .trees) (w .later) (x .more)
+    follows : Reads w (drop (first-of .rest) (drop (first-of .below) (drop (first-of .own) (drop (way .place) d)))) (x .trees) (way .later) (x .more)
     follows =
         let total : x .taken ≡ first-of .own + (first-of .below + first-of .rest) = first-total _ _ _ _ (x .reads) some first-of in
-        let from : drop (first-of .rest) (drop (first-of .below) (drop (first-of .own) (drop (w .place) d))) ≡ drop (x .taken) (drop (w .place) d) =
-        drop-drop (first-of .rest) (first-of .below) (drop (first-of .own) (drop (w .place) d))
-        ∙ drop-drop (first-of .below + first-of .rest) (first-of .own) (drop (w .place) d)
-        ∙ ap (λ (n : ℕ). drop n (drop (w .place) d)) (sym total) in
+        let from : drop (first-of .rest) (drop (first-of .below) (drop (first-of .own) (drop (way .place) d))) ≡ drop (x .taken) (drop (way .place) d) =
+        drop-drop (first-of .rest) (first-of .below) (drop (first-of .own) (drop (way .place) d))
+        ∙ drop-drop (first-of .below + first-of .rest) (first-of .own) (drop (way .place) d)
+        ∙ ap (λ (n : ℕ). drop n (drop (way .place) d)) (sym total) in
         rw from (x .follow)
 
-    pub step-stop : {X : Type 0} → R.Bad ≡ nodeAt (w .place) (readNode 20 0 (drop (w .place) d)) → X
-    step-stop e = absurd (no-bad (w .place) (first-of .own) (first-of .head) _ (first-of .node) e)
+    pub step-stop : {X : Type 0} → R.Bad ≡ nodeAt w (way .place) (readNode w 0 (drop (way .place) d)) → X
+    step-stop e = absurd (no-bad w (way .place) (first-of .own) (first-of .head) _ (first-of .node) e)
 
-    module _ (inside : w .place ≤ length d) (node : Code.Node) (here : NodeHere d (w .place) node) where
-      node-here : NodeAt node (w .place) (first-of .own) (first-of .head)
-      node-here = node-at node (w .place) (first-of .own) (first-of .head) _ (first-of .node) (here .read)
+    module _ (inside : way .place ≤ length d) (node : Code.Node) (here : NodeHere w d (way .place) node) where
+      node-here : NodeAt node (way .place) (first-of .own) (first-of .head)
+      node-here = node-at w node (way .place) (first-of .own) (first-of .head) _ (first-of .node) (here .read)
 
-      is-node : NodeIs d (w .place) node
-      is-node = node-is d (w .place) inside node (here .read)
+      is-node : NodeIs w d (way .place) node
+      is-node = node-is d (way .place) inside node (here .read)
 
-      name-is : take (node .nul - w .place) (drop (w .place) d) ≡ first-of .head .node .name
+      name-is : take (node .nul - way .place) (drop (way .place) d) ≡ first-of .head .node .name
       name-is = sym (is-node .name) ∙ ap (λ (h : Head). h .node .name) (head-is (sym (is-node .reads) ∙ first-of .node))
 
-      name-length : node .nul - w .place ≡ length (first-of .head .node .name)
+      name-length : node .nul - way .place ≡ length (first-of .head .node .name)
       name-length =
-          let l : length (drop (w .place) d) ≡ length d - w .place = length-drop (w .place) d in
+          let l : length (drop (way .place) d) ≡ length d - way .place = length-drop (way .place) d in
           let ended = is-node .ended in
           let within = is-node .within in
-          sym (length-take-le (node .nul - w .place) (drop (w .place) d) (omega arith)) ∙ ap length name-is
+          sym (length-take-le (node .nul - way .place) (drop (way .place) d) (omega arith)) ∙ ap length name-is
 
       module _ (out out′ : List ℕ) where
-        pub step-enters : (at : ℕ) → under (take (node .nul - w .place) (drop (w .place) d)) (drop (w .from) name) ≡ true
-            → NodeWritten (madeInvalid 20) d (w .place) node out (w .at) out′ at
-            → Part d name out w s out′
-            (record { place = node .next; at = at; left = node .subtrees; later = w .later + (w .left - 1); from = w .from + (node .nul - w .place) + 1 })
+        pub step-enters : (at : ℕ) → under (take (node .nul - way .place) (drop (way .place) d)) (drop (way .from) name) ≡ true
+            → NodeWritten w (madeInvalid w) d (way .place) node out (way .at) out′ at
+            → Part w d name out way s out′
+            (record { place = node .next; at = at; left = node .subtrees; later = way .later + (way .left - 1); from = way .from + (node .nul - way .place) + 1 })
         step-enters at e written =
             let n = first-of .head .node in
             let k : ℕ = length (n .name) + 1 in
-            let in-dir : under (n .name) (drop (w .from) name) ≡ true = ap (λ (c : List ℕ). under c (drop (w .from) name)) (sym name-is) ∙ e in
+            let in-dir : under (n .name) (drop (way .from) name) ≡ true = ap (λ (c : List ℕ). under c (drop (way .from) name)) (sym name-is) ∙ e in
             let l = name-length in
-            let name-rest : drop k (drop (w .from) name) ≡ drop (w .from + (node .nul - w .place) + 1) name = drop-to name (w .from) k (w .from + (node .nul - w .place) + 1) (omega arith) in
-            let count : w .left - 1 + w .later ≡ w .later + (w .left - 1) = omega arith in
-            let next : drop (first-of .own) (drop (w .place) d) ≡ drop (node .next) d = drop-to d (w .place) (first-of .own) (node .next) (node-here .next) in
+            let name-rest : drop k (drop (way .from) name) ≡ drop (way .from + (node .nul - way .place) + 1) name = drop-to name (way .from) k (way .from + (node .nul - way .place) + 1) (omega arith) in
+            let count : way .left - 1 + way .later ≡ way .later + (way .left - 1) = omega arith in
+            let next : drop (first-of .own) (drop (way .place) d) ≡ drop (node .next) d = drop-to d (way .place) (first-of .own) (node .next) (node-here .next) in
             record {
-              part = madeInvalid 20 (first-of .head);
-              rest = writeForest (invalidPath 20 (drop k (drop (w .from) name)) (first-of .kids)) ++ writeForest (chain (first-of .after) (x .trees));
+              part = madeInvalid w (first-of .head);
+              rest = writeForest (invalidPath w (drop k (drop (way .from) name)) (first-of .kids)) ++ writeForest (chain (first-of .after) (x .trees));
               whole =
                   text-is
-                  ∙ path-enters 20 (drop (w .from) name) n (first-of .kids) (first-of .after) (x .trees) (first-of .head .subtrees) in-dir sound-of (reads-width _ _ _ _ (first-of .reads-kids));
+                  ∙ path-enters w (drop (way .from) name) n (first-of .kids) (first-of .after) (x .trees) (first-of .head .subtrees) in-dir sound-of (reads-width _ _ _ _ (first-of .reads-kids));
               wrote = written .wrote (first-of .head) (first-of .own) (first-of .node);
               left = record {
                 siblings = first-of .kids;
@@ -118,24 +118,24 @@ module _ (d name : List ℕ) (w : PathPlace) (s : List ℕ) (x : ToWrite d name 
                 sound = sound-kids n (first-of .kids) (first-of .after) sound-of;
                 reads = reads-at _ _ _ _ _ _ (first-of .reads-kids) next (sym (node-here .subtrees));
                 follow = reads-at _ _ _ _ _ _ (reads-chain _ _ _ _ _ _ _ (first-of .reads-after) follows) (ap (drop (first-of .below)) next) count;
-                is = ap (λ (t : List ℕ). writeForest (invalidPath 20 t (first-of .kids)) ++ writeForest (chain (first-of .after) (x .trees))) name-rest;
+                is = ap (λ (t : List ℕ). writeForest (invalidPath w t (first-of .kids)) ++ writeForest (chain (first-of .after) (x .trees))) name-rest;
               };
             }
 
-        pub step-passes : (passed : Passed) → under (take (node .nul - w .place) (drop (w .place) d)) (drop (w .from) name) ≡ false
-            → TreesWritten d (w .place) 1 out (w .at) out′ passed
-            → Part d name out w s out′ (record { place = passed .place; at = passed .at; left = w .left - 1; later = w .later; from = w .from })
+        pub step-passes : (passed : Passed) → under (take (node .nul - way .place) (drop (way .place) d)) (drop (way .from) name) ≡ false
+            → TreesWritten w d (way .place) 1 out (way .at) out′ passed
+            → Part w d name out way s out′ (record { place = passed .place; at = passed .at; left = way .left - 1; later = way .later; from = way .from })
         step-passes passed e written =
             let n = first-of .head .node in
-            let out-dir : under (n .name) (drop (w .from) name) ≡ false = ap (λ (c : List ℕ). under c (drop (w .from) name)) (sym name-is) ∙ e in
+            let out-dir : under (n .name) (drop (way .from) name) ≡ false = ap (λ (c : List ℕ). under c (drop (way .from) name)) (sym name-is) ∙ e in
             let ended = written .ended in
-            let length-is : passed .place ≡ w .place + (first-of .own + first-of .below) = omega (arith, first-length _ _ _ first-of) in
-            let next : drop (first-of .below) (drop (first-of .own) (drop (w .place) d)) ≡ drop (passed .place) d =
-            drop-drop (first-of .below) (first-of .own) (drop (w .place) d) ∙ drop-to d (w .place) (first-of .own + first-of .below) (passed .place) length-is in
+            let length-is : passed .place ≡ way .place + (first-of .own + first-of .below) = omega (arith, first-length _ _ _ first-of) in
+            let next : drop (first-of .below) (drop (first-of .own) (drop (way .place) d)) ≡ drop (passed .place) d =
+            drop-drop (first-of .below) (first-of .own) (drop (way .place) d) ∙ drop-to d (way .place) (first-of .own + first-of .below) (passed .place) length-is in
             record {
               part = writeForest (tree n (first-of .kids) nil);
-              rest = writeForest (invalidPath 20 (drop (w .from) name) (first-of .after)) ++ writeForest (x .trees);
-              whole = text-is ∙ path-passes 20 (drop (w .from) name) n (first-of .kids) (first-of .after) (x .trees) out-dir;
+              rest = writeForest (invalidPath w (drop (way .from) name) (first-of .after)) ++ writeForest (x .trees);
+              whole = text-is ∙ path-passes w (drop (way .from) name) n (first-of .kids) (first-of .after) (x .trees) out-dir;
               wrote = written .wrote (tree n (first-of .kids) nil) _ (reads-more (first-of .node) (first-of .reads-kids) reads-none);
               left = record {
                 siblings = first-of .after;
@@ -151,22 +151,22 @@ module _ (d name : List ℕ) (w : PathPlace) (s : List ℕ) (x : ToWrite d name 
 
   -- ---- no sibling is left
 
-  pub path-end : w .left ≤ 0 → (out out′ : List ℕ) (passed : Passed) → TreesWritten d (w .place) (w .later) out (w .at) out′ passed → Wrote out (w .at) s out′ (passed .at)
+  pub path-end : way .left ≤ 0 → (out out′ : List ℕ) (passed : Passed) → TreesWritten w d (way .place) (way .later) out (way .at) out′ passed → Wrote out (way .at) s out′ (passed .at)
   path-end l out out′ passed written =
       let none : x .siblings ≡ nil = reads-empty _ _ _ _ (x .reads) l in
-      let zero-left : w .left ≡ 0 = omega arith in
-      let taken : x .taken ≡ 0 = reads-total _ _ _ _ (x .reads) ∙ ap (λ (k : ℕ). treesLength k (drop (w .place) d)) zero-left ∙ trees-none (drop (w .place) d) in
+      let zero-left : way .left ≡ 0 = omega arith in
+      let taken : x .taken ≡ 0 = reads-total _ _ _ _ (x .reads) ∙ ap (λ (k : ℕ). treesLength w k (drop (way .place) d)) zero-left ∙ trees-none w (drop (way .place) d) in
       let text : s ≡ writeForest (x .trees) =
       x .is
-      ∙ ap (λ (f : Forest). writeForest (invalidPath 20 (drop (w .from) name) f) ++ writeForest (x .trees)) none
-      ∙ path-none 20 (drop (w .from) name) (x .trees) in
+      ∙ ap (λ (f : Forest). writeForest (invalidPath w (drop (way .from) name) f) ++ writeForest (x .trees)) none
+      ∙ path-none w (drop (way .from) name) (x .trees) in
       rw text (written .wrote (x .trees) (x .more) (rw taken at (x .follow)))
 
 -- ---- all siblings
 
-pub path-start : (d name : List ℕ) (place at k : ℕ) (f : Forest) (m : ℕ) → SoundForest f → Reads (drop place d) f k m
-    → ToWrite d name (record { place = place; at = at; left = k; later = 0; from = 0 }) (writeForest (invalidPath 20 name f))
-path-start d name place at k f m sound r = record {
+pub path-start : {w : ℕ} (d name : List ℕ) (place at k : ℕ) (f : Forest) (m : ℕ) → SoundForest f → Reads w (drop place d) f k m
+    → ToWrite w d name (record { place = place; at = at; left = k; later = 0; from = 0 }) (writeForest (invalidPath w name f))
+path-start {w} d name place at k f m sound r = record {
   siblings = f;
   taken = m;
   trees = nil;
@@ -174,21 +174,21 @@ path-start d name place at k f m sound r = record {
   sound = sound;
   reads = r;
   follow = reads-none;
-  is = sym (ap (λ (s : List ℕ). writeForest (invalidPath 20 name f) ++ s) write-nil ∙ append-nil (writeForest (invalidPath 20 name f)));
+  is = sym (ap (λ (s : List ℕ). writeForest (invalidPath w name f) ++ s) write-nil ∙ append-nil (writeForest (invalidPath w name f)));
 }
 
 -- with what is still to write, s is written at a place of out₀
-pub record Going (d name out₀ : List ℕ) (at : ℕ) (s out : List ℕ) (w : PathPlace) : Type 0 where
+pub record Going (w : ℕ) (d name out₀ : List ℕ) (at : ℕ) (s out : List ℕ) (way : PathPlace) : Type 0 where
   pub left : List ℕ
-  pub still : ToWrite d name w left
-  pub rest : (out′ : List ℕ) (r : ℕ) → Wrote out (w .at) left out′ r → Wrote out₀ at s out′ r
+  pub still : ToWrite w d name way left
+  pub rest : (out′ : List ℕ) (r : ℕ) → Wrote out (way .at) left out′ r → Wrote out₀ at s out′ r
 
-pub going-start : (d name s out : List ℕ) (w : PathPlace) → ToWrite d name w s → Going d name out (w .at) s out w
-going-start d name s out w x = record { left = s; still = x; rest = λ out′ r wrote. wrote }
+pub going-start : {w : ℕ} (d name s out : List ℕ) (way : PathPlace) → ToWrite w d name way s → Going w d name out (way .at) s out way
+going-start d name s out way x = record { left = s; still = x; rest = λ out′ r wrote. wrote }
 
-pub going-on : (d name out₀ : List ℕ) (at : ℕ) (s out : List ℕ) (w : PathPlace) → Going d name out₀ at s out w → (out₁ : List ℕ) (r : PathPlace) → Stepped d name out w out₁ r
-    → Going d name out₀ at s out₁ r
-going-on d name out₀ at s out w x out₁ r step =
+pub going-on : {w : ℕ} (d name out₀ : List ℕ) (at : ℕ) (s out : List ℕ) (way : PathPlace) → Going w d name out₀ at s out way → (out₁ : List ℕ) (r : PathPlace) → Stepped w d name out way out₁ r
+    → Going w d name out₀ at s out₁ r
+going-on d name out₀ at s out way x out₁ r step =
     let y = step .wrote (x .left) (x .still) in
     record {
       left = y .rest;

@@ -1,4 +1,4 @@
--- Siblings of which those on the path to a name's directory are made invalid: one step along them.
+-- Siblings of which those on the path to a name's directory are made invalid: one step along them. w is the width of an object name.
 use mathlib.Core.Path.{_≡_}
 use mathlib.Core.List.{List, _++_}
 use Prim.Native.Nat.{ℕ, _+_, _-_, _*_, _≤_, _<_}
@@ -13,34 +13,34 @@ use Rattle.tree_write.specs.declared.PathPlace.{PathPlace}
 use Rattle.tree_write.specs.Written.{Room}
 
 -- the bounds of a place: each step adds fewer than 2 ^ 32 trees that follow
-pub record StepBounds (d name : List ℕ) (w : PathPlace) : Type 0 where
-  pub room : Room d (w .place) (w .at)
-  pub named : w .from ≤ length name
-  pub few : w .later ≤ w .place * 4294967296
+pub record StepBounds (w : ℕ) (d name : List ℕ) (way : PathPlace) : Type 0 where
+  pub room : Room w d (way .place) (way .at)
+  pub named : way .from ≤ length name
+  pub few : way .later ≤ way .place * 4294967296
 
 -- what is still to write from a place on is s: the siblings that are left, then the trees that follow
-pub record ToWrite (d name : List ℕ) (w : PathPlace) (s : List ℕ) : Type 0 where
+pub record ToWrite (w : ℕ) (d name : List ℕ) (way : PathPlace) (s : List ℕ) : Type 0 where
   pub siblings : Forest
   pub taken : ℕ
   pub trees : Forest
   pub more : ℕ
   pub sound : SoundForest siblings
-  pub reads : Reads (drop (w .place) d) siblings (w .left) taken
-  pub follow : Reads (drop taken (drop (w .place) d)) trees (w .later) more
-  pub is : s ≡ writeForest (invalidPath 20 (drop (w .from) name) siblings) ++ writeForest trees
+  pub reads : Reads w (drop (way .place) d) siblings (way .left) taken
+  pub follow : Reads w (drop taken (drop (way .place) d)) trees (way .later) more
+  pub is : s ≡ writeForest (invalidPath w (drop (way .from) name) siblings) ++ writeForest trees
 
 -- a step writes a first part of it
-pub record Part (d name out : List ℕ) (w : PathPlace) (s out′ : List ℕ) (r : PathPlace) : Type 0 where
+pub record Part (w : ℕ) (d name out : List ℕ) (way : PathPlace) (s out′ : List ℕ) (r : PathPlace) : Type 0 where
   pub part : List ℕ
   pub rest : List ℕ
   pub whole : s ≡ part ++ rest
-  pub wrote : Wrote out (w .at) part out′ (r .at)
-  pub left : ToWrite d name r rest
+  pub wrote : Wrote out (way .at) part out′ (r .at)
+  pub left : ToWrite w d name r rest
 
 -- it takes nodes or leaves fewer siblings, and what it writes is not longer than what it takes
-pub record Stepped (d name out : List ℕ) (w : PathPlace) (out′ : List ℕ) (r : PathPlace) : Type 0 where
-  pub ready : StepBounds d name r
+pub record Stepped (w : ℕ) (d name out : List ℕ) (way : PathPlace) (out′ : List ℕ) (r : PathPlace) : Type 0 where
+  pub ready : StepBounds w d name r
   pub long : length out′ ≡ length out
-  pub less : (length d - r .place) * 4294967296 + r .left < (length d - w .place) * 4294967296 + w .left
-  pub short : r .at + w .place ≤ w .at + r .place
-  pub wrote : (s : List ℕ) → ToWrite d name w s → Part d name out w s out′ r
+  pub less : (length d - r .place) * 4294967296 + r .left < (length d - way .place) * 4294967296 + way .left
+  pub short : r .at + way .place ≤ way .at + r .place
+  pub wrote : (s : List ℕ) → ToWrite w d name way s → Part w d name out way s out′ r

@@ -1,5 +1,6 @@
 // Writing the data of a cache tree from the data of one that was read. A number has one decimal text, so a valid node is copied as it is; an
 // invalid one is written with "-1" and no object name. Each function answers the place after what it wrote; with an output too short it measures.
+// w is the width of an object name, 1 or more.
 use fields::common;
 use fields::find;
 use output::put_byte;
@@ -24,9 +25,9 @@ struct Passed {
 }
 
 // A node made invalid: its name and NUL, "-1", and what there is from the space up to the LF.
-fn put_invalid(d: &[u8], place: usize, node: Node, out: &mut [u8], at: usize) -> usize
-    requires { ⌜ Room (now d) place at × NodeHere (now d) place node ⌝ }
-    ensures { λ r. ⌜ NodeWritten (madeInvalid 20) (now (d .entry)) place node (now (out .entry)) at (now (out .exit)) r ⌝ }
+fn put_invalid(d: &[u8], place: usize, node: Node, out: &mut [u8], at: usize, w: usize) -> usize
+    requires { ⌜ Room w (now d) place at × NodeHere w (now d) place node ⌝ }
+    ensures { λ r. ⌜ NodeWritten w (madeInvalid w) (now (d .entry)) place node (now (out .entry)) at (now (out .exit)) r ⌝ }
 {
     let count = node.nul + 1;
     let object = node.object;
@@ -38,26 +39,26 @@ fn put_invalid(d: &[u8], place: usize, node: Node, out: &mut [u8], at: usize) ->
 }
 
 // A node as it is: copied where it is valid.
-fn put_node(d: &[u8], place: usize, node: Node, out: &mut [u8], at: usize) -> usize
-    requires { ⌜ Room (now d) place at × NodeHere (now d) place node ⌝ }
-    ensures { λ r. ⌜ NodeWritten asIs (now (d .entry)) place node (now (out .entry)) at (now (out .exit)) r ⌝ }
+fn put_node(d: &[u8], place: usize, node: Node, out: &mut [u8], at: usize, w: usize) -> usize
+    requires { ⌜ Room w (now d) place at × NodeHere w (now d) place node ⌝ }
+    ensures { λ r. ⌜ NodeWritten w asIs (now (d .entry)) place node (now (out .entry)) at (now (out .exit)) r ⌝ }
 {
     if node.valid {
         return put_part(out, at, d, place, node.next);
     }
-    put_invalid(d, place, node, out, at)
+    put_invalid(d, place, node, out, at, w)
 }
 
 // So many trees one after another, each with all below it. Each node adds its subtrees to the trees that are still to write.
-fn put_trees(d: &[u8], start: usize, n: u64, out: &mut [u8], at: usize) -> Passed
-    requires { ⌜ Room (now d) start at × (n ≤ 4611686018427387904) ⌝ }
-    ensures { λ r. ⌜ TreesWritten (now (d .entry)) start n (now (out .entry)) at (now (out .exit)) r ⌝ }
+fn put_trees(d: &[u8], start: usize, n: u64, out: &mut [u8], at: usize, w: usize) -> Passed
+    requires { ⌜ Room w (now d) start at × (n ≤ 4611686018427387904) ⌝ }
+    ensures { λ r. ⌜ TreesWritten w (now (d .entry)) start n (now (out .entry)) at (now (out .exit)) r ⌝ }
 {
     let mut place = start;
     let mut end = at;
     let mut pending = n;
     while 0 < pending {
-        let read = read_node(d, place);
+        let read = read_node(d, place, w);
         match read {
             NodeRead::Bad => {
                 return Passed {
@@ -66,7 +67,7 @@ fn put_trees(d: &[u8], start: usize, n: u64, out: &mut [u8], at: usize) -> Passe
                 };
             }
             NodeRead::Good(node) => {
-                end = put_node(d, place, node, &mut *out, end);
+                end = put_node(d, place, node, &mut *out, end, w);
                 place = node.next;
                 pending = pending - 1 + node.subtrees as u64;
             }
@@ -105,84 +106,92 @@ fn is_under(d: &[u8], place: usize, nul: usize, name: &[u8], from: usize) -> boo
 
 // One sibling. Where the name is in its directory it is made invalid, its subtrees are the next siblings, and the siblings after it follow later:
 // the name is in no directory of theirs. Else it is written with all below it.
-fn step(d: &[u8], name: &[u8], out: &mut [u8], w: PathPlace) -> PathPlace
-    requires { ⌜ StepBounds (now d) (now name) w × (0 < w .left) ⌝ }
-    ensures { λ r. ⌜ Stepped (now (d .entry)) (now (name .entry)) (now (out .entry)) w (now (out .exit)) r ⌝ }
+fn step(d: &[u8], name: &[u8], out: &mut [u8], way: PathPlace, w: usize) -> PathPlace
+    requires { ⌜ StepBounds w (now d) (now name) way × (0 < way .left) ⌝ }
+    ensures { λ r. ⌜ Stepped w (now (d .entry)) (now (name .entry)) (now (out .entry)) way (now (out .exit)) r ⌝ }
 {
-    let read = read_node(d, w.place);
+    let read = read_node(d, way.place, w);
     match read {
         NodeRead::Bad => PathPlace {
-            place: w.place,
-            at: w.at,
+            place: way.place,
+            at: way.at,
             left: 0,
             later: 0,
-            from: w.from,
+            from: way.from,
         },
         NodeRead::Good(node) => {
-            if is_under(d, w.place, node.nul, name, w.from) {
-                let at = put_invalid(d, w.place, node, out, w.at);
+            if is_under(d, way.place, node.nul, name, way.from) {
+                let at = put_invalid(d, way.place, node, out, way.at, w);
                 return PathPlace {
                     place: node.next,
                     at: at,
                     left: node.subtrees,
-                    later: w.later + (w.left - 1) as u64,
-                    from: w.from + (node.nul - w.place) + 1,
+                    later: way.later + (way.left - 1) as u64,
+                    from: way.from + (node.nul - way.place) + 1,
                 };
             }
-            let passed = put_trees(d, w.place, 1, out, w.at);
+            let passed = put_trees(d, way.place, 1, out, way.at, w);
             PathPlace {
                 place: passed.place,
                 at: passed.at,
-                left: w.left - 1,
-                later: w.later,
-                from: w.from,
+                left: way.left - 1,
+                later: way.later,
+                from: way.from,
             }
         }
     }
 }
 
 // k siblings at a place, of which those on the path to a name's directory are made invalid.
-fn put_path(d: &[u8], start: usize, k: u32, name: &[u8], out: &mut [u8], at: usize) -> usize
-    requires { ⌜ Room (now d) start at ⌝ }
-    ensures { λ r. ⌜ WayWritten (now (name .entry)) (now (d .entry)) start k (now (out .entry)) at (now (out .exit)) r ⌝ }
+fn put_path(
+    d: &[u8],
+    start: usize,
+    k: u32,
+    name: &[u8],
+    out: &mut [u8],
+    at: usize,
+    w: usize,
+) -> usize
+    requires { ⌜ Room w (now d) start at ⌝ }
+    ensures { λ r. ⌜ WayWritten w (now (name .entry)) (now (d .entry)) start k (now (out .entry)) at (now (out .exit)) r ⌝ }
 {
-    let mut w = PathPlace {
+    let mut way = PathPlace {
         place: start,
         at: at,
         left: k,
         later: 0,
         from: 0,
     };
-    while 0 < w.left {
-        w = step(d, name, &mut *out, w);
+    while 0 < way.left {
+        way = step(d, name, &mut *out, way, w);
     }
-    let passed = put_trees(d, w.place, w.later, out, w.at);
+    let passed = put_trees(d, way.place, way.later, out, way.at, w);
     passed.at
 }
 
 // The whole data, of which the root and the nodes on the path to a name's directory are made invalid.
-fn put_invalid_tree(d: &[u8], name: &[u8], out: &mut [u8], at: usize) -> usize
-    requires { ⌜ Room (now d) 0 at ⌝ }
-    ensures { λ r. ⌜ WholeWritten (λ t. writeTree (invalidTree 20 (now (name .entry)) t)) (now (d .entry)) (now (out .entry)) at (now (out .exit)) r ⌝ }
+fn put_invalid_tree(d: &[u8], name: &[u8], out: &mut [u8], at: usize, w: usize) -> usize
+    requires { ⌜ Room w (now d) 0 at ⌝ }
+    ensures { λ r. ⌜ WholeWritten w (λ t. writeTree (invalidTree w (now (name .entry)) t)) (now (d .entry)) (now (out .entry)) at (now (out .exit)) r ⌝ }
 {
-    let read = read_node(d, 0);
+    let read = read_node(d, 0, w);
     match read {
         NodeRead::Bad => at,
         NodeRead::Good(root) => {
-            let end = put_invalid(d, 0, root, &mut *out, at);
-            put_path(d, root.next, root.subtrees, name, out, end)
+            let end = put_invalid(d, 0, root, &mut *out, at, w);
+            put_path(d, root.next, root.subtrees, name, out, end, w)
         }
     }
 }
 
 // The whole data of a tree that was read, as it is or made invalid on the path to a name's directory.
-pub fn put_tree(d: &[u8], touched: bool, name: &[u8], out: &mut [u8], at: usize) -> usize
-    requires { ⌜ (length (now d) ≤ 16777216) × (at ≤ 562949953421312) ⌝ }
-    ensures { λ r. ⌜ WholeWritten (λ t. writeTree (cond touched (invalidTree 20 (now (name .entry)) t) t)) (now (d .entry)) (now (out .entry)) at (now (out .exit)) r ⌝ }
+pub fn put_tree(d: &[u8], touched: bool, name: &[u8], out: &mut [u8], at: usize, w: usize) -> usize
+    requires { ⌜ (length (now d) ≤ 16777216) × (at ≤ 562949953421312) × (1 ≤ w) ⌝ }
+    ensures { λ r. ⌜ WholeWritten w (λ t. writeTree (cond touched (invalidTree w (now (name .entry)) t) t)) (now (d .entry)) (now (out .entry)) at (now (out .exit)) r ⌝ }
 {
     if touched {
-        return put_invalid_tree(d, name, out, at);
+        return put_invalid_tree(d, name, out, at, w);
     }
-    let passed = put_trees(d, 0, 1, out, at);
+    let passed = put_trees(d, 0, 1, out, at, w);
     passed.at
 }

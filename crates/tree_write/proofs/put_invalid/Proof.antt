@@ -7,8 +7,8 @@ use Rattle.tree_write.proofs.Nodes.{NodeCut, cut-here, nul-in, space-in
 use Rattle.tree_write.proofs.put_invalid.Statement.{statement}
 use Rattle.tree_write.proofs.put_invalid.Tie as tie
 
-cut-of : (c : tie.Start) → NodeCut (c .args .d .now) (c .args .place) (c .args .node)
-cut-of c = cut-here _ _ (c .pre .0 .inside) _ (c .pre .1)
+cut-of : (c : tie.Start) → NodeCut (c .args .w) (c .args .d .now) (c .args .place) (c .args .node)
+cut-of c = cut-here _ (c .pre .0 .wide) _ _ (c .pre .0 .inside) _ (c .pre .1)
 
 nul-of : (c : tie.Start) → (c .args .place ≤ c .args .node .nul) × (c .args .node .nul + 1 ≤ length (c .args .d .now))
 nul-of c = nul-in _ _ _ (cut-of c)

@@ -8,7 +8,7 @@ use Rattle.tree_write.proofs.Wholes.{whole-none, whole-invalid}
 use Rattle.tree_write.proofs.put_invalid_tree.Statement.{statement}
 use Rattle.tree_write.proofs.put_invalid_tree.Tie as tie
 
-here-of : (c : tie.After-known-told) → NodeHere (c .before .before .before .before .before .before .before .args .d .now) 0 (c .before .read .given .0 .0)
+here-of : (c : tie.After-known-told) → NodeHere (c .before .before .before .before .before .before .before .args .w) (c .before .before .before .before .before .before .before .args .d .now) 0 (c .before .read .given .0 .0)
 here-of c = record { read = sym (c .before .read .given .1) ∙ c .before .before .before .read-node .ensures }
 
 read-node-requires : tie.Need-read-node-requires
@@ -30,12 +30,12 @@ put-path-requires c κs =
     let p = k .before .before .before .before .before .before .before .pre in
     let is = node-is _ _ (p .inside) _ (here-of k .read) in
     let short = put .put-invalid .ensures .short in
-    record { inside = is .within; few = p .few; near = omega arith }
+    record { inside = is .within; few = p .few; near = omega arith; wide = p .wide }
 
 returns : tie.Need-returns
 returns c =
     let none = sym (c .enum-told .given .1) ∙ c .before .before .read-node .ensures in
-    record { wrote = λ t m q differ. whole-none _ t m q none; short = omega arith }
+    record { wrote = λ t m q differ. whole-none _ _ t m q none; short = omega arith }
 
 same-length : tie.Need-same-length
 same-length c = search needs
@@ -49,7 +49,7 @@ returns-2 c =
     let rest = touched .put-path .ensures in
     let further = rest .short in
     record {
-      wrote = λ t m q differ. whole-invalid _ t m q _ (here-of k) differ _ _ _ _ _ _ _ (put .put-invalid .ensures) rest;
+      wrote = λ t m q differ. whole-invalid _ _ t m q _ (here-of k) differ _ _ _ _ _ _ _ (put .put-invalid .ensures) rest;
       short = omega arith;
     }
 

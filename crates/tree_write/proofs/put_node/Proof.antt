@@ -5,8 +5,8 @@ use Rattle.tree_write.proofs.Nodes.{NodeCut, cut-here, valid-written, i
 use Rattle.tree_write.proofs.put_node.Statement.{statement}
 use Rattle.tree_write.proofs.put_node.Tie as tie
 
-cut-of : (c : tie.Start) → NodeCut (c .args .d .now) (c .args .place) (c .args .node)
-cut-of c = cut-here _ _ (c .pre .0 .inside) _ (c .pre .1)
+cut-of : (c : tie.Start) → NodeCut (c .args .w) (c .args .d .now) (c .args .place) (c .args .node)
+cut-of c = cut-here _ (c .pre .0 .wide) _ _ (c .pre .0 .inside) _ (c .pre .1)
 
 put-part-requires : tie.Need-put-part-requires
 put-part-requires c κs =

@@ -14,12 +14,12 @@ use Rattle.tree_write.proofs.put_path.Statement.{statement}
 use Rattle.tree_write.proofs.put_path.Tie as tie
 
 abbrev Inv-loop : tie.InvT-loop
-Inv-loop d start k name out₀ at w₀ out w =
-    StepBounds d name w × (w .at + start ≤ at + w .place) × (length out ≡ length out₀)
-    × ((f : Forest) (m : ℕ) → SoundForest f → Reads (drop start d) f k m → Going d name out₀ at (writeForest (invalidPath 20 name f)) out w)
+Inv-loop d start k name out₀ at w way₀ out way =
+    StepBounds w d name way × (way .at + start ≤ at + way .place) × (length out ≡ length out₀)
+    × ((f : Forest) (m : ℕ) → SoundForest f → Reads w (drop start d) f k m → Going w d name out₀ at (writeForest (invalidPath w name f)) out way)
 
 abbrev μ-loop : tie.MeasureT-loop
-μ-loop d start k name out₀ at w₀ out w = (length d - w .place) * 4294967296 + w .left
+μ-loop d start k name out₀ at w way₀ out way = (length d - way .place) * 4294967296 + way .left
 
 loop-holds : tie.Need-loop-holds Inv-loop μ-loop
 loop-holds c = (

@@ -28,7 +28,7 @@ returns-2 c =
     let t = put .put-trees .ensures in
     let short = t .short in
     let within = t .within in
-    rw (put .before .before .if1 .left) (record { wrote = λ u m q differ. whole-copied _ u m q _ _ _ _ t; short = omega arith })
+    rw (put .before .before .if1 .left) (record { wrote = λ u m q differ. whole-copied _ _ u m q _ _ _ _ t; short = omega arith })
 
 pub put-tree-spec : {M : Type 1} → statement M
 put-tree-spec =

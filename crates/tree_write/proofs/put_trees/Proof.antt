@@ -15,13 +15,13 @@ use Rattle.tree_write.proofs.put_trees.Statement.{statement}
 use Rattle.tree_write.proofs.put_trees.Tie as tie
 
 abbrev Inv-loop : tie.InvT-loop
-Inv-loop d start n out₀ at place₀ end₀ pending₀ out place end pending =
+Inv-loop d start n out₀ at w place₀ end₀ pending₀ out place end pending =
     FlatPass d start n place pending × (end + start ≤ at + place) × (length out ≡ length out₀)
-    × (start + treesLength n (drop start d) ≡ place + treesLength pending (drop place d))
-    × ((f : Forest) (m : ℕ) → Reads (drop start d) f n m → TreesToWrite d out₀ at (writeForest f) place pending out end)
+    × (start + treesLength w n (drop start d) ≡ place + treesLength w pending (drop place d))
+    × ((f : Forest) (m : ℕ) → Reads w (drop start d) f n m → TreesToWrite w d out₀ at (writeForest f) place pending out end)
 
 abbrev μ-loop : tie.MeasureT-loop
-μ-loop d start n out₀ at place₀ end₀ pending₀ out place end pending = length d - place
+μ-loop d start n out₀ at w place₀ end₀ pending₀ out place end pending = length d - place
 
 loop-holds : tie.Need-loop-holds Inv-loop μ-loop
 loop-holds c = (flat-start _ _ _ (c .before .before .pre .0 .inside), omega arith, refl, refl, λ f m r. left-start _ _ _ _ _ f m r)
@@ -42,7 +42,7 @@ returns c =
     let none = sym (c .enum-told .given .1) ∙ c .before .before .read-node .ensures in
     record {
       wrote = λ f m r. left-stop _ _ _ _ _ _ _ _ (l .loop .inv .4 f m r) some none;
-      ended = sym (l .loop .inv .3 ∙ trees-stop _ _ _ some (l .loop .inv .0 .inside) none);
+      ended = sym (l .loop .inv .3 ∙ trees-stop _ _ _ _ some (l .loop .inv .0 .inside) none);
       within = omega arith;
       short = omega arith;
     }
@@ -50,13 +50,13 @@ returns c =
 enum-known-read : tie.Need-enum-known-read Inv-loop μ-loop
 enum-known-read c = search needs
 
-node-of : (c : tie.After-known-told Inv-loop μ-loop) → NodeHere (c .before .before .before .before .before .before .before .before .args .d .now) (c .before .before .before .before .before .loop .place) (c .before .read .given .0 .0)
+node-of : (c : tie.After-known-told Inv-loop μ-loop) → NodeHere (c .before .before .before .before .before .before .before .before .args .w) (c .before .before .before .before .before .before .before .before .args .d .now) (c .before .before .before .before .before .loop .place) (c .before .read .given .0 .0)
 node-of c = record { read = sym (c .before .read .given .1) ∙ c .before .before .before .read-node .ensures }
 
 put-node-requires : tie.Need-put-node-requires Inv-loop μ-loop
 put-node-requires c κs =
     let l = c .before .before .before .before .before .before in
-    (record { inside = l .loop .inv .0 .inside; few = omega arith; near = omega arith }, node-of (c .before))
+    (record { inside = l .loop .inv .0 .inside; few = omega arith; near = omega arith; wide = l .before .before .before .pre .0 .wide }, node-of (c .before))
 
 sub-pending : tie.Need-sub-pending Inv-loop μ-loop
 sub-pending c = omega arith
@@ -87,7 +87,7 @@ loop-again c =
       flat-more _ _ _ _ _ (l .loop .inv .0) _ is (omega (arith, c .struct-known .given)),
       omega arith,
       long ∙ l .loop .inv .2,
-      l .loop .inv .3 ∙ trees-more _ _ _ some _ is,
+      l .loop .inv .3 ∙ trees-more _ _ _ _ some _ is,
       λ f m r. left-on _ _ _ _ _ _ _ _ (l .loop .inv .4 f m r) some _ (node-of k) _ _ (put .put-node .ensures),
     )
 
@@ -100,7 +100,7 @@ returns-2 c =
     let none = c .loop-test .left in
     record {
       wrote = λ f m r. left-end _ _ _ _ _ _ _ _ (l .loop .inv .4 f m r) none;
-      ended = sym (l .loop .inv .3 ∙ trees-end _ _ _ none);
+      ended = sym (l .loop .inv .3 ∙ trees-end _ _ _ _ none);
       within = l .loop .inv .0 .inside;
       short = l .loop .inv .1;
     }

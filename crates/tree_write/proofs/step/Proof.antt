@@ -14,15 +14,15 @@ use Rattle.tree_write.proofs.step.Tie as tie
 abbrev start-of : tie.After-known-told → tie.Start
 start-of c = c .before .before .before .before .before .before .before
 
-here-of : (c : tie.After-known-told) → NodeHere (start-of c .args .d .now) (start-of c .args .w .place) (c .before .read .given .0 .0)
+here-of : (c : tie.After-known-told) → NodeHere (start-of c .args .w) (start-of c .args .d .now) (start-of c .args .way .place) (c .before .read .given .0 .0)
 here-of c = record { read = sym (c .before .read .given .1) ∙ c .before .before .before .read-node .ensures }
 
-node-of : (c : tie.After-known-told) → NodeIs (start-of c .args .d .now) (start-of c .args .w .place) (c .before .read .given .0 .0)
+node-of : (c : tie.After-known-told) → NodeIs (start-of c .args .w) (start-of c .args .d .now) (start-of c .args .way .place) (c .before .read .given .0 .0)
 node-of c = node-is _ _ (start-of c .pre .0 .room .inside) _ (here-of c .read)
 
 -- the name goes on after the node's name and a "/"
 after-of : (c : tie.Then1) → let st = start-of (c .before .before) in
-    st .args .w .from + (c .before .before .before .read .given .0 .0 .nul - st .args .w .place) + 1 ≤ length (st .args .name .now)
+    st .args .way .from + (c .before .before .before .read .given .0 .0 .nul - st .args .way .place) + 1 ≤ length (st .args .name .now)
 after-of c =
     let k = c .before .before in
     let is = node-of k in
@@ -51,26 +51,26 @@ put-invalid-requires c κs =
     let k = c .before .before .before in
     (start-of k .pre .0 .room, here-of k)
 
-sub-t13 : tie.Need-sub-t13
-sub-t13 c = search needs
+sub-t14 : tie.Need-sub-t14
+sub-t14 c = search needs
 
-cast-t14 : tie.Need-cast-t14
-cast-t14 c = search needs
+cast-t15 : tie.Need-cast-t15
+cast-t15 c = search needs
 
-add-t15 : tie.Need-add-t15
-add-t15 c = search needs
+add-t16 : tie.Need-add-t16
+add-t16 c = search needs
 
-sub-t16 : tie.Need-sub-t16
-sub-t16 c = node-of (c .before .before .before .before .before .before .before .before .before .before) .named
+sub-t17 : tie.Need-sub-t17
+sub-t17 c = node-of (c .before .before .before .before .before .before .before .before .before .before) .named
 
-add-t17 : tie.Need-add-t17
-add-t17 c =
+add-t18 : tie.Need-add-t18
+add-t18 c =
     let yes = c .before .before .before .before .before .before .before .before .before in
     let after = after-of yes in
     omega (arith, start-of (yes .before .before))
 
-add-t18 : tie.Need-add-t18
-add-t18 c =
+add-t19 : tie.Need-add-t19
+add-t19 c =
     let yes = c .before .before .before .before .before .before .before .before .before in
     let after = after-of yes in
     omega (arith, start-of (yes .before .before))
@@ -91,7 +91,7 @@ returns c =
     let short = put .put-invalid .ensures .short in
     record {
       ready = record {
-        room = record { inside = is .within; few = st .pre .0 .room .few; near = omega arith };
+        room = record { inside = is .within; few = st .pre .0 .room .few; near = omega arith; wide = st .pre .0 .room .wide };
         named = after-of yes;
         few = omega (arith, c .struct-known5 .given);
       };
@@ -105,8 +105,8 @@ returns c =
 put-trees-requires : tie.Need-put-trees-requires
 put-trees-requires c κs = search needs
 
-sub-t21 : tie.Need-sub-t21
-sub-t21 c = search needs
+sub-t22 : tie.Need-sub-t22
+sub-t22 c = search needs
 
 returns-2 : tie.Need-returns-2
 returns-2 c =
@@ -135,7 +135,7 @@ returns-3 c =
     let ended = t .ended in
     record {
       ready = record {
-        room = record { inside = t .within; few = st .pre .0 .room .few; near = omega arith };
+        room = record { inside = t .within; few = st .pre .0 .room .few; near = omega arith; wide = st .pre .0 .room .wide };
         named = st .pre .0 .named;
         few = omega arith;
       };
@@ -155,16 +155,16 @@ step-spec =
     enum-known-read
     is-under-requires
     put-invalid-requires
-    sub-t13
-    cast-t14
-    add-t15
-    sub-t16
-    add-t17
+    sub-t14
+    cast-t15
+    add-t16
+    sub-t17
     add-t18
+    add-t19
     same-length
     returns
     put-trees-requires
-    sub-t21
+    sub-t22
     returns-2
     same-length-2
     returns-3)

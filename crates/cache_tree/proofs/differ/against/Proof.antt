@@ -10,10 +10,10 @@ use Rattle.cache_tree.proofs.differ.against.Statement.{statement}
 use Rattle.cache_tree.proofs.differ.against.Tie as tie
 
 abbrev Inv-loop : tie.InvT-loop
-Inv-loop d a n b k t y₀ left₀ y left = (y ≤ length d) × (apart (namesOf n (drop a d)) (namesOf k (drop b d)) ≡ apart (namesOf n (drop a d)) (namesOf left (drop y d)))
+Inv-loop d a n b k t w y₀ left₀ y left = (y ≤ length d) × (apart (namesOf w n (drop a d)) (namesOf w k (drop b d)) ≡ apart (namesOf w n (drop a d)) (namesOf w left (drop y d)))
 
 abbrev μ-loop : tie.MeasureT-loop
-μ-loop d a n b k t y₀ left₀ y left = left
+μ-loop d a n b k t w y₀ left₀ y left = left
 
 loop-holds : tie.Need-loop-holds Inv-loop μ-loop
 loop-holds c = (c .before .pre .0, refl)
@@ -30,7 +30,7 @@ is-known-requires c κs =
 returns : tie.Need-returns Inv-loop μ-loop
 returns c =
     let l = c .before .before .before .before in
-    sym (l .loop .inv .1 ∙ apart-not _ (l .before .before .args .d .now) (l .loop .y) _ (c .before .before .before .loop-test .taken) (sym (c .before .is-known .ensures) ∙ c .if1 .taken))
+    sym (l .loop .inv .1 ∙ apart-not _ _ (l .before .before .args .d .now) (l .loop .y) _ (c .before .before .before .loop-test .taken) (sym (c .before .is-known .ensures) ∙ c .if1 .taken))
 
 sub-left : tie.Need-sub-left Inv-loop μ-loop
 sub-left c = omega arith
@@ -42,10 +42,10 @@ loop-again : tie.Need-loop-again Inv-loop μ-loop
 loop-again c =
     let l = c .before .before .before .before in
     let next = c .before .before .sibling-at .ensures in
-    (next .within, l .loop .inv .1 ∙ apart-next _ (l .before .before .args .d .now) (l .loop .y) _ (c .before .before .before .loop-test .taken) _ (next .after) (sym (c .before .is-known .ensures) ∙ c .if1 .left))
+    (next .within, l .loop .inv .1 ∙ apart-next _ _ (l .before .before .args .d .now) (l .loop .y) _ (c .before .before .before .loop-test .taken) _ (next .after) (sym (c .before .is-known .ensures) ∙ c .if1 .left))
 
 returns-2 : tie.Need-returns-2 Inv-loop μ-loop
-returns-2 c = sym (c .before .loop .inv .1 ∙ apart-end _ (c .before .before .before .args .d .now) (c .before .loop .y) _ (c .loop-test .left))
+returns-2 c = sym (c .before .loop .inv .1 ∙ apart-end _ _ (c .before .before .before .args .d .now) (c .before .loop .y) _ (c .loop-test .left))
 
 pub against-spec : {M : Type 1} → statement M
 against-spec =

@@ -10,10 +10,10 @@ use Rattle.cache_tree.proofs.differ.differ.Statement.{statement}
 use Rattle.cache_tree.proofs.differ.differ.Tie as tie
 
 abbrev Inv-loop : tie.InvT-loop
-Inv-loop d a k t₀ x₀ left₀ t x left = (x ≤ length d) × (length t ≡ 3126) × (namesDiffer (namesOf k (drop a d)) ≡ namesDiffer (namesOf left (drop x d)))
+Inv-loop d a k t₀ w x₀ left₀ t x left = (x ≤ length d) × (length t ≡ 3126) × (namesDiffer (namesOf w k (drop a d)) ≡ namesDiffer (namesOf w left (drop x d)))
 
 abbrev μ-loop : tie.MeasureT-loop
-μ-loop d a k t₀ x₀ left₀ t x left = left
+μ-loop d a k t₀ w x₀ left₀ t x left = left
 
 make-seed-requires : tie.Need-make-seed-requires Inv-loop μ-loop
 make-seed-requires c κs = search needs
@@ -37,7 +37,7 @@ enum-told : tie.Need-enum-told Inv-loop μ-loop
 enum-told c = search needs
 
 returns : tie.Need-returns Inv-loop μ-loop
-returns c = (sym (c .before .before .before .before .before .before .before .before .loop .inv .2 ∙ chunk-equal _ _ _ refl _ (c .before .before .before .before .before .before .chunk-size .ensures .0) (c .before .before .fill .ensures .1 .equal (c .enum-told .given .1))), c .before .before .fill .ensures .0)
+returns c = (sym (c .before .before .before .before .before .before .before .before .loop .inv .2 ∙ chunk-equal _ _ _ _ refl _ (c .before .before .before .before .before .before .chunk-size .ensures .0) (c .before .before .fill .ensures .1 .equal (c .enum-told .given .1))), c .before .before .fill .ensures .0)
 
 sub-against : tie.Need-sub-against Inv-loop μ-loop
 sub-against c = c .before .before .before .before .before .before .before .chunk-size .ensures .0
@@ -54,15 +54,15 @@ loop-less c = omega (arith, c .before .before .before .before .before .before .b
 loop-again : tie.Need-loop-again Inv-loop μ-loop
 loop-again c =
     let f = c .before .before .before .before .before .before .fill .ensures .1 .next _ (c .before .before .before .before .filled .given .1) in
-    (f .0, c .before .before .before .before .before .before .fill .ensures .0, c .before .before .before .before .before .before .before .before .before .before .before .before .loop .inv .2 ∙ chunk-apart _ _ _ (f .1) _ (c .before .before .before .before .before .before .before .before .before .before .chunk-size .ensures .0) (f .2) (sym (c .before .against .ensures) ∙ c .if1 .taken))
+    (f .0, c .before .before .before .before .before .before .fill .ensures .0, c .before .before .before .before .before .before .before .before .before .before .before .before .loop .inv .2 ∙ chunk-apart _ _ _ _ (f .1) _ (c .before .before .before .before .before .before .before .before .before .before .chunk-size .ensures .0) (f .2) (sym (c .before .against .ensures) ∙ c .if1 .taken))
 
 returns-2 : tie.Need-returns-2 Inv-loop μ-loop
 returns-2 c =
     let f = c .before .before .before .before .before .before .fill .ensures .1 .next _ (c .before .before .before .before .filled .given .1) in
-    (sym (c .before .before .before .before .before .before .before .before .before .before .before .before .loop .inv .2 ∙ chunk-known _ _ _ (f .1) _ (c .before .before .before .before .before .before .before .before .before .before .chunk-size .ensures .0) (f .2) (sym (c .before .against .ensures) ∙ c .if1 .left)), c .before .before .before .before .before .before .fill .ensures .0)
+    (sym (c .before .before .before .before .before .before .before .before .before .before .before .before .loop .inv .2 ∙ chunk-known _ _ _ _ (f .1) _ (c .before .before .before .before .before .before .before .before .before .before .chunk-size .ensures .0) (f .2) (sym (c .before .against .ensures) ∙ c .if1 .left)), c .before .before .before .before .before .before .fill .ensures .0)
 
 returns-3 : tie.Need-returns-3 Inv-loop μ-loop
-returns-3 c = (sym (c .before .loop .inv .2 ∙ differ-none (c .before .before .before .before .before .args .d .now) (c .before .loop .x) _ (c .loop-test .left)), c .before .loop .inv .1)
+returns-3 c = (sym (c .before .loop .inv .2 ∙ differ-none _ (c .before .before .before .before .before .args .d .now) (c .before .loop .x) _ (c .loop-test .left)), c .before .loop .inv .1)
 
 pub differ-spec : {M : Type 1} → statement M
 differ-spec =

@@ -11,19 +11,19 @@ use Rattle.cache_tree.proofs.differ.fill.Statement.{statement}
 use Rattle.cache_tree.proofs.differ.fill.Tie as tie
 
 abbrev Inv-loop : tie.InvT-loop
-Inv-loop d a k t₀ y₀ n₀ t y n =
+Inv-loop d a k t₀ w y₀ n₀ t y n =
     (y ≤ length d)
     × (n ≤ k)
-    × (drop y d ≡ restAfter n (drop a d))
-    × (namesDiffer (namesOf n (drop a d)) ≡ true)
-    × (allHeld t (namesOf n (drop a d)) ≡ true)
+    × (drop y d ≡ restAfter w n (drop a d))
+    × (namesDiffer (namesOf w n (drop a d)) ≡ true)
+    × (allHeld t (namesOf w n (drop a d)) ≡ true)
     × (length t ≡ 3126)
 
 abbrev μ-loop : tie.MeasureT-loop
-μ-loop d a k t₀ y₀ n₀ t y n = k - n
+μ-loop d a k t₀ w y₀ n₀ t y n = k - n
 
 loop-holds : tie.Need-loop-holds Inv-loop μ-loop
-loop-holds c = let p = c .before .pre in (p .0, omega arith, after-start _, differ-start _, held-start _ _, p .2)
+loop-holds c = let p = c .before .pre in (p .0, omega arith, after-start _ _, differ-start _ _, held-start _ _ _, p .2)
 
 sibling-at-requires : tie.Need-sibling-at-requires Inv-loop μ-loop
 sibling-at-requires c κs = (c .before .loop .inv .0, c .before .before .before .pre .1)
@@ -37,7 +37,7 @@ put-requires c κs =
 returns : tie.Need-returns Inv-loop μ-loop
 returns c =
     let l = c .before .before .before .before .before in
-    (put-length _ _ _ (c .before .put .ensures .1) ∙ l .loop .inv .5, filled-equal _ _ _ _ (fill-equal (l .loop .n) _ _ (l .loop .inv .2) _ (c .before .before .before .before .loop-test .taken) (l .loop .inv .3) (sym (c .before .put .ensures .0) ∙ c .if1 .taken)))
+    (put-length _ _ _ (c .before .put .ensures .1) ∙ l .loop .inv .5, filled-equal _ _ _ _ (fill-equal _ (l .loop .n) _ _ (l .loop .inv .2) _ (c .before .before .before .before .loop-test .taken) (l .loop .inv .3) (sym (c .before .put .ensures .0) ∙ c .if1 .taken)))
 
 add-n : tie.Need-add-n Inv-loop μ-loop
 add-n c = omega arith
@@ -55,9 +55,9 @@ loop-again c =
     let room : 3072 ≤ length (l .loop .t) = omega arith in (
       next .within,
       omega arith,
-      fill-rest (l .loop .n) _ _ at d (l .loop .y) _ refl (next .after),
-      fill-differ (l .loop .n) _ _ at (l .loop .inv .3) (sym (c .before .put .ensures .0) ∙ c .if1 .left),
-      fill-held (l .loop .n) _ _ at _ _ room (c .before .put .ensures .1) (l .loop .inv .4),
+      fill-rest _ (l .loop .n) _ _ at d (l .loop .y) _ refl (next .after),
+      fill-differ _ (l .loop .n) _ _ at (l .loop .inv .3) (sym (c .before .put .ensures .0) ∙ c .if1 .left),
+      fill-held _ (l .loop .n) _ _ at _ _ room (c .before .put .ensures .1) (l .loop .inv .4),
       put-length _ _ _ (c .before .put .ensures .1) ∙ same,
     )
 

@@ -56,17 +56,17 @@ read-subtree-below t =
     read-subtree.Pre
 
 abbrev read-list-Inv-loop : read-list-lts.InvT-loop
-read-list-Inv-loop d at levels k t₀ place₀ previous₀ left₀ nodes₀ rises₀ t place previous left nodes rises =
+read-list-Inv-loop d at levels k t₀ w place₀ previous₀ left₀ nodes₀ rises₀ t place previous left nodes rises =
     (at + nodes ≤ place)
     × (place ≤ length d)
     × (previous ≤ place)
     × (length t ≡ 3126)
-    × (listAt at (tested distinctBelow (readForest 20 0 levels k (drop at d))) ≡ plus nodes (listAt place (tested distinctBelow (readForest 20 0 levels left (drop place d)))))
-    × Rises false d at k previous place left (rises .«by_slash»)
-    × Rises true d at k previous place left (rises .«by_length»)
+    × (listAt at (tested distinctBelow (readForest w 0 levels k (drop at d))) ≡ plus nodes (listAt place (tested distinctBelow (readForest w 0 levels left (drop place d)))))
+    × Rises w false d at k previous place left (rises .«by_slash»)
+    × Rises w true d at k previous place left (rises .«by_length»)
 
 abbrev read-list-μ-loop : read-list-lts.MeasureT-loop
-read-list-μ-loop d at levels k t₀ place₀ previous₀ left₀ nodes₀ rises₀ t place previous left nodes rises =
+read-list-μ-loop d at levels k t₀ w place₀ previous₀ left₀ nodes₀ rises₀ t place previous left nodes rises =
     left
 
 -- the sibling that was read
@@ -80,10 +80,10 @@ read-list-one : (t : ℕ) (c : read-list-lts.After-known-told (
 ) (read-list-at t) read-list.Post read-list-Inv-loop read-list-μ-loop) → ListIs distinctBelow
     (c .before .before .before .before .before .before .before .before .args .d .now)
     (c .before .before .before .before .before .before .loop .place)
-    (readOne (c .before .before .before .before .before .before .before .before .args .levels) (drop (c .before .before .before .before .before .before .loop .place) (c .before .before .before .before .before .before .before .before .args .d .now)))
+    (readOne (c .before .before .before .before .before .before .before .before .args .w) (c .before .before .before .before .before .before .before .before .args .levels) (drop (c .before .before .before .before .before .before .loop .place) (c .before .before .before .before .before .before .before .before .args .d .now)))
     (c .before .read .given .0 .0)
     (c .before .read .given .0 .1 .0)
-read-list-one t c = list-is distinctBelow _ _ _ _ (c .before .before .before .before .before .before .loop .inv .1) _ (subtree-sized _ _) (sym (c .before .read .given .1) ∙ c .before .before .before .read-subtree .ensures .0)
+read-list-one t c = list-is distinctBelow _ _ _ _ (c .before .before .before .before .before .before .loop .inv .1) _ (subtree-sized _ _ _) (sym (c .before .read .given .1) ∙ c .before .before .before .read-subtree .ensures .0)
 
 -- the whole list, but for its own names
 read-list-all : (t : ℕ) (c : read-list-lts.After-loop (
@@ -96,10 +96,10 @@ read-list-all : (t : ℕ) (c : read-list-lts.After-loop (
 ) (read-list-at t) read-list.Post read-list-Inv-loop read-list-μ-loop) → ListIs distinctBelow
     (c .before .before .before .args .d .now)
     (c .before .before .before .args .at)
-    (readForest 20 0 (c .before .before .before .args .levels) (c .before .before .before .args .k) (drop (c .before .before .before .args .at) (c .before .before .before .args .d .now)))
+    (readForest (c .before .before .before .args .w) 0 (c .before .before .before .args .levels) (c .before .before .before .args .k) (drop (c .before .before .before .args .at) (c .before .before .before .args .d .now)))
     (c .before .loop .place)
     (c .before .loop .nodes)
-read-list-all t c = list-all _ _ _ _ _ _ _ (c .before .loop .inv .4) (c .before .before .before .pre .1 .0) (c .loop-test .left)
+read-list-all t c = list-all _ _ _ _ _ _ _ _ (c .before .loop .inv .4) (c .before .before .before .pre .1 .0) (c .loop-test .left)
 
 read-list-loop-holds : (t : ℕ) → read-list-lts.Need-loop-holds (
   read-subtree-below t,
@@ -149,7 +149,7 @@ read-list-returns : (t : ℕ) → read-list-lts.Need-returns (
   differ-reads.Asked,
   differ-reads.Learnt,
 ) (read-list-at t) read-list.Post read-list-Inv-loop read-list-μ-loop
-read-list-returns t c = (list-bad _ _ _ _ _ _ _ (c .before .before .before .before .before .loop .inv .4) (c .before .before .before .before .loop-test .taken) (sym (c .enum-told .given .1) ∙ c .before .before .read-subtree .ensures .0), c .before .before .read-subtree .ensures .1)
+read-list-returns t c = (list-bad _ _ _ _ _ _ _ _ (c .before .before .before .before .before .loop .inv .4) (c .before .before .before .before .loop-test .taken) (sym (c .enum-told .given .1) ∙ c .before .before .read-subtree .ensures .0), c .before .before .read-subtree .ensures .1)
 
 read-list-rise-requires : (t : ℕ) → read-list-lts.Need-rise-requires (
   read-subtree-below t,
@@ -208,14 +208,14 @@ read-list-loop-again t c =
     let one = read-list-one t (c .before) in
     let few = one .few in
     let some = c .before .before .before .before .before .before .loop-test .taken in
-    let more = one-length _ _ _ _ _ one in (
+    let more = one-length _ _ _ _ _ _ one in (
       omega arith,
       one .within,
       omega arith,
       c .before .before .before .before .read-subtree .ensures .1,
-      loop-more _ _ _ _ _ _ (l .loop .inv .4) _ _ some one,
-      rises-next false _ _ _ _ _ _ _ _ _ (l .loop .inv .5) some (more .0) (more .1) (c .rise .ensures .0),
-      rises-next true _ _ _ _ _ _ _ _ _ (l .loop .inv .6) some (more .0) (more .1) (c .rise .ensures .1),
+      loop-more _ _ _ _ _ _ _ (l .loop .inv .4) _ _ some one,
+      rises-next _ false _ _ _ _ _ _ _ _ _ (l .loop .inv .5) some (more .0) (more .1) (c .rise .ensures .0),
+      rises-next _ true _ _ _ _ _ _ _ _ _ (l .loop .inv .6) some (more .0) (more .1) (c .rise .ensures .1),
     )
 
 read-list-returns-2 : (t : ℕ) → read-list-lts.Need-returns-2 (
@@ -226,7 +226,7 @@ read-list-returns-2 : (t : ℕ) → read-list-lts.Need-returns-2 (
   differ-reads.Asked,
   differ-reads.Learnt,
 ) (read-list-at t) read-list.Post read-list-Inv-loop read-list-μ-loop
-read-list-returns-2 t c = let l = c .before .before in (list-differs _ _ _ _ _ _ (read-list-all t (c .before)) (rises-all false _ _ _ _ _ _ _ (l .loop .inv .5) (c .before .loop-test .left) (c .if1 .taken)), l .loop .inv .3)
+read-list-returns-2 t c = let l = c .before .before in (list-differs _ _ _ _ _ _ _ (read-list-all t (c .before)) (rises-all _ false _ _ _ _ _ _ _ (l .loop .inv .5) (c .before .loop-test .left) (c .if1 .taken)), l .loop .inv .3)
 
 read-list-returns-3 : (t : ℕ) → read-list-lts.Need-returns-3 (
   read-subtree-below t,
@@ -236,7 +236,7 @@ read-list-returns-3 : (t : ℕ) → read-list-lts.Need-returns-3 (
   differ-reads.Asked,
   differ-reads.Learnt,
 ) (read-list-at t) read-list.Post read-list-Inv-loop read-list-μ-loop
-read-list-returns-3 t c = let l = c .before .before .before in (list-differs _ _ _ _ _ _ (read-list-all t (c .before .before)) (rises-all true _ _ _ _ _ _ _ (l .loop .inv .6) (c .before .before .loop-test .left) (c .if2 .taken)), l .loop .inv .3)
+read-list-returns-3 t c = let l = c .before .before .before in (list-differs _ _ _ _ _ _ _ (read-list-all t (c .before .before)) (rises-all _ true _ _ _ _ _ _ _ (l .loop .inv .6) (c .before .before .loop-test .left) (c .if2 .taken)), l .loop .inv .3)
 
 read-list-differ-requires : (t : ℕ) → read-list-lts.Need-differ-requires (
   read-subtree-below t,
@@ -256,7 +256,7 @@ read-list-returns-4 : (t : ℕ) → read-list-lts.Need-returns-4 (
   differ-reads.Asked,
   differ-reads.Learnt,
 ) (read-list-at t) read-list.Post read-list-Inv-loop read-list-μ-loop
-read-list-returns-4 t c = (list-differs _ _ _ _ _ _ (read-list-all t (c .before .before .before .before .before)) (sym (c .before .differ .ensures .0) ∙ c .if3 .taken), c .before .differ .ensures .1)
+read-list-returns-4 t c = (list-differs _ _ _ _ _ _ _ (read-list-all t (c .before .before .before .before .before)) (sym (c .before .differ .ensures .0) ∙ c .if3 .taken), c .before .differ .ensures .1)
 
 read-list-returns-5 : (t : ℕ) → read-list-lts.Need-returns-5 (
   read-subtree-below t,
@@ -266,7 +266,7 @@ read-list-returns-5 : (t : ℕ) → read-list-lts.Need-returns-5 (
   differ-reads.Asked,
   differ-reads.Learnt,
 ) (read-list-at t) read-list.Post read-list-Inv-loop read-list-μ-loop
-read-list-returns-5 t c = (list-equal _ _ _ _ _ _ (read-list-all t (c .before .before .before .before .before)) (sym (c .before .differ .ensures .0) ∙ c .if3 .left), c .before .differ .ensures .1)
+read-list-returns-5 t c = (list-equal _ _ _ _ _ _ _ (read-list-all t (c .before .before .before .before .before)) (sym (c .before .differ .ensures .0) ∙ c .if3 .left), c .before .differ .ensures .1)
 
 -- the node that was read
 read-subtree-node : (t : ℕ) (c : read-subtree-lts.After-known-told (
@@ -278,7 +278,7 @@ read-subtree-node : (t : ℕ) (c : read-subtree-lts.After-known-told (
   read-list.Post,
   with-root-reads.Asked,
   with-root-reads.Learnt,
-) (read-subtree-at t) read-subtree.Post) → NodeIs (c .before .before .before .before .before .before .args .d .now) (c .before .before .before .before .before .before .args .at) (c .before .read .given .0 .0)
+) (read-subtree-at t) read-subtree.Post) → NodeIs (c .before .before .before .before .before .before .args .w) (c .before .before .before .before .before .before .args .d .now) (c .before .before .before .before .before .before .args .at) (c .before .read .given .0 .0)
 read-subtree-node t c = node-is _ _ (c .before .before .before .before .before .before .pre .1 .0) _ (sym (c .before .read .given .1) ∙ c .before .before .before .read-node .ensures)
 
 read-subtree-returns : (t : ℕ) → read-subtree-lts.Need-returns (
@@ -291,7 +291,7 @@ read-subtree-returns : (t : ℕ) → read-subtree-lts.Need-returns (
   with-root-reads.Asked,
   with-root-reads.Learnt,
 ) (read-subtree-at t) read-subtree.Post
-read-subtree-returns t c = (sym (one-none _ _ _ (c .if1 .taken)), c .before .before .pre .1 .3)
+read-subtree-returns t c = (sym (one-none _ _ _ _ (c .if1 .taken)), c .before .before .pre .1 .3)
 
 read-subtree-read-node-requires : (t : ℕ) → read-subtree-lts.Need-read-node-requires (
   read-node-reads.Asked,
@@ -419,7 +419,7 @@ read-subtree-with-root-requires : (t : ℕ) → read-subtree-lts.Need-with-root-
 read-subtree-with-root-requires t c κs =
     let s = c .before .before .before .before .before .before .before .before .before .before .before in
     let p = s .pre in
-    let few = list-few distinct (s .args .d .now) (c .before .before .before .before .before .before .read .given .0 .0 .next) _ _ (forest-sized _ _ _) (c .read-list .ensures .0) in
+    let few = list-few distinct (s .args .d .now) (c .before .before .before .before .before .before .read .given .0 .0 .next) _ _ (forest-sized _ _ _ _) (c .read-list .ensures .0) in
     omega arith
 
 read-subtree-returns-2 : (t : ℕ) → read-subtree-lts.Need-returns-2 (
@@ -434,7 +434,7 @@ read-subtree-returns-2 : (t : ℕ) → read-subtree-lts.Need-returns-2 (
 ) (read-subtree-at t) read-subtree.Post
 read-subtree-returns-2 t c =
     let n = read-subtree-node t (c .before .before .before .before .before .before) in
-    (c .with-root .ensures ∙ ap rooted (c .before .read-list .ensures .0) ∙ sym (one-rooted _ _ _ (c .before .before .before .before .before .before .before .before .before .before .if1 .left) _ n (sym (c .before .before .before .if2 .taken) ∙ c .before .before .before .before .name-ok .ensures)), c .before .read-list .ensures .1)
+    (c .with-root .ensures ∙ ap rooted (c .before .read-list .ensures .0) ∙ sym (one-rooted _ _ _ _ (c .before .before .before .before .before .before .before .before .before .before .if1 .left) _ n (sym (c .before .before .before .if2 .taken) ∙ c .before .before .before .before .name-ok .ensures)), c .before .read-list .ensures .1)
 
 read-subtree-returns-3 : (t : ℕ) → read-subtree-lts.Need-returns-3 (
   read-node-reads.Asked,
@@ -446,7 +446,7 @@ read-subtree-returns-3 : (t : ℕ) → read-subtree-lts.Need-returns-3 (
   with-root-reads.Asked,
   with-root-reads.Learnt,
 ) (read-subtree-at t) read-subtree.Post
-read-subtree-returns-3 t c = (sym (one-no-node _ _ _ (c .before .before .before .if1 .left) (sym (c .enum-told .given .1) ∙ c .before .before .read-node .ensures)), c .before .before .before .before .before .pre .1 .3)
+read-subtree-returns-3 t c = (sym (one-no-node _ _ _ _ (c .before .before .before .if1 .left) (sym (c .enum-told .given .1) ∙ c .before .before .read-node .ensures)), c .before .before .before .before .before .pre .1 .3)
 
 read-subtree-returns-4 : (t : ℕ) → read-subtree-lts.Need-returns-4 (
   read-node-reads.Asked,
@@ -460,7 +460,7 @@ read-subtree-returns-4 : (t : ℕ) → read-subtree-lts.Need-returns-4 (
 ) (read-subtree-at t) read-subtree.Post
 read-subtree-returns-4 t c =
     let n = read-subtree-node t (c .before .before .before) in
-    (sym (one-no-name _ _ _ (c .before .before .before .before .before .before .before .if1 .left) _ n (sym (c .if2 .left) ∙ c .before .name-ok .ensures)), c .before .before .before .before .before .before .before .before .before .pre .1 .3)
+    (sym (one-no-name _ _ _ _ (c .before .before .before .before .before .before .before .if1 .left) _ n (sym (c .if2 .left) ∙ c .before .name-ok .ensures)), c .before .before .before .before .before .before .before .before .before .pre .1 .3)
 
 pub +read-list+read-subtree-spec : {M : Type 1} → statement M
 +read-list+read-subtree-spec = close μ-read-list μ-read-subtree (λ t. read-list-lts.spec (

@@ -19,7 +19,7 @@ find-requires : tie.Need-find-requires
 find-requires c κs = search needs
 
 returns : tie.Need-returns
-returns c = sym (node-none _ _ _ (c .before .find .ensures .0) (c .if1 .taken))
+returns c = sym (node-none _ _ _ _ (c .before .find .ensures .0) (c .if1 .taken))
 
 add-read-count : tie.Need-add-read-count
 add-read-count c = search needs
@@ -34,7 +34,7 @@ enum-told : tie.Need-enum-told
 enum-told c = search needs
 
 returns-2 : tie.Need-returns-2
-returns-2 c = sym (node-no-count _ _ _ (c .before .before .before .before .find .ensures .0) (omega arith) (sym (c .enum-told .given .1) ∙ c .before .before .read-count .ensures))
+returns-2 c = sym (node-no-count _ _ _ _ (c .before .before .before .before .find .ensures .0) (omega arith) (sym (c .enum-told .given .1) ∙ c .before .before .read-count .ensures))
 
 read-subtrees-requires : tie.Need-read-subtrees-requires
 read-subtrees-requires c κs = count-of c .within
@@ -46,7 +46,7 @@ enum-told-2 : tie.Need-enum-told-2
 enum-told-2 c = search needs
 
 returns-3 : tie.Need-returns-3
-returns-3 c = sym (node-no-subtrees _ _ _ (c .before .before .before .before .before .before .before .before .find .ensures .0) (omega arith) _ _ _ (count-of (c .before .before .before)) (sym (c .enum-told2 .given .1) ∙ c .before .before .read-subtrees .ensures))
+returns-3 c = sym (node-no-subtrees _ _ _ _ (c .before .before .before .before .before .before .before .before .find .ensures .0) (omega arith) _ _ _ (count-of (c .before .before .before)) (sym (c .enum-told2 .given .1) ∙ c .before .before .read-subtrees .ensures))
 
 object-length-requires : tie.Need-object-length-requires
 object-length-requires c κs = search needs
@@ -55,15 +55,15 @@ sub-if2 : tie.Need-sub-if2
 sub-if2 c = subtrees-of (c .before) .within
 
 returns-4 : tie.Need-returns-4
-returns-4 c = sym (node-short _ _ _ (c .before .before .before .before .before .before .before .before .before .before .before .find .ensures .0) (omega arith) _ _ _ (count-of (c .before .before .before .before .before .before)) _ _ (subtrees-of (c .before .before)) _ (c .before .object-length .ensures) (c .if2 .taken))
+returns-4 c = sym (node-short _ _ _ _ (c .before .before .before .before .before .before .before .before .before .before .before .find .ensures .0) (omega arith) _ _ _ (count-of (c .before .before .before .before .before .before)) _ _ (subtrees-of (c .before .before)) _ (c .before .object-length .ensures) (c .if2 .taken))
 
-add-t12 : tie.Need-add-t12
-add-t12 c =
+add-t13 : tie.Need-add-t13
+add-t13 c =
     let within = subtrees-of (c .before .before) .within in
     omega arith
 
 returns-5 : tie.Need-returns-5
-returns-5 c = sym (node-good _ _ _ (c .before .before .before .before .before .before .before .before .before .before .before .find .ensures .0) (omega arith) _ _ _ (count-of (c .before .before .before .before .before .before)) _ _ (subtrees-of (c .before .before)) _ (c .before .object-length .ensures) (c .if2 .left))
+returns-5 c = sym (node-good _ _ _ _ (c .before .before .before .before .before .before .before .before .before .before .before .find .ensures .0) (omega arith) _ _ _ (count-of (c .before .before .before .before .before .before)) _ _ (subtrees-of (c .before .before)) _ (c .before .object-length .ensures) (c .if2 .left))
 
 pub read-node-spec : {M : Type 1} → statement M
 read-node-spec =
@@ -83,5 +83,5 @@ read-node-spec =
     object-length-requires
     sub-if2
     returns-4
-    add-t12
+    add-t13
     returns-5)

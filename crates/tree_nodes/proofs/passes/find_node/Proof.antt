@@ -14,11 +14,11 @@ use Rattle.tree_nodes.proofs.passes.find_node.Statement.{statement}
 use Rattle.tree_nodes.proofs.passes.find_node.Tie as tie
 
 abbrev Inv-loop : tie.InvT-loop
-Inv-loop d k remaining₀ depth₀ place₀ left₀ remaining depth place left =
-    (place ≤ length d) × (nodeStart 20 k d ≡ place + nodeStart 20 left (drop place d)) × (length remaining ≡ 128) × (depth < 128) × Passing d k place left (stackOf remaining (suc depth))
+Inv-loop d k w remaining₀ depth₀ place₀ left₀ remaining depth place left =
+    (place ≤ length d) × (nodeStart w k d ≡ place + nodeStart w left (drop place d)) × (length remaining ≡ 128) × (depth < 128) × Passing w d k place left (stackOf remaining (suc depth))
 
 abbrev μ-loop : tie.MeasureT-loop
-μ-loop d k remaining₀ depth₀ place₀ left₀ remaining depth place left = left
+μ-loop d k w remaining₀ depth₀ place₀ left₀ remaining depth place left = left
 
 array-write-remaining : tie.Need-array-write-remaining Inv-loop μ-loop
 array-write-remaining c = search needs
@@ -38,7 +38,7 @@ returns c =
     let l = c .before .before .before .before in
     let none = sym (c .enum-told .given .1) ∙ c .before .before .read-node .ensures in
     record {
-      place = sym (l .loop .inv .1 ∙ place-stop _ _ _ (c .before .before .before .loop-test .taken) (l .loop .inv .0) none);
+      place = sym (l .loop .inv .1 ∙ place-stop _ _ _ _ (c .before .before .before .loop-test .taken) (l .loop .inv .0) none);
       inside = omega arith;
       level = λ t m z e few. absurd (passing-stop _ _ _ _ _ _ (l .loop .inv .4) none t m e few);
     }
@@ -65,23 +65,23 @@ loop-again c =
     let some = n .before .before .before .loop-test .taken in
     let is = node-is _ _ (l .loop .inv .0) _ (sym (n .read .given .1) ∙ n .before .before .read-node .ensures) in (
       is .within,
-      l .loop .inv .1 ∙ place-more _ _ _ some _ is,
+      l .loop .inv .1 ∙ place-more _ _ _ _ some _ is,
       c .before .before .enter .ensures .0,
       c .climb .ensures .0,
       passing-more _ _ _ _ _ _ (l .loop .inv .4) some _ is _ (λ deep. c .climb .ensures .1 ∙ c .before .before .enter .ensures .2 deep),
     )
 
-cast-t16 : tie.Need-cast-t16 Inv-loop μ-loop
-cast-t16 c = omega arith
+cast-t17 : tie.Need-cast-t17 Inv-loop μ-loop
+cast-t17 c = omega arith
 
-add-t17 : tie.Need-add-t17 Inv-loop μ-loop
-add-t17 c = omega arith
+add-t18 : tie.Need-add-t18 Inv-loop μ-loop
+add-t18 c = omega arith
 
 returns-2 : tie.Need-returns-2 Inv-loop μ-loop
 returns-2 c =
     let l = c .before in
     record {
-      place = sym (l .loop .inv .1 ∙ place-end _ _ _ (c .loop-test .left));
+      place = sym (l .loop .inv .1 ∙ place-end _ _ _ _ (c .loop-test .left));
       inside = l .loop .inv .0;
       level = λ t m z e few. omega (arith, passing-end _ _ _ _ _ _ (l .loop .inv .4) (c .loop-test .left) t m z e few);
     }
@@ -103,6 +103,6 @@ find-node-spec =
     sub-left
     loop-less
     loop-again
-    cast-t16
-    add-t17
+    cast-t17
+    add-t18
     returns-2)

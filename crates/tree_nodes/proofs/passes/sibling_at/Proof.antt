@@ -12,7 +12,7 @@ use Rattle.tree_nodes.proofs.passes.sibling_at.Statement.{statement}
 use Rattle.tree_nodes.proofs.passes.sibling_at.Tie as tie
 
 -- the node that was read
-node-of : (c : tie.After-known-told) → NodeIs (c .before .before .before .before .before .args .d .now) (c .before .before .before .before .before .args .at) (c .before .read .given .0 .0)
+node-of : (c : tie.After-known-told) → NodeIs (c .before .before .before .before .before .args .w) (c .before .before .before .before .before .args .d .now) (c .before .before .before .before .before .args .at) (c .before .read .given .0 .0)
 node-of c = node-is _ _ (c .before .before .before .before .before .pre .0) _ (sym (c .before .read .given .1) ∙ c .before .before .before .read-node .ensures)
 
 read-node-requires : tie.Need-read-node-requires
@@ -35,7 +35,7 @@ returns c =
     let st = c .before .before .before .before .before in
     record {
       ends = record { least = omega (arith, c .find .ensures .0); most = c .find .ensures .1; name = name-is _ _ _ (c .find .ensures .0) };
-      after = sym (trees-stop _ _ 1 (omega arith) (st .pre .0) (sym (c .before .enum-told .given .1) ∙ c .before .before .before .read-node .ensures));
+      after = sym (trees-stop _ _ _ 1 (omega arith) (st .pre .0) (sym (c .before .enum-told .given .1) ∙ c .before .before .before .read-node .ensures));
       within = omega arith;
     }
 
@@ -44,11 +44,12 @@ returns-2 c =
     let is = node-of (c .before) in
     let node = c .before .before .read .given .0 .0 in
     let d = c .before .before .before .before .before .before .args .d .now in
+    let w = c .before .before .before .before .before .before .args .w in
     let t = c .after-trees .ensures in
     let e : node .subtrees ≡ 1 - 1 + node .subtrees = omega arith in
     record {
       ends = record { least = is .named; most = omega (arith, is .ended, is .within); name = node-name-is _ _ _ is };
-      after = t .0 ∙ ap (λ (n : ℕ). node .next + treesLength n (drop (node .next) d)) e ∙ sym (trees-more _ _ 1 (omega arith) _ is);
+      after = t .0 ∙ ap (λ (n : ℕ). node .next + treesLength w n (drop (node .next) d)) e ∙ sym (trees-more _ _ _ 1 (omega arith) _ is);
       within = t .1;
     }
 

@@ -10,10 +10,10 @@ use Rattle.tree_search.proofs.child.is_longer.Statement.{statement}
 use Rattle.tree_search.proofs.child.is_longer.Tie as tie
 
 abbrev Inv-loop : tie.InvT-loop
-Inv-loop d at k limit place₀ pending₀ place pending = FlatPass d at k place pending
+Inv-loop d at k limit w place₀ pending₀ place pending = FlatPass d at k place pending
 
 abbrev μ-loop : tie.MeasureT-loop
-μ-loop d at k limit place₀ pending₀ place pending = length d - place
+μ-loop d at k limit w place₀ pending₀ place pending = length d - place
 
 loop-holds : tie.Need-loop-holds Inv-loop μ-loop
 loop-holds c = flat-start _ _ _ (c .before .pre .0)

@@ -6,10 +6,10 @@ use Rattle.tree_search.proofs.child.scan.Statement.{statement}
 use Rattle.tree_search.proofs.child.scan.Tie as tie
 
 abbrev Inv-loop : tie.InvT-loop
-Inv-loop d at k name place₀ left₀ place left = Scanning d at k name place left
+Inv-loop d at k name w place₀ left₀ place left = Scanning w d at k name place left
 
 abbrev μ-loop : tie.MeasureT-loop
-μ-loop d at k name place₀ left₀ place left = left
+μ-loop d at k name w place₀ left₀ place left = left
 
 loop-holds : tie.Need-loop-holds Inv-loop μ-loop
 loop-holds c = scan-start _ _ _ _ (c .before .before .pre .0)

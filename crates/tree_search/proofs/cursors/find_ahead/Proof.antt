@@ -10,10 +10,10 @@ use Rattle.tree_search.proofs.cursors.find_ahead.Statement.{statement}
 use Rattle.tree_search.proofs.cursors.find_ahead.Tie as tie
 
 abbrev Inv-loop : tie.InvT-loop
-Inv-loop d name from count by-length place₀ left₀ place left = (place ≤ length d) × ((at k : ℕ) → Cursor d at k from count → Cursor d at k place left)
+Inv-loop d name from count by-length w place₀ left₀ place left = (place ≤ length d) × ((at k : ℕ) → Cursor w d at k from count → Cursor w d at k place left)
 
 abbrev μ-loop : tie.MeasureT-loop
-μ-loop d name from count by-length place₀ left₀ place left = left
+μ-loop d name from count by-length w place₀ left₀ place left = left
 
 loop-holds : tie.Need-loop-holds Inv-loop μ-loop
 loop-holds c = (omega arith, λ at k h. h)

@@ -15,7 +15,7 @@ open-row-requires : tie.Need-open-row-requires
 open-row-requires c κs = search needs
 
 find-in-row-requires : tie.Need-find-in-row-requires
-find-in-row-requires c κs = let p = c .before .before .before .before .before .before .before .pre in (p .1, c .before .open-row .ensures _ (p .0) (p .2))
+find-in-row-requires c κs = let p = c .before .before .before .before .before .before .before .pre in (p .1, c .before .open-row .ensures _ _ (p .0) (p .2))
 
 returns-3 : tie.Need-returns-3
 returns-3 c = search needs

@@ -14,7 +14,7 @@ is-of-requires : tie.Need-is-of-requires
 is-of-requires c κs = search needs
 
 returns : tie.Need-returns
-returns c = λ d inside known.
+returns c = λ w d inside known.
     let st = c .before .before .before .before in
     row-is-of d _ _ _ _ (st .pre .0) inside (st .pre .1) _ (c .before .before .before .list-of .ensures) (sym (c .before .is-of .ensures) ∙ c .if1 .taken) known
 
@@ -40,7 +40,7 @@ element-write-t : tie.Need-element-write-t
 element-write-t c = search needs
 
 returns-2 : tie.Need-returns-2
-returns-2 c = λ d inside known.
+returns-2 c = λ w d inside known.
     let put = c .before .before in
     let cleared = put .before .before in
     let row = cleared .before .before in

@@ -29,7 +29,7 @@ set-list-requires : tie.Need-set-list-requires
 set-list-requires c κs = search needs
 
 returns : tie.Need-returns
-returns c = λ at k cursor row.
+returns c = λ w at k cursor row.
     let cell = c .before .before .before .before in
     rw (c .set-list .ensures) (cursor-set _ at k _ _ row _ (cell .before .cursor-for .ensures) _ (cell .cell-of .ensures) _ _ cursor)
 

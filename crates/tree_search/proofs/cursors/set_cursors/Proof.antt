@@ -9,10 +9,10 @@ use Rattle.tree_search.proofs.cursors.set_cursors.Statement.{statement}
 use Rattle.tree_search.proofs.cursors.set_cursors.Tie as tie
 
 abbrev Inv-loop : tie.InvT-loop
-Inv-loop d at k level t₀ place₀ left₀ t place left = Cursor d at k place left × RowOf d at k level t
+Inv-loop d at k level t₀ w place₀ left₀ t place left = Cursor w d at k place left × RowOf w d at k level t
 
 abbrev μ-loop : tie.MeasureT-loop
-μ-loop d at k level t₀ place₀ left₀ t place left = left
+μ-loop d at k level t₀ w place₀ left₀ t place left = left
 
 loop-holds : tie.Need-loop-holds Inv-loop μ-loop
 loop-holds c = (cursor-all _ _ _ (c .before .pre .1 .inside), c .before .pre .1)
@@ -33,7 +33,7 @@ loop-again : tie.Need-loop-again Inv-loop μ-loop
 loop-again c =
     let l = c .before .before .before in
     let inv = l .before .loop .inv in
-    (cursor-next _ _ _ _ _ (inv .0) (l .loop-test .taken) _ (c .after-tree .ensures .0) (c .after-tree .ensures .1), c .before .set-cursor .ensures _ _ (inv .0) (inv .1))
+    (cursor-next _ _ _ _ _ (inv .0) (l .loop-test .taken) _ (c .after-tree .ensures .0) (c .after-tree .ensures .1), c .before .set-cursor .ensures _ _ _ (inv .0) (inv .1))
 
 list-of-requires : tie.Need-list-of-requires Inv-loop μ-loop
 list-of-requires c κs = search needs

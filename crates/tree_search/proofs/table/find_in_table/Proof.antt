@@ -48,7 +48,7 @@ mul-number c = search needs
 element-copy-out-number : tie.Need-element-copy-out-number
 element-copy-out-number c = search needs
 
-number-tells : (c : tie.Else2) → Tells (c .before .before .before .before .before .before .before .before .before .before .before .args .d .now) (c .before .before .before .before .before .before .before .before .before .before .before .args .at) (c .before .before .before .before .before .before .before .before .before .before .before .args .k) (c .before .before .before .before .before .before .before .before .before .before .before .args .name .now) (getD (c .before .before .before .before .before .before .before .before .before .before .before .args .t .now) (c .before .before .before .before .slots-of .result + c .before .before .slot-of .result) 0)
+number-tells : (c : tie.Else2) → Tells (c .before .before .before .before .before .before .before .before .before .before .before .args .w) (c .before .before .before .before .before .before .before .before .before .before .before .args .d .now) (c .before .before .before .before .before .before .before .before .before .before .before .args .at) (c .before .before .before .before .before .before .before .before .before .before .before .args .k) (c .before .before .before .before .before .before .before .before .before .before .before .args .name .now) (getD (c .before .before .before .before .before .before .before .before .before .before .before .args .t .now) (c .before .before .before .before .slots-of .result + c .before .before .slot-of .result) 0)
 number-tells c =
     let st = c .before .before .before .before .before .before .before .before .before .before .before in
     let slot = c .before .before .slot-of .ensures in

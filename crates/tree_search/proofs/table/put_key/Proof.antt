@@ -34,7 +34,7 @@ returns-2 c =
     let slot = c .before .before .slot-of .ensures in (
       omega arith,
       vacant-stays _ _ _ (set-cell _ _ _ _ (omega arith) (omega arith)) (c .before .before .before .before .before .before .pre),
-      known-stays _ _ _ (set-cell _ _ _ _ (omega arith) (omega arith)) (c .before .before .before .before .before .before .pre),
+      λ w. known-stays _ _ _ (set-cell _ _ _ _ (omega arith) (omega arith)) (c .before .before .before .before .before .before .pre),
     )
 
 pub put-key-spec : {M : Type 1} → statement M

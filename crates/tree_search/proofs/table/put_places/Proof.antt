@@ -5,10 +5,10 @@ use Rattle.tree_search.proofs.table.put_places.Statement.{statement}
 use Rattle.tree_search.proofs.table.put_places.Tie as tie
 
 abbrev Inv-loop : tie.InvT-loop
-Inv-loop d at k region t₀ slots place₀ left₀ t place left = Filling region d at k t place left
+Inv-loop d at k region t₀ w slots place₀ left₀ t place left = Filling w region d at k t place left
 
 abbrev μ-loop : tie.MeasureT-loop
-μ-loop d at k region t₀ slots place₀ left₀ t place left = left
+μ-loop d at k region t₀ w slots place₀ left₀ t place left = left
 
 slots-of-requires : tie.Need-slots-of-requires Inv-loop μ-loop
 slots-of-requires c κs = search needs

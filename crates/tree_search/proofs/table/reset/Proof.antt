@@ -11,7 +11,7 @@ clear-requires c κs = search needs
 returns : tie.Need-returns
 returns c =
     let long = c .clear .ensures .0 ∙ c .before .before .pre in
-    (λ d. reset-known _ (c .clear .ensures .1) long d, λ region. reset-vacant _ (c .clear .ensures .1) long region)
+    (λ w d. reset-known _ (c .clear .ensures .1) long d, λ region. reset-vacant _ (c .clear .ensures .1) long region)
 
 pub reset-spec : {M : Type 1} → statement M
 reset-spec = tie.close (tie.spec clear-requires returns)
