@@ -39,11 +39,11 @@ child-levels _ c _ t (levels-more {l = l} {n = n} {kids = kids} {after = after} 
 -- ---- one directory
 
 -- the siblings f are in the data d, and the names in the directory are whole and those after them
-pub record Here (d : List ℕ) (level : ℕ) (dir : Directory) (f : Forest) (q : List ℕ) (whole : List (List ℕ)) : Type 0 where
+pub record Here (w : ℕ) (d : List ℕ) (level : ℕ) (dir : Directory) (f : Forest) (q : List ℕ) (whole : List (List ℕ)) : Type 0 where
   pub long : length q ≡ dir .q
   pub sound : SoundForest f
   pub taken : ℕ
-  pub reads : Reads (drop (dir .at) d) f (dir .k) taken
+  pub reads : Reads w (drop (dir .at) d) f (dir .k) taken
   pub levels : Levels (127 - level) f
   pub ahead : dir .ahead ≡ length whole
   pub sorted : sortedFrom [] whole ≡ true
@@ -66,49 +66,49 @@ abbrev pub nowhere : Directory
 nowhere = record { at = 0; k = 0; valid = false; count = 0; q = 0; ahead = 0 }
 
 -- the root's directory with the siblings f₀ has all names
-pub data Walking (d : List ℕ) (above : List Directory) (root : Directory) (f₀ : Forest) (all : List (List ℕ)) :
+pub data Walking (w : ℕ) (d : List ℕ) (above : List Directory) (root : Directory) (f₀ : Forest) (all : List (List ℕ)) :
     ℕ → Directory → Forest → List ℕ → List (List ℕ) → List (List ℕ) → Bool → ℕ → Type 0 where
   at-root :
       {done : List (List ℕ)} {ok : Bool} {found : ℕ} →
-      Here d 0 root f₀ [] all →
+      Here w d 0 root f₀ [] all →
       ok ≡ countsHold (root .valid) done f₀ →
       found ≡ matched done f₀ →
-      Walking d above root f₀ all 0 root f₀ [] all done ok found
+      Walking w d above root f₀ all 0 root f₀ [] all done ok found
   below :
       {level : ℕ} {up dir : Directory} {f : Forest} {q c x : List ℕ} {xs whole done now-done : List (List ℕ)} {t : Tree} {ok now-ok : Bool} {found now-found : ℕ} →
-      Walking d above root f₀ all level up f q whole done ok found →
+      Walking w d above root f₀ all level up f q whole done ok found →
       getD above level nowhere ≡ up →
       Entrance f q whole done c x xs t dir →
-      Here d (suc level) dir (t .subtrees) (enter q c) (x ∷ xs) →
+      Here w d (suc level) dir (t .subtrees) (enter q c) (x ∷ xs) →
       now-ok ≡ (ok && countsHold (dir .valid) now-done (t .subtrees)) →
       now-found ≡ found + matched now-done (t .subtrees) →
-      Walking d above root f₀ all (suc level) dir (t .subtrees) (enter q c) (x ∷ xs) now-done now-ok now-found
+      Walking w d above root f₀ all (suc level) dir (t .subtrees) (enter q c) (x ∷ xs) now-done now-ok now-found
 
-module _ (d : List ℕ) (root : Directory) (f₀ : Forest) (all : List (List ℕ)) where
+module _ (w : ℕ) (d : List ℕ) (root : Directory) (f₀ : Forest) (all : List (List ℕ)) where
   pub here-of : (above : List Directory) (level : ℕ) (dir : Directory) (f : Forest) (q : List ℕ) (whole done : List (List ℕ)) (ok : Bool) (found : ℕ)
-      → Walking d above root f₀ all level dir f q whole done ok found → Here d level dir f q whole
+      → Walking w d above root f₀ all level dir f q whole done ok found → Here w d level dir f q whole
   here-of above _ _ _ _ _ done ok found (at-root here o s) = here
-  here-of above _ dir _ _ _ done ok found (below w g e here o s) = here
+  here-of above _ dir _ _ _ done ok found (below steps g e here o s) = here
 
   -- one part more was passed
   pub walking-moved : (above : List Directory) (level : ℕ) (dir : Directory) (f : Forest) (q : List ℕ) (whole done : List (List ℕ)) (ok : Bool) (found : ℕ)
-      → Walking d above root f₀ all level dir f q whole done ok found
+      → Walking w d above root f₀ all level dir f q whole done ok found
       → (now-done : List (List ℕ)) (holds now-ok : Bool) (n now-found : ℕ) → countsHold (dir .valid) now-done f ≡ (countsHold (dir .valid) done f && holds)
       → matched now-done f ≡ matched done f + n → now-ok ≡ (ok && holds) → now-found ≡ found + n
-      → Walking d above root f₀ all level dir f q whole now-done now-ok now-found
+      → Walking w d above root f₀ all level dir f q whole now-done now-ok now-found
   walking-moved above _ _ _ _ _ done ok found (at-root here o s) now-done holds now-ok n now-found j m i l =
       let sum : now-found ≡ matched now-done f₀ = omega (arith, s, m, l) in
       at-root here (i ∙ ap (λ (y : Bool). y && holds) o ∙ sym j) sum
-  walking-moved above _ dir _ _ _ done ok found (below {t = t} {ok = up-ok} {found = up-found} w g e here o s) now-done holds now-ok n now-found j m i l =
+  walking-moved above _ dir _ _ _ done ok found (below {t = t} {ok = up-ok} {found = up-found} steps g e here o s) now-done holds now-ok n now-found j m i l =
       let sum : now-found ≡ up-found + matched now-done (t .subtrees) = omega (arith, s, m, l) in
-      below w g e here
+      below steps g e here
       (i ∙ ap (λ (y : Bool). y && holds) o ∙ and-assoc up-ok (countsHold (dir .valid) done (t .subtrees)) holds ∙ ap (λ (y : Bool). up-ok && y) (sym j))
       sum
 
   -- a directory is held on a level further down
   pub walking-held : (above : List Directory) (i : ℕ) (y : Directory) (level : ℕ) (dir : Directory) (f : Forest) (q : List ℕ) (whole done : List (List ℕ)) (ok : Bool) (found : ℕ)
-      → Walking d above root f₀ all level dir f q whole done ok found
-      → level ≤ i → Walking d (set above i y) root f₀ all level dir f q whole done ok found
+      → Walking w d above root f₀ all level dir f q whole done ok found
+      → level ≤ i → Walking w d (set above i y) root f₀ all level dir f q whole done ok found
   walking-held above i y _ _ _ _ _ done ok found (at-root here o s) most = at-root here o s
-  walking-held above i y _ dir _ _ _ done ok found (below {level = level} w g e here o s) most =
-      below (walking-held above i y _ _ _ _ _ _ _ _ w (omega arith)) (getD-set-other above i level y nowhere (λ eq. omega arith) ∙ g) e here o s
+  walking-held above i y _ dir _ _ _ done ok found (below {level = level} steps g e here o s) most =
+      below (walking-held above i y _ _ _ _ _ _ _ _ steps (omega arith)) (getD-set-other above i level y nowhere (λ eq. omega arith) ∙ g) e here o s

@@ -67,7 +67,7 @@ module _ (d b work₀ : List ℕ) (above : List Directory) (work : List ℕ) (le
       (λ e. (stays-some s (dir .q) e, stays-long b s (dir .q) (h .fits) e)) in
       record { inside = h .inside; small = h .small; fits = h .fits; few = h .few; room = h .room; some = first .0; long = first .1 }
 
-  pub loop-passed : (v : ℕ) (work′ : List ℕ) (holds : Bool) (r : Front) → PartPassed d dir b v work s work′ holds r → Looping d b work₀ above work′ level dir r found
+  pub loop-passed : {w : ℕ} (v : ℕ) (work′ : List ℕ) (holds : Bool) (r : Front) → PartPassed w d dir b v work s work′ holds r → Looping d b work₀ above work′ level dir r found
   loop-passed v work′ holds r part = record {
     levels = h .levels;
     deep = h .deep;
@@ -83,7 +83,7 @@ module _ (d b work₀ : List ℕ) (above : List Directory) (work : List ℕ) (le
     frame = frame-then (h .frame) (part .frame);
   }
 
-  module _ (v : ℕ) (work′ : List ℕ) (under : Directory) (part : PartEntered d dir b v work s work′ under) (on : inDirectory dir s ≡ true) (more : level < 127) where
+  module _ {w : ℕ} (v : ℕ) (work′ : List ℕ) (under : Directory) (part : PartEntered w d dir b v work s work′ under) (on : inDirectory dir s ≡ true) (more : level < 127) where
     same-ahead : under .ahead ≡ s .ahead
     same-ahead = ap (λ (y : Directory). y .ahead) (part .is)
 

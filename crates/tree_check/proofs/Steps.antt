@@ -73,7 +73,7 @@ record Filed (valid : Bool) (f : Forest) (q : List ℕ) (whole done : List (List
   tested : countsHold valid now-done f ≡ countsHold valid done f
   sum : matched now-done f ≡ matched done f
 
-module _ (valid : Bool) (f : Forest) (q : List ℕ) (whole done ss : List (List ℕ)) (h : NamesPassed f q whole done ss) where
+module _ (w : ℕ) (valid : Bool) (f : Forest) (q : List ℕ) (whole done ss : List (List ℕ)) (h : NamesPassed f q whole done ss) where
   files-passed : (rest : List (List ℕ)) → Files q ss rest → Filed valid f q whole done rest
   files-passed _ files-none = record { now-done = done; passed = h; tested = refl; sum = refl }
   files-passed _ (files-more {x = x} {xs = xs} before file) =
@@ -85,7 +85,7 @@ module _ (valid : Bool) (f : Forest) (q : List ℕ) (whole done ss : List (List 
         sum = matched-file (i .now-done) _ f (file .alone) ∙ i .sum;
       }
 
-  pub moved-files : (v : ℕ) (b work : List ℕ) (front : Front) → FilesPassed v b work front q ss → Moved valid f q whole done v b work true 0 front
+  pub moved-files : (v : ℕ) (b work : List ℕ) (front : Front) → FilesPassed w v b work front q ss → Moved w valid f q whole done v b work true 0 front
   moved-files v b work front left =
       let i = files-passed _ (left .files) in
       record {
@@ -104,10 +104,10 @@ module _ (valid : Bool) (f : Forest) (q : List ℕ) (whole done ss : List (List 
 pub part-in : (q c x : List ℕ) → begins q x ≡ true → under c (drop (length q) x) ≡ true → begins (enter q c) x ≡ true
 part-in q c x in-q uc = enter-begins q c x ∙ ap₂ _&&_ in-q uc
 
-module _ (valid : Bool) (f : Forest) (q x : List ℕ) (xs whole done : List (List ℕ)) (v : ℕ) (b work : List ℕ) (front : Front)
+module _ (w : ℕ) (valid : Bool) (f : Forest) (q x : List ℕ) (xs whole done : List (List ℕ)) (v : ℕ) (b work : List ℕ) (front : Front)
     (in-q : begins q x ≡ true) (h : NamesPassed f q whole done (x ∷ xs)) where
   -- the names under the component c
-  module _ (sound : SoundForest f) (c : List ℕ) (lc : lacks 47 c ≡ true) (uc : under c (drop (length q) x) ≡ true) (left : DirectoryPassed v b work front (enter q c) (x ∷ xs)) where
+  module _ (sound : SoundForest f) (c : List ℕ) (lc : lacks 47 c ≡ true) (uc : under c (drop (length q) x) ≡ true) (left : DirectoryPassed w v b work front (enter q c) (x ∷ xs)) where
     in-part : begins (enter q c) x ≡ true
     in-part = part-in q c x in-q uc
 
@@ -119,7 +119,7 @@ module _ (valid : Bool) (f : Forest) (q x : List ℕ) (xs whole done : List (Lis
     run-some = rw in-part (omega arith)
 
     -- where no sibling has it
-    pub moved-missing : child c f ≡ none → Moved valid f q whole done v b work (not valid) 0 front
+    pub moved-missing : child c f ≡ none → Moved w valid f q whole done v b work (not valid) 0 front
     moved-missing absent =
         let free : (s : List ℕ) → under c s ≡ true → reached s f ≡ false = λ s u. child-free c s f sound lc absent u in
         record {
@@ -135,7 +135,7 @@ module _ (valid : Bool) (f : Forest) (q x : List ℕ) (xs whole done : List (Lis
 
     -- where a sibling has it
     pub moved-found : (t : Tree) → child c f ≡ some t → (a : List ℕ) → sortedFrom a whole ≡ true
-        → Moved valid f q whole done v b work
+        → Moved w valid f q whole done v b work
         (says (t .root .count) (length (within (enter q c) (x ∷ xs))) && countsHold (isValid (t .root .count)) (within (enter q c) (x ∷ xs)) (t .subtrees))
         (weight (t .root .count) + matched (within (enter q c) (x ∷ xs)) (t .subtrees))
         front

@@ -118,16 +118,16 @@ module _ (n : Node) (kids after : Forest) where
 
 -- ---- a pass over the nodes that has come to a place
 
-pub record Surveying (d : List ℕ) (v : Bool) (f : Forest) (place pending strict nodes : ℕ) : Type 0 where
+pub record Surveying (w : ℕ) (d : List ℕ) (v : Bool) (f : Forest) (place pending strict nodes : ℕ) : Type 0 where
   pub left : Forest
   pub taken : ℕ
-  pub reads : Reads (drop place d) left pending taken
+  pub reads : Reads w (drop place d) left pending taken
   pub same : surveyOf v f ≡ surveyFrom strict nodes left
 
 survey-begins : (v : Bool) (f : Forest) (strict k : ℕ) → strict ≡ cond v (0 - 1 + k) 0 → width f ≡ k → surveyOf v f ≡ surveyFrom strict 0 f
 unfolding surveyOf surveyFrom firsts
-survey-begins true f strict k e w = let z : strict ≡ width f = omega arith in rw (z, firsts-all f, zero-add (positive f))
-survey-begins false f strict k e w = rw (e, zero-add (positive f))
+survey-begins true f strict k e wide = let z : strict ≡ width f = omega arith in rw (z, firsts-all f, zero-add (positive f))
+survey-begins false f strict k e wide = rw (e, zero-add (positive f))
 
 survey-nil : (strict nodes : ℕ) → surveyFrom strict nodes nil ≡ S.Consistent nodes
 unfolding surveyFrom firsts validBelow positive
@@ -140,27 +140,27 @@ survey-same a b m n f e i = rw (e, i)
 demand-same : (a b : Bool) (k x y : ℕ) → a ≡ b → x ≡ y → cond a (k + x) 0 ≡ cond b (k + y) 0
 demand-same a b k x y e i = rw (e, i)
 
-module _ (d : List ℕ) (v : Bool) (f : Forest) where
-  pub survey-start : (at k m strict : ℕ) → strict ≡ cond v (0 - 1 + k) 0 → Reads (drop at d) f k m → Surveying d v f at k strict 0
+module _ (w : ℕ) (d : List ℕ) (v : Bool) (f : Forest) where
+  pub survey-start : (at k m strict : ℕ) → strict ≡ cond v (0 - 1 + k) 0 → Reads w (drop at d) f k m → Surveying w d v f at k strict 0
   survey-start at k m strict e r = record { left = f; taken = m; reads = r; same = survey-begins v f strict k e (reads-width _ _ _ _ r) }
 
-  module _ (place pending strict nodes : ℕ) (x : Surveying d v f place pending strict nodes) where
+  module _ (place pending strict nodes : ℕ) (x : Surveying w d v f place pending strict nodes) where
     pub survey-end : pending ≤ 0 → S.Consistent nodes ≡ surveyOf v f
     survey-end l = sym (x .same ∙ ap (surveyFrom strict nodes) (reads-empty _ _ _ _ (x .reads) l) ∙ survey-nil strict nodes)
 
     module _ (some : 0 < pending) where
-      first-of : First (drop place d) (x .left) pending
+      first-of : First w (drop place d) (x .left) pending
       first-of = reads-first _ _ _ _ (x .reads) some
 
       here : surveyOf v f ≡ surveyFrom strict nodes (tree (first-of .head .node) (first-of .kids) (first-of .after))
       here = x .same ∙ ap (surveyFrom strict nodes) (first-of .is)
 
-      pub survey-stop : {X : Type 0} → R.Bad ≡ nodeAt place (readNode 20 0 (drop place d)) → X
-      survey-stop e = absurd (no-bad place (first-of .own) (first-of .head) _ (first-of .node) e)
+      pub survey-stop : {X : Type 0} → R.Bad ≡ nodeAt w place (readNode w 0 (drop place d)) → X
+      survey-stop e = absurd (no-bad w place (first-of .own) (first-of .head) _ (first-of .node) e)
 
-      module _ (node : Code.Node) (is : R.Good node ≡ nodeAt place (readNode 20 0 (drop place d))) where
+      module _ (node : Code.Node) (is : R.Good node ≡ nodeAt w place (readNode w 0 (drop place d))) where
         node-here : NodeAt node place (first-of .own) (first-of .head)
-        node-here = node-at node place (first-of .own) (first-of .head) _ (first-of .node) is
+        node-here = node-at w node place (first-of .own) (first-of .head) _ (first-of .node) is
 
         same-test : (ltb 0 strict && not (node .valid)) ≡ (ltb 0 strict && not (isValid (first-of .head .node .count)))
         same-test = ap (λ (b : Bool). ltb 0 strict && not b) (node-here .is-valid)
@@ -168,9 +168,9 @@ module _ (d : List ℕ) (v : Bool) (f : Forest) where
         pub survey-inconsistent : (ltb 0 strict && not (node .valid)) ≡ true → S.Inconsistent ≡ surveyOf v f
         survey-inconsistent e = sym (here ∙ survey-wrong (first-of .head .node) (first-of .kids) (first-of .after) strict nodes (sym same-test ∙ e))
 
-        pub survey-on : (ltb 0 strict && not (node .valid)) ≡ false → (strict′ w : ℕ) → strict′ ≡ cond (node .valid) (strict - 1 + node .subtrees) 0
-            → w ≡ cond (node .valid) (bit (leb 1 (node .count))) 0 → Surveying d v f (node .next) (pending - 1 + node .subtrees) strict′ (nodes + w)
-        survey-on e strict′ w demands weighs =
+        pub survey-on : (ltb 0 strict && not (node .valid)) ≡ false → (strict′ added : ℕ) → strict′ ≡ cond (node .valid) (strict - 1 + node .subtrees) 0
+            → added ≡ cond (node .valid) (bit (leb 1 (node .count))) 0 → Surveying w d v f (node .next) (pending - 1 + node .subtrees) strict′ (nodes + added)
+        survey-on e strict′ added demands weighs =
             let k : first-of .head .subtrees + (pending - 1) ≡ pending - 1 + node .subtrees = omega (arith, node-here .subtrees) in
             record {
               left = chain (first-of .kids) (first-of .after);

@@ -39,27 +39,27 @@ use Rattle.tree_nodes.proofs.Trees.{NodeAt, node-at, no-bad}
 -- ---- the entries from the first on
 
 -- before the first entry is the empty name
-pub ahead-first : (v count : ℕ) (b work : List ℕ) (es : List Entry) (m : ℕ) → Bytes b → EntriesRead v count b es m
-    → Ahead v b work (record { cursor = firstCursor; ahead = count + 1; common = 0 }) [] (names es)
+pub ahead-first : (w : ℕ) (v count : ℕ) (b work : List ℕ) (es : List Entry) (m : ℕ) → Bytes b → EntriesRead w v count b es m
+    → Ahead w v b work (record { cursor = firstCursor; ahead = count + 1; common = 0 }) [] (names es)
 unfolding nameAt
-ahead-first v count b work es m bytes q =
+ahead-first w v count b work es m bytes q =
     let one : count + 1 - 1 ≡ count = omega arith in
     record {
       some = omega arith;
       name = by-test (eqb v 4) (λ e. rw e) (λ e. rw e);
       entries = es;
       taken = m;
-      reads = ap (λ (n : ℕ). runFrom v n b work firstCursor) one ∙ run-first v count b work ∙ q;
+      reads = ap (λ (n : ℕ). runFrom w v n b work firstCursor) one ∙ run-first w v count b work ∙ q;
       rest = refl;
-      sorted = entries-sorted (entries-read 20 v count start 12 (drop 12 b) es m (bytes-drop 12 b bytes) q .1);
+      sorted = entries-sorted (entries-read w v count start 12 (drop 12 b) es m (bytes-drop 12 b bytes) q .1);
     }
 
 pub fits-first : (count : ℕ) (b work : List ℕ) → Room b work → count < 4294967296 → FrontFits b (record { cursor = firstCursor; ahead = count + 1; common = 0 })
 fits-first count b work room few = record { inside = inside-first b work room; short = omega arith; few = omega arith }
 
 -- the root's count and the walk, where there is no entry and where there are some
-module _ (d : List ℕ) (root : Node) (expected v : ℕ) (b work : List ℕ) (f : Forest) (front : Front) (r : Bool) where
-  pub root-none : (ns : List (List ℕ)) → After v b work front [] ns → front .ahead ≡ 0 → (agrees : Bool) → agrees ≡ cond (root .valid) (eqb (root .count) (front .ahead - front .ahead)) true
+module _ (w : ℕ) (d : List ℕ) (root : Node) (expected v : ℕ) (b work : List ℕ) (f : Forest) (front : Front) (r : Bool) where
+  pub root-none : (ns : List (List ℕ)) → After w v b work front [] ns → front .ahead ≡ 0 → (agrees : Bool) → agrees ≡ cond (root .valid) (eqb (root .count) (front .ahead - front .ahead)) true
       → r ≡ (agrees && eqb expected 0)
       → r ≡ (cond (root .valid) (eqb (root .count) (length ns)) true && (countsHold (root .valid) ns f && eqb (matched ns f) expected))
   root-none _ (after-none z) none agrees agrees-is r-is =
@@ -67,8 +67,8 @@ module _ (d : List ℕ) (root : Node) (expected v : ℕ) (b work : List ℕ) (f 
       rw (counts-hold-start (root .valid) f, matched-start f) (r-is ∙ rw (agrees-is, gone, eqb-swap expected 0))
   root-none _ (after-some h e) none agrees agrees-is r-is = absurd (omega (arith, h .some))
 
-  pub root-some : (ns : List (List ℕ)) → After v b work front [] ns → (front .ahead ≡ 0 → ⊥) → (n : ℕ) → SoundForest f → readForest 20 0 127 (root .subtrees) (drop (root .next) d) ≡ good f n
-      → (work′ : List ℕ) → Walked d (entered root 0 front) expected b v work front work′ r
+  pub root-some : (ns : List (List ℕ)) → After w v b work front [] ns → (front .ahead ≡ 0 → ⊥) → (n : ℕ) → SoundForest f → readForest w 0 127 (root .subtrees) (drop (root .next) d) ≡ good f n
+      → (work′ : List ℕ) → Walked w d (entered root 0 front) expected b v work front work′ r
       → r ≡ (cond (root .valid) (eqb (root .count) (length ns)) true && (countsHold (root .valid) ns f && eqb (matched ns f) expected))
   root-some _ (after-none z) some n sound reads work′ walked = absurd (some z)
   root-some _ (after-some {x} {xs} h e) some n sound reads work′ walked = walked .is f n sound reads x xs h
@@ -106,42 +106,42 @@ survey-consistent v f nodes e = go (cond v (allValid f) true && validBelow f) e
     go false e = let z : _≡_ {A = ℕ} 0 1 = cc in absurd (omega arith)
 
 -- the root, and the forest below it
-record TreeRead (d : List ℕ) (t : Tree) : Type 0 where
+record TreeRead (w : ℕ) (d : List ℕ) (t : Tree) : Type 0 where
   subtrees : ℕ
   own : ℕ
   below : ℕ
-  node : readNode 20 0 (drop 0 d) ≡ good (record { node = t .root; subtrees = subtrees }) own
-  kids : readForest 20 0 127 subtrees (drop own d) ≡ good (t .subtrees) below
+  node : readNode w 0 (drop 0 d) ≡ good (record { node = t .root; subtrees = subtrees }) own
+  kids : readForest w 0 127 subtrees (drop own d) ≡ good (t .subtrees) below
 
-tree-read : (d : List ℕ) (t : Tree) (n : ℕ) → readNodes 20 0 d ≡ good t n → TreeRead d t
+tree-read : (w : ℕ) (d : List ℕ) (t : Tree) (n : ℕ) → readNodes w 0 d ≡ good t n → TreeRead w d t
 unfolding readNodes
-tree-read d t n e =
+tree-read w d t n e =
     bind-inv _ _ _ _ e λ h a i q r is.
     need-inv _ _ _ _ _ _ r λ named r₁.
     bind-inv _ _ _ _ r₁ λ kids b j q₁ r₂ is₁.
     good-inv _ _ _ _ r₂ λ same z.
     rw (← same) (record { subtrees = h .subtrees; own = a; below = b; node = q; kids = q₁ })
 
-module _ (d : List ℕ) (t : Tree) (n : ℕ) (q : readNodes 20 0 d ≡ good t n) (differ : distinct (t .subtrees) ≡ true) (ns : List (List ℕ)) where
+module _ (w : ℕ) (d : List ℕ) (t : Tree) (n : ℕ) (q : readNodes w 0 d ≡ good t n) (differ : distinct (t .subtrees) ≡ true) (ns : List (List ℕ)) where
   sound-tree : SoundForest (t .subtrees)
-  sound-tree = record { plainly = nodes-plain 20 0 d t n q; differ = differ }
+  sound-tree = record { plainly = nodes-plain w 0 d t n q; differ = differ }
 
-  parts : TreeRead d t
-  parts = tree-read d t n q
+  parts : TreeRead w d t
+  parts = tree-read w d t n q
 
-  pub answer-none {ℓ} : {X : Type ℓ} → R.Bad ≡ nodeAt 0 (readNode 20 0 (drop 0 d)) → X
-  answer-none e = absurd (no-bad 0 (parts .own) _ _ (parts .node) e)
+  pub answer-none {ℓ} : {X : Type ℓ} → R.Bad ≡ nodeAt w 0 (readNode w 0 (drop 0 d)) → X
+  answer-none e = absurd (no-bad w 0 (parts .own) _ _ (parts .node) e)
 
-  module _ (root : Node) (is : R.Good root ≡ nodeAt 0 (readNode 20 0 (drop 0 d))) where
+  module _ (root : Node) (is : R.Good root ≡ nodeAt w 0 (readNode w 0 (drop 0 d))) where
     root-here : NodeAt root 0 (parts .own) (record { node = t .root; subtrees = parts .subtrees })
-    root-here = node-at root 0 (parts .own) _ _ (parts .node) is
+    root-here = node-at w root 0 (parts .own) _ _ (parts .node) is
 
-    below-root : readForest 20 0 127 (root .subtrees) (drop (root .next) d) ≡ good (t .subtrees) (parts .below)
+    below-root : readForest w 0 127 (root .subtrees) (drop (root .next) d) ≡ good (t .subtrees) (parts .below)
     below-root =
         let next : root .next ≡ parts .own = omega (arith, root-here .next) in
         rw (root-here .subtrees, next) (parts .kids)
 
-    module _ (found : Survey) (survey : (f : Forest) (m : ℕ) → Reads (drop (root .next) d) f (root .subtrees) m → found ≡ surveyOf (root .valid) f) where
+    module _ (found : Survey) (survey : (f : Forest) (m : ℕ) → Reads w (drop (root .next) d) f (root .subtrees) m → found ≡ surveyOf (root .valid) f) where
       survey-here : found ≡ surveyOf (isValid (t .root .count)) (t .subtrees)
       survey-here = survey (t .subtrees) (parts .below) (forest-reads _ _ _ _ _ below-root) ∙ ap (λ (v : Bool). surveyOf v (t .subtrees)) (root-here .is-valid)
 
@@ -150,7 +150,7 @@ module _ (d : List ℕ) (t : Tree) (n : ℕ) (q : readNodes 20 0 d ≡ good t n)
           sym (counts-parts ns t sound-tree ∙ rw (survey-inconsistent _ _ (sym e ∙ survey-here)) (and-false (says (t .root .count) (length ns))))
 
       pub answer-consistent : (nodes : ℕ) → found ≡ S.Consistent nodes → (r : Bool)
-          → ((f : Forest) (m : ℕ) → SoundForest f → readForest 20 0 127 (root .subtrees) (drop (root .next) d) ≡ good f m
+          → ((f : Forest) (m : ℕ) → SoundForest f → readForest w 0 127 (root .subtrees) (drop (root .next) d) ≡ good f m
           → r ≡ (cond (root .valid) (eqb (root .count) (length ns)) true && (countsHold (root .valid) ns f && eqb (matched ns f) nodes)))
           → r ≡ okTreeCounts ns t
       answer-consistent nodes e r walk =

@@ -15,14 +15,14 @@ use Rattle.tree_nodes.specs.declared.node.Node.{Node}
 use Rattle.tree_counts.specs.Counts.{countsHold, matched, SoundForest}
 
 -- of the walk over all entries, where of the nodes below the root expected ones have a count of at least 1
-pub record RootWalked (d : List ℕ) (root : Node) (expected : ℕ) (b : List ℕ) (v count : ℕ) (work work′ : List ℕ) (r : Bool) : Type 0 where
+pub record RootWalked (w : ℕ) (d : List ℕ) (root : Node) (expected : ℕ) (b : List ℕ) (v count : ℕ) (work work′ : List ℕ) (r : Bool) : Type 0 where
   pub frame : Frame work work′
-  pub is : (es : List Entry) (m : ℕ) → EntriesRead v count b es m
-      → (f : Forest) (n : ℕ) → SoundForest f → readForest 20 0 127 (root .subtrees) (drop (root .next) d) ≡ good f n
+  pub is : (es : List Entry) (m : ℕ) → EntriesRead w v count b es m
+      → (f : Forest) (n : ℕ) → SoundForest f → readForest w 0 127 (root .subtrees) (drop (root .next) d) ≡ good f n
       → r ≡ (cond (root .valid) (eqb (root .count) (length (names es))) true && (countsHold (root .valid) (names es) f && eqb (matched (names es) f) expected))
 
 -- of the whole
-pub record CountsTold (d b : List ℕ) (v count : ℕ) (work work′ : List ℕ) (r : Bool) : Type 0 where
+pub record CountsTold (w : ℕ) (d b : List ℕ) (v count : ℕ) (work work′ : List ℕ) (r : Bool) : Type 0 where
   pub frame : Frame work work′
-  pub is : (es : List Entry) (m : ℕ) (t : Tree) (n : ℕ) → EntriesRead v count b es m → readNodes 20 0 d ≡ good t n
+  pub is : (es : List Entry) (m : ℕ) (t : Tree) (n : ℕ) → EntriesRead w v count b es m → readNodes w 0 d ≡ good t n
       → distinct (t .subtrees) ≡ true → r ≡ okTreeCounts (names es) t

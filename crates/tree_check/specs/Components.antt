@@ -25,10 +25,10 @@ pub record Component (k : ℕ) (x : List ℕ) (e : ℕ) : Type 0 where
   pub slash : lacks 47 (drop k x) ≡ false
   pub ends : e ≡ k + (length (component (drop k x)) + 1)
 
-abbrev pub Looked : List ℕ → Forest → ℕ → List ℕ → Look → Type 0
-Looked d f k x L.File = lacks 47 (drop k x) ≡ true
-Looked d f k x (L.Missing e) = Component k x e × (child (component (drop k x)) f ≡ none)
-Looked d f k x (L.Found e place) = Component k x e × FoundAt d f (component (drop k x)) place
+abbrev pub Looked : ℕ → List ℕ → Forest → ℕ → List ℕ → Look → Type 0
+Looked w d f k x L.File = lacks 47 (drop k x) ≡ true
+Looked w d f k x (L.Missing e) = Component k x e × (child (component (drop k x)) f ≡ none)
+Looked w d f k x (L.Found e place) = Component k x e × FoundAt w d f (component (drop k x)) place
 
 -- the place of what was found, the end where nothing was; the place after the component, 0 where there is none
 abbrev pub placeOfLook : ℕ → Look → ℕ
@@ -47,7 +47,7 @@ lookOf e C.Missing = L.Missing e
 lookOf e (C.Found place) = L.Found e place
 
 -- what a look at the name x of n bytes answers, where k siblings are at a place
-pub record LookedUp (d : List ℕ) (at k : ℕ) (x : List ℕ) (n q : ℕ) (r : Look) : Type 0 where
+pub record LookedUp (w : ℕ) (d : List ℕ) (at k : ℕ) (x : List ℕ) (n q : ℕ) (r : Look) : Type 0 where
   pub most : placeOfLook (length d) r ≤ length d
   pub within : endOfLook r ≤ n
-  pub is : (f : Forest) (m : ℕ) → distinct f ≡ true → Reads (drop at d) f k m → Looked d f q x r
+  pub is : (f : Forest) (m : ℕ) → distinct f ≡ true → Reads w (drop at d) f k m → Looked w d f q x r

@@ -45,7 +45,7 @@ pub record WalkReady (d : List ℕ) (dir : Directory) (b work : List ℕ) (s : F
 -- ---- one part
 
 -- of the names in the directory q, from whole on, done were passed before it; its test holds or not, and in it found nodes have a count of at least 1
-pub record Moved (valid : Bool) (f : Forest) (q : List ℕ) (whole done : List (List ℕ)) (v : ℕ) (b work : List ℕ) (holds : Bool) (found : ℕ) (front : Front) : Type 0 where
+pub record Moved (w : ℕ) (valid : Bool) (f : Forest) (q : List ℕ) (whole done : List (List ℕ)) (v : ℕ) (b work : List ℕ) (holds : Bool) (found : ℕ) (front : Front) : Type 0 where
   pub now-done : List (List ℕ)
   pub rest : List (List ℕ)
   pub last : List ℕ
@@ -53,39 +53,39 @@ pub record Moved (valid : Bool) (f : Forest) (q : List ℕ) (whole done : List (
   pub tested : countsHold valid now-done f ≡ (countsHold valid done f && holds)
   pub sum : matched now-done f ≡ matched done f + found
   pub in-it : begins q last ≡ true
-  pub after : After v b work front last rest
+  pub after : After w v b work front last rest
 
 -- it was passed: fewer entries are ahead
-pub record PartPassed (d : List ℕ) (dir : Directory) (b : List ℕ) (v : ℕ) (work : List ℕ) (s : Front) (work′ : List ℕ) (holds : Bool) (r : Front) : Type 0 where
+pub record PartPassed (w : ℕ) (d : List ℕ) (dir : Directory) (b : List ℕ) (v : ℕ) (work : List ℕ) (s : Front) (work′ : List ℕ) (holds : Bool) (r : Front) : Type 0 where
   pub fits : FrontFits b r
   pub less : r .ahead < s .ahead
   pub frame : Frame work work′
-  pub moved : (f : Forest) (m : ℕ) → SoundForest f → Reads (drop (dir .at) d) f (dir .k) m
-      → (p x : List ℕ) (xs : List (List ℕ)) → Ahead v b work s x xs → begins p x ≡ true → length p ≡ dir .q
+  pub moved : (f : Forest) (m : ℕ) → SoundForest f → Reads w (drop (dir .at) d) f (dir .k) m
+      → (p x : List ℕ) (xs : List (List ℕ)) → Ahead w v b work s x xs → begins p x ≡ true → length p ≡ dir .q
       → (whole done : List (List ℕ)) → NamesPassed f p whole done (x ∷ xs)
-      → Moved (dir .valid) f p whole done v b work′ holds 0 r
+      → Moved w (dir .valid) f p whole done v b work′ holds 0 r
 
 -- it is in the directory below, of the node at a place
-pub record PartEntered (d : List ℕ) (dir : Directory) (b : List ℕ) (v : ℕ) (work : List ℕ) (s : Front) (work′ : List ℕ) (below : Directory) : Type 0 where
+pub record PartEntered (w : ℕ) (d : List ℕ) (dir : Directory) (b : List ℕ) (v : ℕ) (work : List ℕ) (s : Front) (work′ : List ℕ) (below : Directory) : Type 0 where
   pub same : work′ ≡ work
   pub place : ℕ
   pub node : Node
-  pub read : R.Good node ≡ nodeAt place (readNode 20 0 (drop place d))
-  pub look : LookedUp d (dir .at) (dir .k) (nameAt v b work (s .cursor .start) (s .cursor .len)) (s .cursor .len) (dir .q) (L.Found (below .q) place)
+  pub read : R.Good node ≡ nodeAt w place (readNode w 0 (drop place d))
+  pub look : LookedUp w d (dir .at) (dir .k) (nameAt v b work (s .cursor .start) (s .cursor .len)) (s .cursor .len) (dir .q) (L.Found (below .q) place)
   pub is : below ≡ entered node (below .q) s
 
-abbrev pub takenBy : List ℕ → Directory → List ℕ → ℕ → List ℕ → Front → List ℕ → Part → Type 0
-takenBy d dir b v work s work′ (P.Passed holds r) = PartPassed d dir b v work s work′ holds r
-takenBy d dir b v work s work′ (P.Entered below) = PartEntered d dir b v work s work′ below
+abbrev pub takenBy : ℕ → List ℕ → Directory → List ℕ → ℕ → List ℕ → Front → List ℕ → Part → Type 0
+takenBy w d dir b v work s work′ (P.Passed holds r) = PartPassed w d dir b v work s work′ holds r
+takenBy w d dir b v work s work′ (P.Entered below) = PartEntered w d dir b v work s work′ below
 
-pub record Taken (d : List ℕ) (dir : Directory) (b : List ℕ) (v : ℕ) (work : List ℕ) (s : Front) (work′ : List ℕ) (part : Part) : Type 0 where
-  pub is : takenBy d dir b v work s work′ part
+pub record Taken (w : ℕ) (d : List ℕ) (dir : Directory) (b : List ℕ) (v : ℕ) (work : List ℕ) (s : Front) (work′ : List ℕ) (part : Part) : Type 0 where
+  pub is : takenBy w d dir b v work s work′ part
 
 -- ---- all entries ahead
 
 -- the root's directory has all names, and of the nodes below the root expected ones have a count of at least 1
-pub record Walked (d : List ℕ) (root : Directory) (expected : ℕ) (b : List ℕ) (v : ℕ) (work : List ℕ) (s : Front) (work′ : List ℕ) (r : Bool) : Type 0 where
+pub record Walked (w : ℕ) (d : List ℕ) (root : Directory) (expected : ℕ) (b : List ℕ) (v : ℕ) (work : List ℕ) (s : Front) (work′ : List ℕ) (r : Bool) : Type 0 where
   pub frame : Frame work work′
-  pub is : (f : Forest) (n : ℕ) → SoundForest f → readForest 20 0 127 (root .k) (drop (root .at) d) ≡ good f n
-      → (x : List ℕ) (xs : List (List ℕ)) → Ahead v b work s x xs
+  pub is : (f : Forest) (n : ℕ) → SoundForest f → readForest w 0 127 (root .k) (drop (root .at) d) ≡ good f n
+      → (x : List ℕ) (xs : List (List ℕ)) → Ahead w v b work s x xs
       → r ≡ (cond (root .valid) (eqb (root .count) (length (x ∷ xs))) true && (countsHold (root .valid) (x ∷ xs) f && eqb (matched (x ∷ xs) f) expected))

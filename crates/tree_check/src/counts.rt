@@ -28,9 +28,10 @@ fn walk_root(
     count: u32,
     work: &mut [u8],
     t: &mut Table,
+    w: usize,
 ) -> bool
-    requires { ⌜ (root .next ≤ length (now d)) × (length (now d) ≤ 16777216) × Room (now b) (now work) × (length (now t) ≡ 3126) ⌝ }
-    ensures { λ r. ⌜ RootWalked (now (d .entry)) root expected (now (b .entry)) v count (now (work .entry)) (now (work .exit)) r ⌝ }
+    requires { ⌜ (root .next ≤ length (now d)) × (length (now d) ≤ 16777216) × Room (now b) (now work) × (length (now t) ≡ 3126) × (w ≤ 32) ⌝ }
+    ensures { λ r. ⌜ RootWalked w (now (d .entry)) root expected (now (b .entry)) v count (now (work .entry)) (now (work .exit)) r ⌝ }
 {
     let c = first();
     let start = Front {
@@ -38,28 +39,46 @@ fn walk_root(
         ahead: count as usize + 1,
         common: 0,
     };
-    let front = advance(b, v, &mut *work, start);
+    let front = advance(b, v, &mut *work, start, w);
     let dir = enter(root, 0, front);
     if front.ahead == 0 {
         return agrees(dir, front) & (expected == 0);
     }
     reset(t);
-    walk_directories(d, dir, expected, b, v, work, front, t)
+    walk_directories(d, dir, expected, b, v, work, front, t, w)
 }
 
 // Whether the counts of the cache tree d are right for the first count entries of the body b of version v. Of what the array t holds only its seed is used.
-pub fn counts_ok(d: &[u8], b: &[u8], v: u32, count: u32, work: &mut [u8], t: &mut Table) -> bool
-    requires { ⌜ (length (now d) ≤ 16777216) × Room (now b) (now work) × (length (now t) ≡ 3126) ⌝ }
-    ensures { λ r. ⌜ CountsTold (now (d .entry)) (now (b .entry)) v count (now (work .entry)) (now (work .exit)) r ⌝ }
+pub fn counts_ok(
+    d: &[u8],
+    b: &[u8],
+    v: u32,
+    count: u32,
+    work: &mut [u8],
+    t: &mut Table,
+    w: usize,
+) -> bool
+    requires { ⌜ (length (now d) ≤ 16777216) × Room (now b) (now work) × (length (now t) ≡ 3126) × (w ≤ 32) ⌝ }
+    ensures { λ r. ⌜ CountsTold w (now (d .entry)) (now (b .entry)) v count (now (work .entry)) (now (work .exit)) r ⌝ }
 {
-    let read = read_node(d, 0);
+    let read = read_node(d, 0, w);
     match read {
         NodeRead::Bad => false,
         NodeRead::Good(root) => {
-            let found = survey_trees(d, root.next, root.subtrees, root.valid);
+            let found = survey_trees(d, root.next, root.subtrees, root.valid, w);
             match found {
                 Survey::Inconsistent => false,
-                Survey::Consistent(expected) => walk_root(d, root, expected, b, v, count, work, t),
+                Survey::Consistent(expected) => walk_root(
+                    d,
+                    root,
+                    expected,
+                    b,
+                    v,
+                    count,
+                    work,
+                    t,
+                    w,
+                ),
             }
         }
     }

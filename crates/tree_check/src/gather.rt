@@ -57,8 +57,17 @@ fn put_first<'a>(
 }
 
 // Those of the names ahead that begin with the same q bytes. names is a workspace with the first name.
-fn put_ahead(b: &[u8], v: u32, names: &mut [u8], q: usize, s: Front, region: Region, t: &mut Table)
-    requires { ⌜ FrontFits (now b) s × (8192 ≤ length (now names)) × (q ≤ s .cursor .len) × Vacant region (now t) ⌝ }
+fn put_ahead(
+    b: &[u8],
+    v: u32,
+    names: &mut [u8],
+    q: usize,
+    s: Front,
+    region: Region,
+    t: &mut Table,
+    w: usize,
+)
+    requires { ⌜ FrontFits (now b) s × (8192 ≤ length (now names)) × (q ≤ s .cursor .len) × Vacant region (now t) × (w ≤ 32) ⌝ }
     ensures { λ _. ⌜ KeysPut region (now (t .entry)) (now (t .exit)) ⌝ }
 {
     let mut front = s;
@@ -71,7 +80,7 @@ fn put_ahead(b: &[u8], v: u32, names: &mut [u8], q: usize, s: Front, region: Reg
         if most <= count {
             return;
         }
-        front = advance(b, v, &mut *names, front);
+        front = advance(b, v, &mut *names, front, w);
         if stays(front, q) {
             left -= 1;
         } else {
@@ -90,20 +99,30 @@ fn put_copied(
     s: Front,
     region: Region,
     t: &mut Table,
+    w: usize,
 )
-    requires { ⌜ FrontFits (now b) s × (8192 ≤ length (now work)) × (q ≤ s .cursor .len) × Vacant region (now t) ⌝ }
+    requires { ⌜ FrontFits (now b) s × (8192 ≤ length (now work)) × (q ≤ s .cursor .len) × Vacant region (now t) × (w ≤ 32) ⌝ }
     ensures { λ _. ⌜ KeysPut region (now (t .entry)) (now (t .exit)) ⌝ }
 {
     let len = s.cursor.len;
     copy_to(names, 0, &work[..len]);
-    put_ahead(b, v, names, q, s, region, t);
+    put_ahead(b, v, names, q, s, region, t, w);
 }
 
 // The keys of the next components of the names ahead that begin with the same q bytes are put in a table that is of no list.
-pub fn gather(b: &[u8], v: u32, work: &[u8], q: usize, s: Front, region: Region, t: &mut Table)
-    requires { ⌜ FrontFits (now b) s × (8192 ≤ length (now work)) × (q ≤ s .cursor .len) × Vacant region (now t) ⌝ }
+pub fn gather(
+    b: &[u8],
+    v: u32,
+    work: &[u8],
+    q: usize,
+    s: Front,
+    region: Region,
+    t: &mut Table,
+    w: usize,
+)
+    requires { ⌜ FrontFits (now b) s × (8192 ≤ length (now work)) × (q ≤ s .cursor .len) × Vacant region (now t) × (w ≤ 32) ⌝ }
     ensures { λ _. ⌜ KeysPut region (now (t .entry)) (now (t .exit)) ⌝ }
 {
     let mut names = [0u8; 8192];
-    put_copied(b, v, work, &mut names, q, s, region, t);
+    put_copied(b, v, work, &mut names, q, s, region, t, w);
 }

@@ -58,34 +58,43 @@ fn find_by_table(
     s: Front,
     region: Region,
     t: &mut Table,
+    w: usize,
 ) -> Child
-    requires { ⌜ (at ≤ length (now d)) × (length (now d) ≤ 16777216) × FrontFits (now b) s × (8192 ≤ length (now work)) × (q ≤ s .cursor .len) × Known (now d) (now t) ⌝ }
-    ensures { λ r. ⌜ Finds (now (d .entry)) at k (now (name .entry)) r × Known (now (d .entry)) (now (t .exit)) ⌝ }
+    requires { ⌜ (at ≤ length (now d)) × (length (now d) ≤ 16777216) × FrontFits (now b) s × (8192 ≤ length (now work)) × (q ≤ s .cursor .len) × Known w (now d) (now t) × (w ≤ 32) ⌝ }
+    ensures { λ r. ⌜ Finds w (now (d .entry)) at k (now (name .entry)) r × Known w (now (d .entry)) (now (t .exit)) ⌝ }
 {
-    begin(d, region, t);
-    gather(b, v, work, q, s, region, t);
-    put_places(d, at, k, region, t);
-    let told = find_in_table(d, at, k, name, region, t);
+    begin(d, region, t, w);
+    gather(b, v, work, q, s, region, t, w);
+    put_places(d, at, k, region, t, w);
+    let told = find_in_table(d, at, k, name, region, t, w);
     if let Answer::Known(child) = told {
         return child;
     }
-    scan(d, at, k, name)
+    scan(d, at, k, name, w)
 }
 
 // The same by the cursors of the level and by the tables as they are.
-fn find_soon(d: &[u8], at: usize, k: u32, name: &[u8], level: u32, t: &mut Table) -> Answer
-    requires { ⌜ (at ≤ length (now d)) × (length (now d) ≤ 16777216) × Known (now d) (now t) ⌝ }
-    ensures { λ r. ⌜ AnswerHolds (now (d .entry)) at k (now (name .entry)) r × Known (now (d .entry)) (now (t .exit)) ⌝ }
+fn find_soon(
+    d: &[u8],
+    at: usize,
+    k: u32,
+    name: &[u8],
+    level: u32,
+    t: &mut Table,
+    w: usize,
+) -> Answer
+    requires { ⌜ (at ≤ length (now d)) × (length (now d) ≤ 16777216) × Known w (now d) (now t) ⌝ }
+    ensures { λ r. ⌜ AnswerHolds w (now (d .entry)) at k (now (name .entry)) r × Known w (now (d .entry)) (now (t .exit)) ⌝ }
 {
-    let next = find_in_order(d, at, k, name, level, t);
+    let next = find_in_order(d, at, k, name, level, t, w);
     if let Answer::Known(_) = next {
         return next;
     }
-    let short = find_in_table(d, at, k, name, Region::Short, t);
+    let short = find_in_table(d, at, k, name, Region::Short, t, w);
     if let Answer::Known(_) = short {
         return short;
     }
-    find_in_table(d, at, k, name, Region::Long, t)
+    find_in_table(d, at, k, name, Region::Long, t, w)
 }
 
 // The component of the first name ahead after its first q bytes, among k siblings on a level. What the array t holds is kept.
@@ -100,9 +109,10 @@ pub fn look_up<'a>(
     q: usize,
     s: Front,
     t: &mut Table,
+    w: usize,
 ) -> Look
-    requires { ⌜ (at ≤ length (now d)) × (length (now d) ≤ 16777216) × FrontFits (now b) s × (8192 ≤ length (now work)) × (q ≤ s .cursor .len) × Known (now d) (now t) ⌝ }
-    ensures { λ r. ⌜ LookedUp (now (d .entry)) at k (nameAt v (now (b .entry)) (now (work .entry)) (s .cursor .start) (s .cursor .len)) (s .cursor .len) q r × Known (now (d .entry)) (now (t .exit)) ⌝ }
+    requires { ⌜ (at ≤ length (now d)) × (length (now d) ≤ 16777216) × FrontFits (now b) s × (8192 ≤ length (now work)) × (q ≤ s .cursor .len) × Known w (now d) (now t) × (w ≤ 32) ⌝ }
+    ensures { λ r. ⌜ LookedUp w (now (d .entry)) at k (nameAt v (now (b .entry)) (now (work .entry)) (s .cursor .start) (s .cursor .len)) (s .cursor .len) q r × Known w (now (d .entry)) (now (t .exit)) ⌝ }
 {
     let c = s.cursor;
     let start = c.start;
@@ -112,20 +122,20 @@ pub fn look_up<'a>(
     if e == name.len() {
         return Look::File;
     }
-    let soon = find_soon(d, at, k, &name[q..e], level, t);
+    let soon = find_soon(d, at, k, &name[q..e], level, t, w);
     if let Answer::Known(child) = soon {
         return look_of(child, e + 1);
     }
-    if !is_longer(d, at, k, SHORT) {
-        let child = scan(d, at, k, &name[q..e]);
+    if !is_longer(d, at, k, SHORT, w) {
+        let child = scan(d, at, k, &name[q..e], w);
         return look_of(child, e + 1);
     }
     // Two calls, not one with a chosen region: the body of a function that is called at one place is put there, and its 8 KiB for a name would join the
     // callers' frames.
-    if is_longer(d, at, k, LONG) {
-        let child = find_by_table(d, at, k, &name[q..e], b, v, work, q, s, Region::Long, t);
+    if is_longer(d, at, k, LONG, w) {
+        let child = find_by_table(d, at, k, &name[q..e], b, v, work, q, s, Region::Long, t, w);
         return look_of(child, e + 1);
     }
-    let child = find_by_table(d, at, k, &name[q..e], b, v, work, q, s, Region::Short, t);
+    let child = find_by_table(d, at, k, &name[q..e], b, v, work, q, s, Region::Short, t, w);
     look_of(child, e + 1)
 }

@@ -55,16 +55,16 @@ fn demand(strict: u64, valid: bool, subtrees: u32) -> u64
 }
 
 // k siblings at a place and all below them; valid says whether the node above them is valid.
-pub fn survey_trees(d: &[u8], at: usize, k: u32, valid: bool) -> Survey
+pub fn survey_trees(d: &[u8], at: usize, k: u32, valid: bool, w: usize) -> Survey
     requires { ⌜ (at ≤ length (now d)) × (length (now d) ≤ 16777216) ⌝ }
-    ensures { λ r. ⌜ ((f : Forest) (m : ℕ) → Reads (drop at (now (d .entry))) f k m → r ≡ surveyOf valid f) ⌝ }
+    ensures { λ r. ⌜ ((f : Forest) (m : ℕ) → Reads w (drop at (now (d .entry))) f k m → r ≡ surveyOf valid f) ⌝ }
 {
     let mut place = at;
     let mut pending = k as u64;
     let mut strict = demand(0, valid, k);
     let mut nodes: u32 = 0;
     while 0 < pending {
-        let read = read_node(d, place);
+        let read = read_node(d, place, w);
         let NodeRead::Good(node) = read else {
             return Survey::Inconsistent;
         };

@@ -97,17 +97,30 @@ fn take_part(
     work: &mut [u8],
     s: Front,
     t: &mut Table,
+    w: usize,
 ) -> Part
-    requires { ⌜ WalkReady (now d) dir (now b) (now work) s × Known (now d) (now t) ⌝ }
-    ensures { λ r. ⌜ Taken (now (d .entry)) dir (now (b .entry)) v (now (work .entry)) s (now (work .exit)) r × Known (now (d .entry)) (now (t .exit)) ⌝ }
+    requires { ⌜ WalkReady (now d) dir (now b) (now work) s × Known w (now d) (now t) × (w ≤ 32) ⌝ }
+    ensures { λ r. ⌜ Taken w (now (d .entry)) dir (now (b .entry)) v (now (work .entry)) s (now (work .exit)) r × Known w (now (d .entry)) (now (t .exit)) ⌝ }
 {
     let q = dir.q as usize;
-    let look = look_up(d, dir.at as usize, dir.k, level, b, v, &work[..], q, s, t);
+    let look = look_up(
+        d,
+        dir.at as usize,
+        dir.k,
+        level,
+        b,
+        v,
+        &work[..],
+        q,
+        s,
+        t,
+        w,
+    );
     match look {
-        Look::File => Part::Passed(true, pass_files(b, v, work, s, q)),
-        Look::Missing(e) => Part::Passed(!dir.valid, pass(b, v, work, s, e)),
+        Look::File => Part::Passed(true, pass_files(b, v, work, s, q, w)),
+        Look::Missing(e) => Part::Passed(!dir.valid, pass(b, v, work, s, e, w)),
         Look::Found(e, p) => {
-            let read = read_node(d, p);
+            let read = read_node(d, p, w);
             match read {
                 NodeRead::Bad => Part::Passed(false, ended(s)),
                 NodeRead::Good(node) => Part::Entered(enter(node, e, s)),
@@ -127,9 +140,10 @@ pub(crate) fn walk_directories(
     work: &mut [u8],
     s: Front,
     t: &mut Table,
+    w: usize,
 ) -> bool
-    requires { ⌜ WalkReady (now d) root (now b) (now work) s × Known (now d) (now t) × (root .q ≡ 0) × (root .ahead ≡ s .ahead) ⌝ }
-    ensures { λ r. ⌜ Walked (now (d .entry)) root expected (now (b .entry)) v (now (work .entry)) s (now (work .exit)) r ⌝ }
+    requires { ⌜ WalkReady (now d) root (now b) (now work) s × Known w (now d) (now t) × (root .q ≡ 0) × (root .ahead ≡ s .ahead) × (w ≤ 32) ⌝ }
+    ensures { λ r. ⌜ Walked w (now (d .entry)) root expected (now (b .entry)) v (now (work .entry)) s (now (work .exit)) r ⌝ }
 {
     let mut above = [root; LEVELS];
     let mut level: u32 = 0;
@@ -139,7 +153,7 @@ pub(crate) fn walk_directories(
     let mut found: u64 = 0;
     loop {
         if is_in(dir, front) {
-            let part = take_part(d, dir, level, b, v, &mut *work, front, &mut *t);
+            let part = take_part(d, dir, level, b, v, &mut *work, front, &mut *t, w);
             match part {
                 Part::Passed(holds, next) => {
                     front = next;

@@ -35,12 +35,12 @@ walk-root-requires c κs =
     let k = c .before .before .before .before .before .before in
     let st = k .before .before .before .before .before .before .before in
     let is = node-is (st .args .d .now) 0 (omega arith) _ (sym (k .before .read .given .1) ∙ k .before .before .before .read-node .ensures) in
-    (is .within, st .pre .0, record { least = st .pre .1 .least; most = st .pre .1 .most; room = st .pre .1 .room }, st .pre .2)
+    (is .within, st .pre .0, record { least = st .pre .1 .least; most = st .pre .1 .most; room = st .pre .1 .room }, st .pre .2, omega arith)
 
 returns : tie.Need-returns
 returns c = record {
   frame = frame-same _;
-  is = λ es m t n q₁ q₂ differ. answer-none _ t n q₂ differ [] (sym (c .enum-told .given .1) ∙ c .before .before .read-node .ensures);
+  is = λ es m t n q₁ q₂ differ. answer-none _ _ t n q₂ differ [] (sym (c .enum-told .given .1) ∙ c .before .before .read-node .ensures);
 }
 
 returns-2 : tie.Need-returns-2
@@ -49,7 +49,7 @@ returns-2 c =
     record {
       frame = frame-same _;
       is = λ es m t n q₁ q₂ differ.
-          answer-inconsistent _ t n q₂ differ _ _ (sym (k .before .read .given .1) ∙ k .before .before .before .read-node .ensures) _ (c .before .before .survey-trees .ensures) (c .enum-told2 .given .1);
+          answer-inconsistent _ _ t n q₂ differ _ _ (sym (k .before .read .given .1) ∙ k .before .before .before .read-node .ensures) _ (c .before .before .survey-trees .ensures) (c .enum-told2 .given .1);
     }
 
 same-length : tie.Need-same-length
@@ -58,11 +58,11 @@ same-length c = search needs
 returns-3 : tie.Need-returns-3
 returns-3 c =
     let k = c .before .before .before .before .before .before .before .before .before in
-    let w = c .before .before .walk-root .ensures in
+    let last = c .before .before .walk-root .ensures in
     record {
-      frame = w .frame;
+      frame = last .frame;
       is = λ es m t n q₁ q₂ differ.
-          answer-consistent _ t n q₂ differ _ _ (sym (k .before .read .given .1) ∙ k .before .before .before .read-node .ensures) _ (c .before .before .before .before .before .before .before .before .survey-trees .ensures) _ (c .before .before .before .before .before .before .found .given .1) _ (w .is es m q₁);
+          answer-consistent _ _ t n q₂ differ _ _ (sym (k .before .read .given .1) ∙ k .before .before .before .read-node .ensures) _ (c .before .before .before .before .before .before .before .before .survey-trees .ensures) _ (c .before .before .before .before .before .before .found .given .1) _ (last .is es m q₁);
     }
 
 pub counts-ok-spec : {M : Type 1} → statement M

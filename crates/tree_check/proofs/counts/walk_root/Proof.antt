@@ -12,13 +12,10 @@ use Rattle.tree_check.proofs.counts.walk_root.Tie as tie
 first-requires : tie.Need-first-requires
 first-requires c κs = search needs
 
-add-t14 : tie.Need-add-t14
-add-t14 c = search needs
-
 advance-requires : tie.Need-advance-requires
 advance-requires c κs =
     let st = c .before .before .before .before .before in
-    (rw (c .before .first .ensures) (fits-first _ _ _ (st .pre .2) (omega (arith, st .fits .count))), st .pre .2 .room)
+    (rw (c .before .first .ensures) (fits-first _ _ _ (st .pre .2) (omega (arith, st .fits .count))), st .pre .2 .room, omega arith)
 
 enter-requires : tie.Need-enter-requires
 enter-requires c κs = search needs
@@ -38,8 +35,8 @@ returns c =
       frame = step .frame;
       is = λ es m q f n sound reads.
           let bytes : Bytes (x .b .now) = λ i. omega (arith, a .before .before .before .before .shared-slice-known2 .given i) in
-          let h = ahead-first _ _ _ _ es m bytes q in
-          root-none (x .d .now) (x .root) (x .expected) _ _ _ f _ _ _ (step .after [] _ h) (c .before .if1 .taken) _ (rw (c .before .before .before .enter .ensures) at (c .agrees .ensures)) refl;
+          let h = ahead-first _ _ _ _ _ es m bytes q in
+          root-none _ (x .d .now) (x .root) (x .expected) _ _ _ f _ _ _ (step .after [] _ h) (c .before .if1 .taken) _ (rw (c .before .before .before .enter .ensures) at (c .agrees .ensures)) refl;
     }
 
 reset-requires : tie.Need-reset-requires
@@ -60,9 +57,10 @@ walk-directories-requires c κs =
         some = omega (arith, some);
         long = omega arith;
       },
-      c .before .before .reset .ensures .0 _,
+      c .before .before .reset .ensures .0 _ _,
       refl,
       refl,
+      omega arith,
     )
 
 same-length-2 : tie.Need-same-length-2
@@ -70,25 +68,28 @@ same-length-2 c = search needs
 
 returns-2 : tie.Need-returns-2
 returns-2 c =
-    let w = c .before .before in
-    let a = w .before .before .before .before .before .before .before .before .before .before in
+    let last = c .before .before in
+    let a = last .before .before .before .before .before .before .before .before .before .before in
     let x = a .before .before .before .before .before .before .args in
     let step = rw (a .before .before .first .ensures) at (a .advance .ensures) in
-    let walked = rw (w .before .before .before .before .before .before .before .enter .ensures) at (w .walk-directories .ensures) in
+    let walked = rw (last .before .before .before .before .before .before .before .enter .ensures) at (last .walk-directories .ensures) in
     record {
       frame = frame-then (step .frame) (walked .frame);
       is = λ es m q f n sound reads.
           let bytes : Bytes (x .b .now) = λ i. omega (arith, a .before .before .before .before .shared-slice-known2 .given i) in
-          let h = ahead-first _ _ _ _ es m bytes q in
-          root-some (x .d .now) (x .root) (x .expected) _ _ _ f _ _ _ (step .after [] _ h) (w .before .before .before .before .before .if1 .left) n sound reads _ walked;
+          let h = ahead-first _ _ _ _ _ es m bytes q in
+          root-some _ (x .d .now) (x .root) (x .expected) _ _ _ f _ _ _ (step .after [] _ h) (last .before .before .before .before .before .if1 .left) n sound reads _ walked;
     }
+
+add-t15 : tie.Need-add-t15
+add-t15 c = search needs
 
 pub walk-root-spec : {M : Type 1} → statement M
 walk-root-spec =
     tie.close
     (tie.spec
     first-requires
-    add-t14
+    add-t15
     advance-requires
     enter-requires
     agrees-requires

@@ -14,20 +14,20 @@ use Rattle.tree_check.proofs.gather.put_ahead.Tie as tie
 
 -- keys were put, and then one more
 keys-more : (region : Region) (t₀ t t′ : List ℕ) → KeysPut region t₀ t → KeysPut region t t′ → KeysPut region t₀ t′
-keys-more region t₀ t t′ put more = record { vacant = more .vacant; known = λ d known. more .known d (put .known d known) }
+keys-more region t₀ t t′ put more = record { vacant = more .vacant; known = λ w d known. more .known w d (put .known w d known) }
 
 abbrev Inv-loop : tie.InvT-loop
-Inv-loop b v names₀ q region t₀ front₀ left₀ count₀ most names t front left count =
+Inv-loop b v names₀ q region t₀ w front₀ left₀ count₀ most names t front left count =
     FrontFits b front × (length names ≡ length names₀) × (8192 ≤ length names) × (q ≤ front .cursor .len) × (count + left ≤ 4096) × KeysPut region t₀ t
 
 abbrev μ-loop : tie.MeasureT-loop
-μ-loop b v names₀ q region t₀ front₀ left₀ count₀ most names t front left count = left
+μ-loop b v names₀ q region t₀ w front₀ left₀ count₀ most names t front left count = left
 
 most-keys-requires : tie.Need-most-keys-requires Inv-loop μ-loop
 most-keys-requires c κs = search needs
 
 loop-holds : tie.Need-loop-holds Inv-loop μ-loop
-loop-holds c = let st = c .before .before .before in (st .pre .0, refl, st .pre .1, st .pre .2, omega arith, record { vacant = st .pre .3; known = λ d known. known })
+loop-holds c = let st = c .before .before .before in (st .pre .0, refl, st .pre .1, st .pre .2, omega arith, record { vacant = st .pre .3; known = λ w d known. known })
 
 put-first-requires : tie.Need-put-first-requires Inv-loop μ-loop
 put-first-requires c κs = let inv = c .before .before .before .loop .inv in (inv .0, inv .2, inv .3, inv .5 .vacant)
@@ -43,7 +43,7 @@ returns c =
     keys-more _ _ _ _ (c .before .before .before .before .before .loop .inv .5) (c .before .put-first .ensures .1)
 
 advance-requires : tie.Need-advance-requires Inv-loop μ-loop
-advance-requires c κs = let inv = c .before .before .before .before .before .before .loop .inv in (inv .0, inv .2)
+advance-requires c κs = let inv = c .before .before .before .before .before .before .loop .inv in (inv .0, inv .2, omega arith)
 
 stays-requires : tie.Need-stays-requires Inv-loop μ-loop
 stays-requires c κs = search needs

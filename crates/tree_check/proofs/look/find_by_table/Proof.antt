@@ -13,7 +13,7 @@ put-places-requires : tie.Need-put-places-requires
 put-places-requires c κs =
     let st = c .before .before .before .before .before .before .before .before .before in
     let put = c .before .gather .ensures in
-    (st .pre .0, st .pre .1, put .vacant, put .known _ (c .before .before .before .begin .ensures .0))
+    (st .pre .0, st .pre .1, put .vacant, put .known _ _ (c .before .before .before .begin .ensures .0))
 
 find-in-table-requires : tie.Need-find-in-table-requires
 find-in-table-requires c κs = search needs

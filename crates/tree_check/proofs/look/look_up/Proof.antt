@@ -18,7 +18,7 @@ returns : tie.Need-returns
 returns c =
     let a = c .before in
     let st = a .before .before .before .before .before .before in
-    (ahead-file _ _ _ _ (st .pre .2) (st .pre .3) _ (a .before .name-at .ensures) _ (st .pre .4) _ (a .find .ensures .0) _ _ _ (c .if1 .taken), st .pre .5)
+    (ahead-file _ _ _ _ _ (st .pre .2) (st .pre .3) _ (a .before .name-at .ensures) _ (st .pre .4) _ (a .find .ensures .0) _ _ _ (c .if1 .taken), st .pre .5)
 
 sub-find-soon : tie.Need-sub-find-soon
 sub-find-soon c = search needs
@@ -46,7 +46,7 @@ returns-2 c =
     let e = c .before .before .before .before .before .before .before in
     let a = e .before in
     let st = a .before .before .before .before .before .before in
-    (rw (c .look-of .ensures) (ahead-child _ _ _ _ (st .pre .2) (st .pre .3) _ (a .before .name-at .ensures) _ (st .pre .4) _ (a .find .ensures .0) _ _ _ (e .if1 .left) (a .find .ensures .1) _ (rw (c .before .before .soon .given .1) at (c .before .before .before .before .find-soon .ensures .0))), c .before .before .before .before .find-soon .ensures .1)
+    (rw (c .look-of .ensures) (ahead-child _ _ _ _ _ (st .pre .2) (st .pre .3) _ (a .before .name-at .ensures) _ (st .pre .4) _ (a .find .ensures .0) _ _ _ (e .if1 .left) (a .find .ensures .1) _ (rw (c .before .before .soon .given .1) at (c .before .before .before .before .find-soon .ensures .0))), c .before .before .before .before .find-soon .ensures .1)
 
 enum-told : tie.Need-enum-told
 enum-told c = search needs
@@ -77,7 +77,7 @@ returns-3 c =
     let e = c .before .before .before .before .before .before .before .before .before .before in
     let a = e .before in
     let st = a .before .before .before .before .before .before in
-    (rw (c .look-of2 .ensures) (ahead-child _ _ _ _ (st .pre .2) (st .pre .3) _ (a .before .name-at .ensures) _ (st .pre .4) _ (a .find .ensures .0) _ _ _ (e .if1 .left) (a .find .ensures .1) _ (c .before .scan .ensures)), c .before .before .before .before .before .before .before .find-soon .ensures .1)
+    (rw (c .look-of2 .ensures) (ahead-child _ _ _ _ _ (st .pre .2) (st .pre .3) _ (a .before .name-at .ensures) _ (st .pre .4) _ (a .find .ensures .0) _ _ _ (e .if1 .left) (a .find .ensures .1) _ (c .before .scan .ensures)), c .before .before .before .before .before .before .before .find-soon .ensures .1)
 
 is-longer-requires-2 : tie.Need-is-longer-requires-2
 is-longer-requires-2 c κs = search needs
@@ -105,7 +105,7 @@ returns-4 c =
     let e = c .before .before .before .before .before .before .before .before .before .before .before .before .before in
     let a = e .before in
     let st = a .before .before .before .before .before .before in
-    (rw (c .look-of3 .ensures) (ahead-child _ _ _ _ (st .pre .2) (st .pre .3) _ (a .before .name-at .ensures) _ (st .pre .4) _ (a .find .ensures .0) _ _ _ (e .if1 .left) (a .find .ensures .1) _ (c .before .find-by-table .ensures .0)), c .before .find-by-table .ensures .1)
+    (rw (c .look-of3 .ensures) (ahead-child _ _ _ _ _ (st .pre .2) (st .pre .3) _ (a .before .name-at .ensures) _ (st .pre .4) _ (a .find .ensures .0) _ _ _ (e .if1 .left) (a .find .ensures .1) _ (c .before .find-by-table .ensures .0)), c .before .find-by-table .ensures .1)
 
 sub-find-by-table-2 : tie.Need-sub-find-by-table-2
 sub-find-by-table-2 c = search needs
@@ -130,7 +130,7 @@ returns-5 c =
     let e = c .before .before .before .before .before .before .before .before .before .before .before .before .before in
     let a = e .before in
     let st = a .before .before .before .before .before .before in
-    (rw (c .look-of4 .ensures) (ahead-child _ _ _ _ (st .pre .2) (st .pre .3) _ (a .before .name-at .ensures) _ (st .pre .4) _ (a .find .ensures .0) _ _ _ (e .if1 .left) (a .find .ensures .1) _ (c .before .find-by-table2 .ensures .0)), c .before .find-by-table2 .ensures .1)
+    (rw (c .look-of4 .ensures) (ahead-child _ _ _ _ _ (st .pre .2) (st .pre .3) _ (a .before .name-at .ensures) _ (st .pre .4) _ (a .find .ensures .0) _ _ _ (e .if1 .left) (a .find .ensures .1) _ (c .before .find-by-table2 .ensures .0)), c .before .find-by-table2 .ensures .1)
 
 pub look-up-spec : {M : Type 1} → statement M
 look-up-spec =

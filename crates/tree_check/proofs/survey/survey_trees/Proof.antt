@@ -13,18 +13,18 @@ use Rattle.tree_check.proofs.survey.survey_trees.Statement.{statement}
 use Rattle.tree_check.proofs.survey.survey_trees.Tie as tie
 
 abbrev Inv-loop : tie.InvT-loop
-Inv-loop d at k valid place₀ pending₀ strict₀ nodes₀ place pending strict nodes =
+Inv-loop d at k valid w place₀ pending₀ strict₀ nodes₀ place pending strict nodes =
     FlatPass d at k place pending × (strict ≤ pending) × (nodes ≤ place - at)
-    × ((f : Forest) (m : ℕ) → Reads (drop at d) f k m → Surveying d valid f place pending strict nodes)
+    × ((f : Forest) (m : ℕ) → Reads w (drop at d) f k m → Surveying w d valid f place pending strict nodes)
 
 abbrev μ-loop : tie.MeasureT-loop
-μ-loop d at k valid place₀ pending₀ strict₀ nodes₀ place pending strict nodes = length d - place
+μ-loop d at k valid w place₀ pending₀ strict₀ nodes₀ place pending strict nodes = length d - place
 
 demand-requires : tie.Need-demand-requires Inv-loop μ-loop
 demand-requires c κs = search needs
 
 loop-holds : tie.Need-loop-holds Inv-loop μ-loop
-loop-holds c = (flat-start _ _ _ (c .before .before .pre .0), omega (arith, c .demand .ensures .1), omega arith, λ f m r. survey-start _ _ f _ _ m _ (c .demand .ensures .0) r)
+loop-holds c = (flat-start _ _ _ (c .before .before .pre .0), omega (arith, c .demand .ensures .1), omega arith, λ f m r. survey-start _ _ _ f _ _ m _ (c .demand .ensures .0) r)
 
 read-node-requires : tie.Need-read-node-requires Inv-loop μ-loop
 read-node-requires c κs = c .before .loop .inv .0 .inside
@@ -38,7 +38,7 @@ enum-told c = search needs
 returns : tie.Need-returns Inv-loop μ-loop
 returns c =
     let l = c .before .before .before .before in
-    λ f m r. survey-stop _ _ f _ _ _ _ (l .loop .inv .3 f m r) (c .before .before .before .loop-test .taken) (sym (c .enum-told .given .1) ∙ c .before .before .read-node .ensures)
+    λ f m r. survey-stop _ _ _ f _ _ _ _ (l .loop .inv .3 f m r) (c .before .before .before .loop-test .taken) (sym (c .enum-told .given .1) ∙ c .before .before .read-node .ensures)
 
 is-wrong-requires : tie.Need-is-wrong-requires Inv-loop μ-loop
 is-wrong-requires c κs = search needs
@@ -47,7 +47,7 @@ returns-2 : tie.Need-returns-2 Inv-loop μ-loop
 returns-2 c =
     let k = c .before .before in
     let l = k .before .before .before .before .before in
-    λ f m r. survey-inconsistent _ _ f _ _ _ _ (l .loop .inv .3 f m r) (k .before .before .before .before .loop-test .taken) _ (sym (k .before .read .given .1) ∙ k .before .before .before .read-node .ensures) (sym (c .before .is-wrong .ensures) ∙ c .if1 .taken)
+    λ f m r. survey-inconsistent _ _ _ f _ _ _ _ (l .loop .inv .3 f m r) (k .before .before .before .before .loop-test .taken) _ (sym (k .before .read .given .1) ∙ k .before .before .before .read-node .ensures) (sym (c .before .is-wrong .ensures) ∙ c .if1 .taken)
 
 demand-requires-2 : tie.Need-demand-requires-2 Inv-loop μ-loop
 demand-requires-2 c κs = omega arith
@@ -83,10 +83,10 @@ loop-again c =
     let named = is .named in
     let ended = is .ended in
     let least = l .loop .inv .0 .least in
-    (flat-more _ _ _ _ _ (l .loop .inv .0) _ is (omega (arith, c .struct-known .given)), omega (arith, c .before .before .demand2 .ensures .1), omega (arith, c .before .weight .ensures .1), λ f m r. survey-on _ _ f _ _ _ _ (l .loop .inv .3 f m r) (k .before .before .before .before .loop-test .taken) _ e (sym (c .before .before .before .before .is-wrong .ensures) ∙ c .before .before .before .if1 .left) _ _ (c .before .before .demand2 .ensures .0) (c .before .weight .ensures .0))
+    (flat-more _ _ _ _ _ (l .loop .inv .0) _ is (omega (arith, c .struct-known .given)), omega (arith, c .before .before .demand2 .ensures .1), omega (arith, c .before .weight .ensures .1), λ f m r. survey-on _ _ _ f _ _ _ _ (l .loop .inv .3 f m r) (k .before .before .before .before .loop-test .taken) _ e (sym (c .before .before .before .before .is-wrong .ensures) ∙ c .before .before .before .if1 .left) _ _ (c .before .before .demand2 .ensures .0) (c .before .weight .ensures .0))
 
 returns-3 : tie.Need-returns-3 Inv-loop μ-loop
-returns-3 c = λ f m r. survey-end _ _ f _ _ _ _ (c .before .loop .inv .3 f m r) (c .loop-test .left)
+returns-3 c = λ f m r. survey-end _ _ _ f _ _ _ _ (c .before .loop .inv .3 f m r) (c .loop-test .left)
 
 pub survey-trees-spec : {M : Type 1} → statement M
 survey-trees-spec =

@@ -56,7 +56,7 @@ same-length c = search needs
 returns : tie.Need-returns
 returns c =
     let look = rw (c .before .before .before .before .enum-told .given .1) at (c .before .before .before .before .before .before .look-up .ensures) in
-    (record { is = part-files _ _ _ _ _ _ _ (c .before .before .before .before .before .before .before .before .before .before .before .before .before .before .pre .0) (look .0) _ (c .before .before .pass-files .ensures) }, look .1)
+    (record { is = part-files _ _ _ _ _ _ _ _ (c .before .before .before .before .before .before .before .before .before .before .before .before .before .before .pre .0) (look .0) _ (c .before .before .pass-files .ensures) }, look .1)
 
 same-length-2 : tie.Need-same-length-2
 same-length-2 c = search needs
@@ -64,7 +64,7 @@ same-length-2 c = search needs
 returns-2 : tie.Need-returns-2
 returns-2 c =
     let look = rw (c .before .before .before .before .before .before .look .given .1) at (c .before .before .before .before .before .before .before .before .look-up .ensures) in
-    (record { is = part-missing _ _ _ _ _ _ _ (c .before .before .before .before .before .before .before .before .before .before .before .before .before .before .before .before .pre .0) _ (look .0) _ (c .before .before .pass .ensures) }, look .1)
+    (record { is = part-missing _ _ _ _ _ _ _ _ (c .before .before .before .before .before .before .before .before .before .before .before .before .before .before .before .before .pre .0) _ (look .0) _ (c .before .before .pass .ensures) }, look .1)
 
 same-length-3 : tie.Need-same-length-3
 same-length-3 c = search needs
@@ -73,7 +73,7 @@ returns-3 : tie.Need-returns-3
 returns-3 c =
     let st = c .before .before .before .before .before .before .before .before .before .before .before .before .before .before .before in
     let look = rw (c .before .before .before .before .before .look2 .given .1) at (c .before .before .before .before .before .before .before .look-up .ensures) in
-    (record { is = rw (c .ended .ensures) (part-lost _ _ _ _ _ _ (st .args .work .now) (st .pre .0) _ _ (look .0) (sym (c .before .enum-told2 .given .1) ∙ c .before .before .before .read-node .ensures)) }, look .1)
+    (record { is = rw (c .ended .ensures) (part-lost _ _ _ _ _ _ _ (st .args .work .now) (st .pre .0) _ _ (look .0) (sym (c .before .enum-told2 .given .1) ∙ c .before .before .before .read-node .ensures)) }, look .1)
 
 same-length-4 : tie.Need-same-length-4
 same-length-4 c = search needs

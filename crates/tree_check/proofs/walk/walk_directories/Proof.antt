@@ -19,13 +19,13 @@ use Rattle.tree_check.proofs.walk.walk_directories.Statement.{statement
 use Rattle.tree_check.proofs.walk.walk_directories.Tie as tie
 
 abbrev Inv-loop : tie.InvT-loop
-Inv-loop d expected b v work₀ t₀ above₀ level₀ dir₀ front₀ ok₀ found₀ work t above level dir front ok found =
-    Known d t × Looping d b work₀ above work level dir front found
-    × ((f : Forest) (n : ℕ) → SoundForest f → readForest 20 0 127 (dir₀ .k) (drop (dir₀ .at) d) ≡ good f n → (x : List ℕ) (xs : List (List ℕ)) → Ahead v b work₀ front₀ x xs
-    → Walk d above b v dir₀ f (x ∷ xs) work level dir front ok found)
+Inv-loop d expected b v work₀ t₀ w above₀ level₀ dir₀ front₀ ok₀ found₀ work t above level dir front ok found =
+    Known w d t × Looping d b work₀ above work level dir front found
+    × ((f : Forest) (n : ℕ) → SoundForest f → readForest w 0 127 (dir₀ .k) (drop (dir₀ .at) d) ≡ good f n → (x : List ℕ) (xs : List (List ℕ)) → Ahead w v b work₀ front₀ x xs
+    → Walk w d above b v dir₀ f (x ∷ xs) work level dir front ok found)
 
 abbrev μ-loop : tie.MeasureT-loop
-μ-loop d expected b v work₀ t₀ above₀ level₀ dir₀ front₀ ok₀ found₀ work t above level dir front ok found =
+μ-loop d expected b v work₀ t₀ w above₀ level₀ dir₀ front₀ ok₀ found₀ work t above level dir front ok found =
     turns (front .ahead) (dir .ahead) level
 
 loop-holds : tie.Need-loop-holds Inv-loop μ-loop
@@ -33,7 +33,7 @@ loop-holds c =
     let st = c .before .before .before in (
       st .pre .1,
       loop-start _ _ _ _ _ _ (st .pre .0) (st .pre .3) refl,
-      λ f n sound reads x xs ahead. walk-start _ _ _ _ _ _ _ (st .pre .2) (st .pre .3) f n sound reads x xs ahead,
+      λ f n sound reads x xs ahead. walk-start _ _ _ _ _ _ _ _ (st .pre .2) (st .pre .3) f n sound reads x xs ahead,
     )
 
 is-in-requires : tie.Need-is-in-requires Inv-loop μ-loop
@@ -43,7 +43,7 @@ take-part-requires : tie.Need-take-part-requires Inv-loop μ-loop
 take-part-requires c κs =
     let l = c .before .before .before .before .loop in
     let on = sym (c .before .before .before .is-in .ensures) ∙ c .before .before .if1 .taken in
-    (loop-ready _ _ _ _ _ _ _ _ _ (l .inv .1) on, l .inv .0)
+    (loop-ready _ _ _ _ _ _ _ _ _ (l .inv .1) on, l .inv .0, omega arith)
 
 enum-known-part : tie.Need-enum-known-part Inv-loop μ-loop
 enum-known-part c = search needs
@@ -61,7 +61,7 @@ loop-again c =
     let part = rw (c .before .part .given .1) at (c .before .before .before .before .before .take-part .ensures) in (
       part .1,
       loop-passed _ _ _ _ _ _ _ _ _ (l .inv .1) _ _ _ _ (part .0 .is),
-      λ f n sound reads x xs ahead. walk-passed _ _ _ _ _ _ _ _ _ _ _ _ _ (l .inv .2 f n sound reads x xs ahead) on _ _ _ (part .0 .is) (l .inv .1 .most),
+      λ f n sound reads x xs ahead. walk-passed _ _ _ _ _ _ _ _ _ _ _ _ _ _ (l .inv .2 f n sound reads x xs ahead) on _ _ _ (part .0 .is) (l .inv .1 .most),
     )
 
 enum-known-part-2 : tie.Need-enum-known-part-2 Inv-loop μ-loop
@@ -86,7 +86,7 @@ returns c =
     let part = rw (c .before .before .part2 .given .1) at (c .before .before .before .before .before .before .take-part .ensures) in
     record {
       frame = rw (part .0 .is .same) (l .inv .1 .frame);
-      is = λ f n sound reads x xs ahead. absurd (walk-full _ _ _ _ _ _ _ _ _ _ _ _ _ (l .inv .2 f n sound reads x xs ahead) on _ _ (part .0 .is) (c .if2 .taken));
+      is = λ f n sound reads x xs ahead. absurd (walk-full _ _ _ _ _ _ _ _ _ _ _ _ _ _ (l .inv .2 f n sound reads x xs ahead) on _ _ (part .0 .is) (c .if2 .taken));
     }
 
 cast-above : tie.Need-cast-above Inv-loop μ-loop
@@ -118,7 +118,7 @@ loop-again-2 c =
       part .1,
       loop-entered _ _ _ _ _ _ _ _ _ (l .inv .1) _ _ _ (part .0 .is) on (omega (arith, l .inv .1 .deep, other)),
       λ f n sound reads x xs ahead.
-          walk-entered _ _ _ _ _ _ _ _ _ _ _ _ _ (l .inv .2 f n sound reads x xs ahead) on _ _ (part .0 .is) (l .inv .1 .levels) (omega (arith, l .inv .1 .deep, other)),
+          walk-entered _ _ _ _ _ _ _ _ _ _ _ _ _ _ (l .inv .2 f n sound reads x xs ahead) on _ _ (part .0 .is) (l .inv .1 .levels) (omega (arith, l .inv .1 .deep, other)),
     )
 
 agrees-requires : tie.Need-agrees-requires Inv-loop μ-loop
@@ -133,7 +133,7 @@ returns-2 c =
     let off = sym (c .before .before .before .is-in .ensures) ∙ c .before .before .if1 .left in
     record {
       frame = l .inv .1 .frame;
-      is = λ f n sound reads x xs ahead. walk-end _ _ _ _ _ _ _ _ _ _ _ _ _ (l .inv .2 f n sound reads x xs ahead) off (c .if3 .taken) _ _ _ (c .before .agrees .ensures) refl;
+      is = λ f n sound reads x xs ahead. walk-end _ _ _ _ _ _ _ _ _ _ _ _ _ _ (l .inv .2 f n sound reads x xs ahead) off (c .if3 .taken) _ _ _ (c .before .agrees .ensures) refl;
     }
 
 weight-requires : tie.Need-weight-requires Inv-loop μ-loop
@@ -169,11 +169,11 @@ loop-again-3 c =
     let l = c .before .before .before .before .before .before .loop in
     let off = sym (c .before .before .before .before .before .is-in .ensures) ∙ c .before .before .before .before .if1 .left in
     let other = c .before .before .if3 .left in
-    let w = c .before .weight .ensures in (
+    let last = c .before .weight .ensures in (
       l .inv .0,
-      loop-left _ _ _ _ _ _ _ _ _ (l .inv .1) off (omega (arith, other)) _ (w .1),
+      loop-left _ _ _ _ _ _ _ _ _ (l .inv .1) off (omega (arith, other)) _ (last .1),
       λ f n sound reads x xs ahead.
-          walk-left _ _ _ _ _ _ _ _ _ _ _ _ _ (l .inv .2 f n sound reads x xs ahead) off (omega (arith, other)) _ _ (c .before .before .before .agrees .ensures) (w .0) (above-before _ _ _ _ _ _ _ _ _ (l .inv .1) off (omega (arith, other))),
+          walk-left _ _ _ _ _ _ _ _ _ _ _ _ _ _ (l .inv .2 f n sound reads x xs ahead) off (omega (arith, other)) _ _ (c .before .before .before .agrees .ensures) (last .0) (above-before _ _ _ _ _ _ _ _ _ (l .inv .1) off (omega (arith, other))),
     )
 
 pub walk-directories-spec : {M : Type 1} → statement M
