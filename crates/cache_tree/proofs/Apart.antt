@@ -166,12 +166,12 @@ module _ (t x : List ℕ) (key slot : ℕ) (is-key : key ≡ keyIn t x) (is-slot
 
 -- ---- the names of siblings and of those after them
 
-after-one : (w : ℕ) (n : ℕ) (s : List ℕ) → restAfter w (n + 1) s ≡ restOf w (restAfter w n s)
+after-one : (w n : ℕ) (s : List ℕ) → restAfter w (n + 1) s ≡ restOf w (restAfter w n s)
 unfolding restAfter
 after-one w zero s = refl
 after-one w (suc n) s = rw (suc-add n 1) (after-one w n (restOf w s))
 
-names-append : (w : ℕ) (n j : ℕ) (s : List ℕ) → namesOf w (n + j) s ≡ namesOf w n s ++ namesOf w j (restAfter w n s)
+names-append : (w n j : ℕ) (s : List ℕ) → namesOf w (n + j) s ≡ namesOf w n s ++ namesOf w j (restAfter w n s)
 unfolding namesOf restAfter
 names-append w zero j s = simp zero-add
 names-append w (suc n) j s = rw (suc-add n j) (ap (λ (l : List (List ℕ)). nameOf s ∷ l) (names-append w n j (restOf w s)))
@@ -202,7 +202,7 @@ module _ (w : ℕ) (c : List (List ℕ)) (d : List ℕ) (a k : ℕ) (some : 0 < 
   apart-next r is e = rw (names-more w k (drop a d) some, e, rest-at w d a r is)
 
 -- n siblings of t, and u, what follows them
-module _ (w : ℕ) (n : ℕ) (t u : List ℕ) (at : u ≡ restAfter w n t) where
+module _ (w n : ℕ) (t u : List ℕ) (at : u ≡ restAfter w n t) where
   names-split : (k : ℕ) → n ≤ k → namesOf w k t ≡ namesOf w n t ++ namesOf w (k - n) u
   names-split k le =
       let q : k ≡ n + (k - n) = omega arith in

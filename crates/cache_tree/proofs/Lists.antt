@@ -95,12 +95,12 @@ unfolding bind
 step-by s rest go (bad n p) = refl
 step-by s rest go (good h m) = step-need s rest (h .node) m (okNodeName (h .node .name)) (go (h .subtrees) (drop m s))
 
-pub list-step : (w : ℕ) (l k : ℕ) (s : List ℕ) → readForest w 0 l (suc k) s ≡ bind (readOne w l s) λ t m. others t (readForest w 0 l k (drop m s))
+pub list-step : (w l k : ℕ) (s : List ℕ) → readForest w 0 l (suc k) s ≡ bind (readOne w l s) λ t m. others t (readForest w 0 l k (drop m s))
 unfolding readForest readSiblings readOne bind
 list-step w zero k s = refl
 list-step w (suc l) k s = step-by s (readForest w 0 (suc l) k) (readForest w 0 l) (readNode w 0 s)
 
-pub list-none : (w : ℕ) (l : ℕ) (s : List ℕ) → readForest w 0 l 0 s ≡ good nil 0
+pub list-none : (w l : ℕ) (s : List ℕ) → readForest w 0 l 0 s ≡ good nil 0
 unfolding readForest readSiblings
 list-none w zero s = refl
 list-none w (suc l) s = refl
@@ -110,7 +110,7 @@ list-none w (suc l) s = refl
 pub record Sized (most : ℕ) (r : Read Forest) : Type 0 where
   pub of : (f : Forest) (m : ℕ) → r ≡ good f m → (size f ≤ m) × (m ≤ most)
 
-one-sized : (w : ℕ) (l : ℕ) → ((k : ℕ) (s : List ℕ) → Sized (length s) (readForest w 0 l k s)) → (s : List ℕ) → Sized (length s) (readOne w (suc l) s)
+one-sized : (w l : ℕ) → ((k : ℕ) (s : List ℕ) → Sized (length s) (readForest w 0 l k s)) → (s : List ℕ) → Sized (length s) (readOne w (suc l) s)
 unfolding readOne size
 one-sized w l below s = record {
   of = λ f j e.
@@ -125,7 +125,7 @@ one-sized w l below s = record {
       (omega arith, omega arith);
 }
 
-none-sized : (w : ℕ) (l : ℕ) (s : List ℕ) → Sized (length s) (readForest w 0 l 0 s)
+none-sized : (w l : ℕ) (s : List ℕ) → Sized (length s) (readForest w 0 l 0 s)
 unfolding size
 none-sized w l s = record {
   of = λ f m e.
@@ -134,7 +134,7 @@ none-sized w l s = record {
       (omega arith, omega arith);
 }
 
-more-sized : (w : ℕ) (l k : ℕ) (s : List ℕ) → Sized (length s) (readOne w l s) → ((u : List ℕ) → Sized (length u) (readForest w 0 l k u)) → Sized (length s) (readForest w 0 l (suc k) s)
+more-sized : (w l k : ℕ) (s : List ℕ) → Sized (length s) (readOne w l s) → ((u : List ℕ) → Sized (length u) (readForest w 0 l k u)) → Sized (length s) (readForest w 0 l (suc k) s)
 unfolding others
 more-sized w l k s one rest = record {
   of = λ f j e.
@@ -152,13 +152,13 @@ no-level : (w : ℕ) (s : List ℕ) → Sized (length s) (readOne w 0 s)
 unfolding readOne
 no-level w s = record { of = λ f m e. bad-good 15 0 f m e }
 
-pub forest-sized : (w : ℕ) (l k : ℕ) (s : List ℕ) → Sized (length s) (readForest w 0 l k s)
+pub forest-sized : (w l k : ℕ) (s : List ℕ) → Sized (length s) (readForest w 0 l k s)
 forest-sized w zero zero s = none-sized w zero s
 forest-sized w zero (suc k) s = more-sized w zero k s (no-level w s) (forest-sized w zero k)
 forest-sized w (suc l) zero s = none-sized w (suc l) s
 forest-sized w (suc l) (suc k) s = more-sized w (suc l) k s (one-sized w l (forest-sized w l) s) (forest-sized w (suc l) k)
 
-pub subtree-sized : (w : ℕ) (l : ℕ) (s : List ℕ) → Sized (length s) (readOne w l s)
+pub subtree-sized : (w l : ℕ) (s : List ℕ) → Sized (length s) (readOne w l s)
 subtree-sized w zero s = no-level w s
 subtree-sized w (suc l) s = one-sized w l (forest-sized w l) s
 
@@ -245,7 +245,7 @@ module _ (at : ℕ) where
   shift-others m next t (bad n p) i q = refl
   shift-others m next t (good f o) i q = rw (graft-below t f, q) (others-by m next o t f i (distinctBelow f))
 
-forest-more : (w : ℕ) (l k : ℕ) (s : List ℕ) → 0 < k → readForest w 0 l k s ≡ bind (readOne w l s) λ t m. others t (readForest w 0 l (k - 1) (drop m s))
+forest-more : (w l k : ℕ) (s : List ℕ) → 0 < k → readForest w 0 l k s ≡ bind (readOne w l s) λ t m. others t (readForest w 0 l (k - 1) (drop m s))
 forest-more w l k s h = let e : k ≡ suc (k - 1) = omega arith in ap (λ (j : ℕ). readForest w 0 l j s) e ∙ list-step w l (k - 1) s
 
 module _ (w : ℕ) (d : List ℕ) (l place left : ℕ) where
@@ -326,11 +326,11 @@ module _ (w : ℕ) (d : List ℕ) (at l k : ℕ) where
     list-all inside none = list-is distinctBelow d at place nodes inside whole-list (forest-sized w l k (drop at d)) (loop-end w d l place left _ nodes so-far none)
 
 -- a sibling and all below it reach up to the next one
-one-alone : (w : ℕ) (l : ℕ) (s : List ℕ) (t : Forest) (m : ℕ) → readOne w l s ≡ good t m → readForest w 0 l 1 s ≡ good (graft t nil) (m + (0 + 0))
+one-alone : (w l : ℕ) (s : List ℕ) (t : Forest) (m : ℕ) → readOne w l s ≡ good t m → readForest w 0 l 1 s ≡ good (graft t nil) (m + (0 + 0))
 unfolding bind shift others
 one-alone w l s t m e = list-step w l 0 s ∙ rw (e, list-none w l (drop m s))
 
-one-some : (w : ℕ) (l : ℕ) (s : List ℕ) (f : Forest) (j : ℕ) → readOne w l s ≡ good f j → 1 ≤ j
+one-some : (w l : ℕ) (s : List ℕ) (f : Forest) (j : ℕ) → readOne w l s ≡ good f j → 1 ≤ j
 unfolding readOne
 one-some w zero s f j e = bad-good 15 0 f j e
 one-some w (suc l) s f j e =
@@ -349,13 +349,13 @@ one-length w d l place next n is =
 
 -- ---- a node and its list of subtrees
 
-one-more : (w : ℕ) (l : ℕ) (s : List ℕ) → (l ≡ 0 → ⊥) → readOne w l s ≡ bind (readNode w 0 s) λ h m.
+one-more : (w l : ℕ) (s : List ℕ) → (l ≡ 0 → ⊥) → readOne w l s ≡ bind (readNode w 0 s) λ h m.
     need (okNodeName (h .node .name)) 15 0 (bind (readForest w 0 (l - 1) (h .subtrees) (drop m s)) λ kids n. good (tree (h .node) kids nil) 0)
 unfolding readOne
 one-more w zero s e = absurd (e refl)
 one-more w (suc l) s e = let k : suc l - 1 ≡ l = omega arith in rw k
 
-no-node-by : (w : ℕ) (at : ℕ) (x : Read Head) (a : Head → ℕ → Read Forest) → R.Bad ≡ nodeAt w at x → listAt at (tested distinctBelow (bind x a)) ≡ L.Bad
+no-node-by : (w at : ℕ) (x : Read Head) (a : Head → ℕ → Read Forest) → R.Bad ≡ nodeAt w at x → listAt at (tested distinctBelow (bind x a)) ≡ L.Bad
 unfolding nodeAt
 no-node-by w at (bad n p) a e = bad-on at _ a n p refl
 no-node-by w at (good h m) a e = let z : _≡_ {A = ℕ} 0 1 = cc in absurd (omega arith)

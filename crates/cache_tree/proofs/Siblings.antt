@@ -16,11 +16,11 @@ pub rest-at : (w : ℕ) (d : List ℕ) (a r : ℕ) → r ≡ a + treesLength w 1
 unfolding restOf
 rest-at w d a r is = ap (λ (n : ℕ). drop n d) is ∙ sym (drop-drop (treesLength w 1 (drop a d)) a d)
 
-pub names-none : (w : ℕ) (k : ℕ) (s : List ℕ) → k ≤ 0 → namesOf w k s ≡ []
+pub names-none : (w k : ℕ) (s : List ℕ) → k ≤ 0 → namesOf w k s ≡ []
 unfolding namesOf
 names-none w k s h = let z : k ≡ 0 = omega arith in rw z
 
-pub names-more : (w : ℕ) (k : ℕ) (s : List ℕ) → 0 < k → namesOf w k s ≡ nameOf s ∷ namesOf w (k - 1) (restOf w s)
+pub names-more : (w k : ℕ) (s : List ℕ) → 0 < k → namesOf w k s ≡ nameOf s ∷ namesOf w (k - 1) (restOf w s)
 unfolding namesOf
 names-more w zero s h = absurd (omega arith)
 names-more w (suc k) s h = let e : suc k - 1 ≡ k = omega arith in rw e

@@ -1,4 +1,4 @@
--- Laws of the reader's steps at a place of the data.
+-- Laws of the reader's steps at a place of the data. w is the width of an object name.
 use mathlib.Core.Path.{_≡_, refl, sym, _∙_}
 use mathlib.Core.List.{List}
 use mathlib.Core.Bool.{Bool, true, false, cond, not, _&&_, _||_}
@@ -6,7 +6,7 @@ use mathlib.Core.Option.{Option, none, some}
 use Prim.Native.Nat.{ℕ, _+_, _-_, _≤_, _<_}
 use native.Mathlib.Omega.{arith}
 use native.Mathlib.Nat.{add-assoc}
-use lib.ListN.{length, take, drop, replicate, length-drop}
+use lib.ListN.{length, take, drop, replicate, length-drop, length-replicate, replicate-append-replicate}
 use lib.Seq.{drop-drop}
 use lib.Dec.{eqb, ltb}
 use borrow.Author.Tests.{ltb-true, lt-ltb, eq-eqb, ne-eqb, eqb-true, leb-true, le-leb}
@@ -19,6 +19,7 @@ use Rattle.format.specs.Reader.{readText, needSome, modeIn, readMode, readStage
 use Rattle.format_laws.proofs.Tests.{by-test, cond-inv}
 use Rattle.format_laws.proofs.Texts.{text-none, text-some}
 use Rattle.format_laws.proofs.Readings.{good-inv, need-inv, bind-inv, need-good, bind-good, same-size}
+use Rattle.entries.specs.Record.{wideObject}
 use Rattle.resolve_undo.specs.declared.ModeFound.the-variants as F
 use Rattle.resolve_undo.specs.declared.ModeRead.{ModeRead}
 use Rattle.resolve_undo.specs.declared.ModeRead.the-variants as M
@@ -71,36 +72,37 @@ module _ {ℓ} {X : Type ℓ} (at : ℕ) where
   mode-good-inv (bad n p) m next e f = let z : _≡_ {A = ℕ} 0 1 = cc in absurd (omega arith)
   mode-good-inv (good x k) m next e f = f k (cc) (cc)
 
-  pub record-bad-inv : (r : Read Undo) → R.Bad ≡ recordRead at r → ((n p : ℕ) → r ≡ bad n p → X) → X
+module _ {ℓ} {X : Type ℓ} (w at : ℕ) where
+  pub record-bad-inv : (r : Read Undo) → R.Bad ≡ recordRead w at r → ((n p : ℕ) → r ≡ bad n p → X) → X
   record-bad-inv (bad n p) e f = f n p refl
   record-bad-inv (good u k) e f = let z : _≡_ {A = ℕ} 0 1 = cc in absurd (omega arith)
 
-  pub record-good-inv : (r : Read Undo) (g : Record) → R.Good g ≡ recordRead at r → ((u : Undo) (k : ℕ) → r ≡ good u k → g ≡ recordOf at u k → X) → X
+  pub record-good-inv : (r : Read Undo) (g : Record) → R.Good g ≡ recordRead w at r → ((u : Undo) (k : ℕ) → r ≡ good u k → g ≡ recordOf w at u k → X) → X
   record-good-inv (bad n p) g e f = let z : _≡_ {A = ℕ} 0 1 = cc in absurd (omega arith)
   record-good-inv (good u k) g e f = f u k refl (cc)
 
 -- a record that is read after k bytes more
-record-shift : (at k : ℕ) (r : Read Undo) → recordRead at (shift k r) ≡ recordRead (at + k) r
+record-shift : (w at k : ℕ) (r : Read Undo) → recordRead w at (shift k r) ≡ recordRead w (at + k) r
 unfolding shift
-record-shift at k (bad n p) = refl
-record-shift at k (good u m) = rw (add-assoc at k m)
+record-shift w at k (bad n p) = refl
+record-shift w at k (good u m) = rw (add-assoc at k m)
 
 -- what is never read is refused
-refused : (at : ℕ) (r : Read Undo) → ((u : Undo) (k : ℕ) → r ≡ good u k → ⊥) → recordRead at r ≡ R.Bad
-refused at (bad n p) h = refl
-refused at (good u k) h = absurd (h u k refl)
+refused : (w at : ℕ) (r : Read Undo) → ((u : Undo) (k : ℕ) → r ≡ good u k → ⊥) → recordRead w at r ≡ R.Bad
+refused w at (bad n p) h = refl
+refused w at (good u k) h = absurd (h u k refl)
 
 -- a mode and what comes next
-then-bad : (at p : ℕ) (s : List ℕ) (k : ℕ → List ℕ → Read Undo) → M.Bad ≡ modeRead at (readMode p s) → recordRead at (withMode p k s) ≡ R.Bad
+then-bad : (w at p : ℕ) (s : List ℕ) (k : ℕ → List ℕ → Read Undo) → M.Bad ≡ modeRead at (readMode p s) → recordRead w at (withMode p k s) ≡ R.Bad
 unfolding bind withMode
-then-bad at p s k e = mode-bad-inv at (readMode p s) e λ n m q. rw q
+then-bad w at p s k e = mode-bad-inv at (readMode p s) e λ n m q. rw q
 
-then-good : (at next m p : ℕ) (d : List ℕ) (k : ℕ → List ℕ → Read Undo) → M.Good m next ≡ modeRead at (readMode p (drop at d))
-    → recordRead at (withMode p k (drop at d)) ≡ recordRead next (k m (drop next d))
+then-good : (w at next m p : ℕ) (d : List ℕ) (k : ℕ → List ℕ → Read Undo) → M.Good m next ≡ modeRead at (readMode p (drop at d))
+    → recordRead w at (withMode p k (drop at d)) ≡ recordRead w next (k m (drop next d))
 unfolding bind withMode
-then-good at next m p d k e =
+then-good w at next m p d k e =
     mode-good-inv at (readMode p (drop at d)) m next e λ n q place.
-    rw (q, place) (record-shift at n (k m (drop n (drop at d))) ∙ rw (drop-drop n at d))
+    rw (q, place) (record-shift w at n (k m (drop n (drop at d))) ∙ rw (drop-drop n at d))
 
 -- ---- stages
 
@@ -115,6 +117,12 @@ there-length w m h = rw (ne-eqb m 0 h)
 pub missing-object : (w m : ℕ) (s : List ℕ) → m ≡ 0 → objectIn w m s ≡ replicate w 0
 unfolding objectIn
 missing-object w m s h = rw (eq-eqb m 0 h)
+
+-- zeros in 32 bytes, zeros after them
+pub wide-zeros : (w : ℕ) → w ≤ 32 → wideObject (replicate w 0) ≡ replicate 32 0
+wide-zeros w few =
+    let all : w + (32 - w) ≡ 32 = omega arith in
+    rw (length-replicate {A = ℕ} w 0) (replicate-append-replicate {A = ℕ} w (32 - w) 0 ∙ rw all refl)
 
 pub there-object : (w m : ℕ) (s : List ℕ) → (m ≡ 0 → ⊥) → objectIn w m s ≡ take w s
 unfolding objectIn
@@ -205,24 +213,24 @@ module _ (w p : ℕ) (path : List ℕ) (a b c : ℕ) (s : List ℕ) (wide : 1 �
       (bind-good _ _ _ _ undoIn _ (stage-good w p c _ (omega arith)) (need-good _ 17 p _ undoIn 0 (sum-some w wide a b c one) refl)))
       ∙ same-size sum
 
-module _ (p at : ℕ) (path : List ℕ) (a b c n : ℕ) (d : List ℕ) (is : n ≡ objectLength 20 a + objectLength 20 b + objectLength 20 c) where
-  pub stages-none : n ≡ 0 → recordRead at (readStages 20 p path a b c (drop at d)) ≡ R.Bad
-  stages-none e = refused at _ λ u k q. let h = stages-read 20 p path a b c (drop at d) (omega arith) u k q in omega arith
+module _ (w p at : ℕ) (wide : 1 ≤ w) (path : List ℕ) (a b c n : ℕ) (d : List ℕ) (is : n ≡ objectLength w a + objectLength w b + objectLength w c) where
+  pub stages-none : n ≡ 0 → recordRead w at (readStages w p path a b c (drop at d)) ≡ R.Bad
+  stages-none e = refused w at _ λ u k q. let h = stages-read w p path a b c (drop at d) wide u k q in omega arith
 
-  pub stages-cut : length d - at < n → recordRead at (readStages 20 p path a b c (drop at d)) ≡ R.Bad
+  pub stages-cut : length d - at < n → recordRead w at (readStages w p path a b c (drop at d)) ≡ R.Bad
   stages-cut e =
-      refused at _ λ u k q.
-      let h = stages-read 20 p path a b c (drop at d) (omega arith) u k q in
+      refused w at _ λ u k q.
+      let h = stages-read w p path a b c (drop at d) wide u k q in
       let l = length-drop at d in omega arith
 
   pub stages-some : (n ≡ 0 → ⊥) → n ≤ length d - at → (size : ℕ) → length path ≡ size
-      → recordRead at (readStages 20 p path a b c (drop at d))
+      → recordRead w at (readStages w p path a b c (drop at d))
       ≡ R.Good (record { path = size; first = a; second = b; third = c; objects = at; next = at + n })
   unfolding objectsLength
   stages-some e fits size long =
       let l = length-drop at d in
       let place : at + n - n ≡ at = omega arith in
-      rw (stages-good 20 p path a b c (drop at d) (omega arith) (omega arith) (omega arith), ← is, long, place)
+      rw (stages-good w p path a b c (drop at d) wide (omega arith) (omega arith), ← is, long, place)
 
 -- ---- the rest of a record, after a mode at a place
 
@@ -231,22 +239,22 @@ mode-within at end m next r h e = rw e at h
 
 -- what is in the data after a place is in it after an earlier one
 pub record-within : (at i end : ℕ) (r : RecordRead) → at ≤ i → RecordWithin i end r → RecordWithin at end r
-record-within at i end R.Bad h w = tt
-record-within at i end (R.Good r) h w = omega arith
+record-within at i end R.Bad h inside = tt
+record-within at i end (R.Good r) h inside = omega arith
 
 pub record-bounds : (at end : ℕ) (g : Record) (r : RecordRead) → RecordWithin at end r → r ≡ R.Good g → (at < g .next) × (g .next ≤ end)
 record-bounds at end g r h e = rw e at h
 
 -- r is the mode at the place at, and k reads what comes after it
-module _ (at size : ℕ) (d : List ℕ) (k : ℕ → List ℕ → ℕ → List ℕ → Read Undo) (r : ModeRead)
+module _ (w at size : ℕ) (d : List ℕ) (k : ℕ → List ℕ → ℕ → List ℕ → Read Undo) (r : ModeRead)
     (told : ((p : ℕ) → r ≡ modeRead at (readMode p (drop at d))) × ModeWithin at (length d) r) where
-  pub no-mode : r ≡ M.Bad → RestRead at size d (λ p path. withMode p (k p path)) R.Bad
-  no-mode e = (λ p path long. sym (then-bad at p _ _ (sym e ∙ told .0 p)), tt)
+  pub no-mode : r ≡ M.Bad → RestRead w at size d (λ p path. withMode p (k p path)) R.Bad
+  no-mode e = (λ p path long. sym (then-bad w at p _ _ (sym e ∙ told .0 p)), tt)
 
-  pub after-mode : (m next : ℕ) (g : RecordRead) → r ≡ M.Good m next → RestRead next size d (λ p path. k p path m) g → RestRead at size d (λ p path. withMode p (k p path)) g
+  pub after-mode : (m next : ℕ) (g : RecordRead) → r ≡ M.Good m next → RestRead w next size d (λ p path. k p path m) g → RestRead w at size d (λ p path. withMode p (k p path)) g
   after-mode m next g e rest =
       let b = mode-within at (length d) m next r (told .1) e in (
-        λ p path long. rest .0 p path long ∙ sym (then-good at next m p d (k p path) (sym e ∙ told .0 p)),
+        λ p path long. rest .0 p path long ∙ sym (then-good w at next m p d (k p path) (sym e ∙ told .0 p)),
         record-within at next (length d) g (omega arith) (rest .1),
       )
 
@@ -259,7 +267,7 @@ unfolding readUndo readModes withMode
 undo-is w p previous s = refl
 
 module _ (w at e : ℕ) (d previous : List ℕ) (is : e ≡ at + before 0 (drop at d)) (inside : at ≤ length d) (p : ℕ) where
-  pub undo-none : e ≡ length d → recordRead at (readUndo w p previous (drop at d)) ≡ R.Bad
+  pub undo-none : e ≡ length d → recordRead w at (readUndo w p previous (drop at d)) ≡ R.Bad
   unfolding readUndo bind
   undo-none end = rw (text-none 0 17 p d at e is end)
 
@@ -267,14 +275,14 @@ module _ (w at e : ℕ) (d previous : List ℕ) (is : e ≡ at + before 0 (drop 
     abbrev path : List ℕ
     path = take (e - at) (drop at d)
 
-    pub undo-path : (okName path && isBelow (compare previous path)) ≡ false → recordRead at (readUndo w p previous (drop at d)) ≡ R.Bad
+    pub undo-path : (okName path && isBelow (compare previous path)) ≡ false → recordRead w at (readUndo w p previous (drop at d)) ≡ R.Bad
     unfolding bind need shift
     undo-path h = rw (undo-is, text-some 0 17 p d at e is more, h)
 
     pub undo-rest : (okName path && isBelow (compare previous path)) ≡ true
-        → recordRead at (readUndo w p previous (drop at d)) ≡ recordRead (e + 1) (readModes w p path (drop (e + 1) d))
+        → recordRead w at (readUndo w p previous (drop at d)) ≡ recordRead w (e + 1) (readModes w p path (drop (e + 1) d))
     unfolding bind need
     undo-rest h =
         let place : at + (e + 1 - at) ≡ e + 1 = omega arith in
         rw (undo-is, text-some 0 17 p d at e is more, h)
-        (record-shift at (e + 1 - at) (readModes w p path (drop (e + 1 - at) (drop at d))) ∙ rw (drop-drop (e + 1 - at) at d, place))
+        (record-shift w at (e + 1 - at) (readModes w p path (drop (e + 1 - at) (drop at d))) ∙ rw (drop-drop (e + 1 - at) at d, place))

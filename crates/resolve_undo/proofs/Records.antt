@@ -1,4 +1,4 @@
--- The records of the data, one after another: what is answered of what is left.
+-- The records of the data, one after another: what is answered of what is left. w is the width of an object name.
 use mathlib.Core.Path.{_≡_, refl, sym, ap, _∙_}
 use mathlib.Core.List.{List, [], _∷_}
 use mathlib.Core.Bool.{true}
@@ -6,7 +6,6 @@ use Prim.Native.Nat.{ℕ, suc, _+_, _-_, _≤_, _<_}
 use native.Mathlib.Omega.{arith}
 use lib.ListN.{length, take, drop, length-drop, drop-of-length-le}
 use lib.Seq.{drop-drop, length-take-le}
-use lib.Dec.{lit≤}
 use Rattle.format.specs.Bytes.{before}
 use Rattle.format.specs.Names.{okName}
 use Rattle.format.specs.Records.{Undo}
@@ -64,19 +63,19 @@ recordsFrom n (bad k p) = S.Bad
 recordsFrom n (good us k) = S.Good (n + length us)
 
 -- the same of the records that the data d has from at on
-abbrev pub answerFrom : ℕ → ℕ → ℕ → List ℕ → List ℕ → RecordsRead
-answerFrom p n at previous d = recordsFrom n (undosOf 20 p previous (drop at d))
+abbrev pub answerFrom : ℕ → ℕ → ℕ → ℕ → List ℕ → List ℕ → RecordsRead
+answerFrom w p n at previous d = recordsFrom n (undosOf w p previous (drop at d))
 
 from-none : (r : Read (List Undo)) → recordsRead r ≡ recordsFrom 0 r
 from-none (bad n p) = refl
 from-none (good us k) = let sum : 0 + length us ≡ length us = omega arith in rw sum
 
-pub from-start : (p : ℕ) (d : List ℕ) → recordsRead (readUndos 20 p (length d) [] d) ≡ answerFrom p 0 0 [] d
+pub from-start : (w p : ℕ) (d : List ℕ) → recordsRead (readUndos w p (length d) [] d) ≡ answerFrom w p 0 0 [] d
 unfolding undosOf
-from-start p d = from-none (readUndos 20 p (length d) [] d)
+from-start w p d = from-none (readUndos w p (length d) [] d)
 
-pub from-end : (p n at : ℕ) (previous d : List ℕ) → length d ≤ at → answerFrom p n at previous d ≡ S.Good n
-from-end p n at previous d end = let sum : n + 0 ≡ n = omega arith in rw (drop-of-length-le d end, undosOf-end, sum)
+pub from-end : (w p n at : ℕ) (previous d : List ℕ) → length d ≤ at → answerFrom w p n at previous d ≡ S.Good n
+from-end w p n at previous d end = let sum : n + 0 ≡ n = omega arith in rw (drop-of-length-le d end, undosOf-end, sum)
 
 bad-from : (n m p : ℕ) (k : Undo → ℕ → Read (List Undo)) → recordsFrom n (bind (bad m p) k) ≡ S.Bad
 unfolding bind
@@ -97,28 +96,28 @@ module _ (w p : ℕ) (previous s : List ℕ) (u : Undo) (k : ℕ) (q : readUndo 
   unfolding undoStart afterUndo
   place-after n = rw q
 
-pub place-end : (p at left : ℕ) (previous d : List ℕ) → left ≤ 0 → at + undoStart 20 p left previous (drop at d) ≡ at
+pub place-end : (w p at left : ℕ) (previous d : List ℕ) → left ≤ 0 → at + undoStart w p left previous (drop at d) ≡ at
 unfolding undoStart
-place-end p at left previous d h = let none : left ≡ 0 = omega arith in rw none (omega arith)
+place-end w p at left previous d h = let none : left ≡ 0 = omega arith in rw none (omega arith)
 
 -- ---- the record at a place
 
 -- r is the record at the place at, after one of the path previous
-abbrev pub IsRecordAt : ℕ → List ℕ → List ℕ → RecordRead → Type 0
-IsRecordAt at previous d r = ((p : ℕ) → r ≡ recordRead at (readUndo 20 p previous (drop at d))) × RecordWithin at (length d) r
+abbrev pub IsRecordAt : ℕ → ℕ → List ℕ → List ℕ → RecordRead → Type 0
+IsRecordAt w at previous d r = ((p : ℕ) → r ≡ recordRead w at (readUndo w p previous (drop at d))) × RecordWithin at (length d) r
 
-module _ (at : ℕ) (previous d : List ℕ) (r : RecordRead) (told : IsRecordAt at previous d r) where
+module _ (w at : ℕ) (previous d : List ℕ) (r : RecordRead) (told : IsRecordAt w at previous d r) where
   -- it is refused
   module _ (e : r ≡ R.Bad) (p : ℕ) where
-    pub refusal {ℓ} : {X : Type ℓ} → ((n m : ℕ) → readUndo 20 p previous (drop at d) ≡ bad n m → X) → X
-    refusal f = record-bad-inv at (readUndo 20 p previous (drop at d)) (sym e ∙ told .0 p) f
+    pub refusal {ℓ} : {X : Type ℓ} → ((n m : ℕ) → readUndo w p previous (drop at d) ≡ bad n m → X) → X
+    refusal f = record-bad-inv w at (readUndo w p previous (drop at d)) (sym e ∙ told .0 p) f
 
-    pub from-bad : (n : ℕ) → at < length d → answerFrom p n at previous d ≡ S.Bad
+    pub from-bad : (n : ℕ) → at < length d → answerFrom w p n at previous d ≡ S.Bad
     from-bad n inside =
         let long : 1 ≤ length (drop at d) = simp length-drop (omega arith) in
-        refusal λ m i q. rw (undosOf-step 20 p previous (drop at d) long, q) (bad-from n m i _)
+        refusal λ m i q. rw (undosOf-step w p previous (drop at d) long, q) (bad-from n m i _)
 
-    pub place-bad : (left : ℕ) → 0 < left → at + undoStart 20 p left previous (drop at d) ≡ at
+    pub place-bad : (left : ℕ) → 0 < left → at + undoStart w p left previous (drop at d) ≡ at
     unfolding undoStart afterUndo
     place-bad left some =
         let one : left ≡ suc (left - 1) = omega arith in
@@ -127,34 +126,34 @@ module _ (at : ℕ) (previous d : List ℕ) (r : RecordRead) (told : IsRecordAt 
   -- it is read
   module _ (g : Record) (e : r ≡ R.Good g) where
     module _ (p : ℕ) where
-      pub reading {ℓ} : {X : Type ℓ} → ((u : Undo) (k : ℕ) → readUndo 20 p previous (drop at d) ≡ good u k → g ≡ recordOf at u k → X) → X
-      reading f = record-good-inv at (readUndo 20 p previous (drop at d)) g (sym e ∙ told .0 p) f
+      pub reading {ℓ} : {X : Type ℓ} → ((u : Undo) (k : ℕ) → readUndo w p previous (drop at d) ≡ good u k → g ≡ recordOf w at u k → X) → X
+      reading f = record-good-inv w at (readUndo w p previous (drop at d)) g (sym e ∙ told .0 p) f
 
-      pub from-good : at < length d → (n : ℕ) → answerFrom p n at previous d ≡ answerFrom p (n + 1) (g .next) (take (g .path) (drop at d)) d
-      from-good inside n =
+      pub from-good : 1 ≤ w → at < length d → (n : ℕ) → answerFrom w p n at previous d ≡ answerFrom w p (n + 1) (g .next) (take (g .path) (drop at d)) d
+      from-good wide inside n =
           reading λ u k q is.
           let long : 1 ≤ length (drop at d) = simp length-drop (omega arith) in
-          let h = undo-begins 20 p previous (drop at d) u k (lit≤ tt) q in
-          rw (undos-after 20 p previous (drop at d) u k q long, is, h .0, ← (drop-drop k at d))
-          (more-from n k u (undosOf 20 p (u .path) (drop k (drop at d))))
+          let h = undo-begins w p previous (drop at d) u k wide q in
+          rw (undos-after w p previous (drop at d) u k q long, is, h .0, ← (drop-drop k at d))
+          (more-from n k u (undosOf w p (u .path) (drop k (drop at d))))
 
       -- the record left after it
-      pub place-more : (left : ℕ) → 0 < left
-          → at + undoStart 20 p left previous (drop at d) ≡ g .next + undoStart 20 p (left - 1) (take (g .path) (drop at d)) (drop (g .next) d)
-      place-more left some =
+      pub place-more : 1 ≤ w → (left : ℕ) → 0 < left
+          → at + undoStart w p left previous (drop at d) ≡ g .next + undoStart w p (left - 1) (take (g .path) (drop at d)) (drop (g .next) d)
+      place-more wide left some =
           reading λ u k q is.
-          let h = undo-begins 20 p previous (drop at d) u k (lit≤ tt) q in
-          let later = place-after 20 p previous (drop at d) u k q (left - 1) in
+          let h = undo-begins w p previous (drop at d) u k wide q in
+          let later = place-after w p previous (drop at d) u k q (left - 1) in
           let one : left ≡ suc (left - 1) = omega arith in
-          rw (is, h .0, ← (drop-drop k at d)) (ap (λ n. at + undoStart 20 p n previous (drop at d)) one ∙ omega arith)
+          rw (is, h .0, ← (drop-drop k at d)) (ap (λ n. at + undoStart w p n previous (drop at d)) one ∙ omega arith)
 
     -- it takes bytes, and it and its path end in the data
-    pub within : at ≤ length d → (at < g .next) × (g .next ≤ length d) × (at + g .path ≤ length d)
-    within inside =
+    pub within : 1 ≤ w → at ≤ length d → (at < g .next) × (g .next ≤ length d) × (at + g .path ≤ length d)
+    within wide inside =
         let b = record-bounds at (length d) g r (told .1) e in
         let fits : at + g .path ≤ length d =
         reading 0 λ u k q is.
-        let h = undo-begins 20 0 previous (drop at d) u k (lit≤ tt) q in
+        let h = undo-begins w 0 previous (drop at d) u k wide q in
         let l = length-drop at d in
         rw is (omega arith) in
         (b .0, b .1, fits)

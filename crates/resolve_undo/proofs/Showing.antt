@@ -1,4 +1,4 @@
--- The record that is shown: record number n of the list is what the bytes at its place say.
+-- The record that is shown: record number n of the list is what the bytes at its place say. w is the width of an object name.
 use mathlib.Core.Path.{_≡_, refl, sym, ap, _∙_}
 use mathlib.Core.List.{List, [], _∷_}
 use mathlib.Core.Bool.{true}
@@ -7,7 +7,6 @@ use Prim.Native.Nat.{ℕ, zero, suc, _+_, _-_, _≤_, _<_}
 use native.Mathlib.Omega.{arith}
 use lib.ListN.{length, take, drop, replicate, drop-of-length-le}
 use lib.Seq.{drop-drop}
-use lib.Dec.{lit≤}
 use Rattle.format.specs.Bytes.{before}
 use Rattle.format.specs.Names.{okName, compare, isBelow}
 use Rattle.format.specs.Records.{Undo}
@@ -16,6 +15,7 @@ use Rattle.format.specs.Reader.{readText, readUndo, readUndos}
 use Rattle.format_laws.proofs.Tests.{false-true, and-both}
 use Rattle.format_laws.proofs.Readings.{good-inv, bind-inv, need-good, bind-good, none-some, same-size}
 use Rattle.spelling.proofs.Undo.{undosOf, undosOf-end, undosOf-step}
+use Rattle.entries.specs.Record.{wideObject}
 use Rattle.resolve_undo.specs.declared.Record.{Record}
 use Rattle.resolve_undo.specs.declared.RecordRead.{RecordRead}
 use Rattle.resolve_undo.specs.declared.RecordRead.the-variants as R
@@ -61,10 +61,10 @@ place-item w p (suc n) previous s us k q h =
     (place-item w p n (u .path) (drop i s) vs j undosq rest)
 
 -- the same of the whole data, as the format reads it
-pub shown-item : (p n : ℕ) (d : List ℕ) (us : List Undo) (k : ℕ) → readUndos 20 p (length d) [] d ≡ good us k → n < length us
-    → undoAt 20 p (drop (undoStart 20 p n [] d) d) ≡ item n us
+pub shown-item : (w p n : ℕ) (d : List ℕ) (us : List Undo) (k : ℕ) → readUndos w p (length d) [] d ≡ good us k → n < length us
+    → undoAt w p (drop (undoStart w p n [] d) d) ≡ item n us
 unfolding undosOf
-shown-item p n d us k q h = place-item 20 p n [] d us k q h
+shown-item w p n d us k q h = place-item w p n [] d us k q h
 
 value-inv {ℓ} : {X : Type ℓ} (r : Read Undo) (u : Undo) → valueOf r ≡ some u → ((k : ℕ) → r ≡ good u k → X) → X
 unfolding valueOf
@@ -117,25 +117,25 @@ missing-zeros w p s u wide e =
 
 -- ---- what is shown
 
-pub shown-out : (p at : ℕ) (d : List ℕ) → length d ≤ at → shown at (undoAt 20 p (drop at d)) ≡ nothing
+pub shown-out : (w p at : ℕ) (d : List ℕ) → length d ≤ at → shown at (undoAt w p (drop at d)) ≡ nothing
 unfolding undoAt valueOf readUndo readText before need bind
-shown-out p at d h = rw (drop-of-length-le d h)
+shown-out w p at d h = rw (drop-of-length-le d h)
 
-module _ (at : ℕ) (d : List ℕ) (r : RecordRead) (told : IsRecordAt at [] d r) where
-  pub shown-bad : r ≡ R.Bad → (p : ℕ) → shown at (undoAt 20 p (drop at d)) ≡ nothing
+module _ (w at : ℕ) (d : List ℕ) (r : RecordRead) (told : IsRecordAt w at [] d r) where
+  pub shown-bad : r ≡ R.Bad → (p : ℕ) → shown at (undoAt w p (drop at d)) ≡ nothing
   unfolding undoAt valueOf
-  shown-bad e p = refusal at [] d r told e p λ n m q. rw q
+  shown-bad e p = refusal w at [] d r told e p λ n m q. rw q
 
-  module _ (g : Record) (e : r ≡ R.Good g) where
-    pub objects-end : g .objects + objectLength 20 (g .first) + objectLength 20 (g .second) + objectLength 20 (g .third) ≡ g .next
+  module _ (wide : 1 ≤ w) (g : Record) (e : r ≡ R.Good g) where
+    pub objects-end : g .objects + objectLength w (g .first) + objectLength w (g .second) + objectLength w (g .third) ≡ g .next
     unfolding objectsLength
     objects-end =
-        reading at [] d r told g e 0 λ u k q is.
-        let h = undo-objects 20 0 at [] d u k (lit≤ tt) q in
+        reading w at [] d r told g e 0 λ u k q is.
+        let h = undo-objects w 0 at [] d u k wide q in
         rw is (omega (arith, h .last))
 
-    pub shown-good : (x y : ℕ) → x ≡ objectLength 20 (g .first) → y ≡ objectLength 20 (g .second) → (p : ℕ)
-        → shown at (undoAt 20 p (drop at d))
+    pub shown-good : (x y : ℕ) → x ≡ objectLength w (g .first) → y ≡ objectLength w (g .second) → (p : ℕ)
+        → shown at (undoAt w p (drop at d))
         ≡ record {
           ok = true;
           path = at;
@@ -143,13 +143,13 @@ module _ (at : ℕ) (d : List ℕ) (r : RecordRead) (told : IsRecordAt at [] d r
           first = g .first;
           second = g .second;
           third = g .third;
-          «first_object» = objectIn 20 (g .first) (drop (g .objects) d);
-          «second_object» = objectIn 20 (g .second) (drop (g .objects + x) d);
-          «third_object» = objectIn 20 (g .third) (drop (g .objects + x + y) d);
+          «first_object» = wideObject (objectIn w (g .first) (drop (g .objects) d));
+          «second_object» = wideObject (objectIn w (g .second) (drop (g .objects + x) d));
+          «third_object» = wideObject (objectIn w (g .third) (drop (g .objects + x + y) d));
         }
     unfolding undoAt valueOf
     shown-good x y x-is y-is p =
-        reading at [] d r told g e p λ u k q is.
-        let h = undo-objects 20 p at [] d u k (lit≤ tt) q in
-        let place : at + k - objectsLength 20 u ≡ h .place = omega (arith, h .last) in
+        reading w at [] d r told g e p λ u k q is.
+        let h = undo-objects w p at [] d u k wide q in
+        let place : at + k - objectsLength w u ≡ h .place = omega (arith, h .last) in
         rw (q, y-is, x-is, is, place, ← (h .first), ← (h .second), ← (h .third))

@@ -1,4 +1,5 @@
--- What the functions of this crate answer, from what the reader of the format answers. A refusal is 17 always, so its number is left out.
+-- What the functions of this crate answer, from what the reader of the format answers. A refusal is 17 always, so its number is left out. w is the width of
+-- an object name.
 use mathlib.Core.Path.{_≡_}
 use mathlib.Core.List.{List, [], _∷_}
 use mathlib.Core.Bool.{true, false, cond}
@@ -9,6 +10,7 @@ use lib.Dec.{eqb}
 use Rattle.format.specs.Records.{Undo}
 use Rattle.format.specs.Reading.{Read, bad, good, bind}
 use Rattle.format.specs.Reader.{readMode, readStages, readUndo}
+use Rattle.entries.specs.Record.{wideObject}
 use Rattle.resolve_undo.specs.declared.ModeFound.{ModeFound}
 use Rattle.resolve_undo.specs.declared.ModeFound.the-variants as F
 use Rattle.resolve_undo.specs.declared.ModeRead.{ModeRead}
@@ -58,20 +60,20 @@ unfoldable pub objectIn : ℕ → ℕ → List ℕ → List ℕ
 objectIn w mode s = cond (eqb mode 0) (replicate w 0) (take w s)
 
 -- a record of k bytes that was read at the place at
-abbrev pub recordOf : ℕ → Undo → ℕ → Record
-recordOf at u k =
+abbrev pub recordOf : ℕ → ℕ → Undo → ℕ → Record
+recordOf w at u k =
     record {
       path = length (u .path);
       first = u .first .mode;
       second = u .second .mode;
       third = u .third .mode;
-      objects = at + k - objectsLength 20 u;
+      objects = at + k - objectsLength w u;
       next = at + k;
     }
 
-abbrev pub recordRead : ℕ → Read Undo → RecordRead
-recordRead at (bad n p) = R.Bad
-recordRead at (good u k) = R.Good (recordOf at u k)
+abbrev pub recordRead : ℕ → ℕ → Read Undo → RecordRead
+recordRead w at (bad n p) = R.Bad
+recordRead w at (good u k) = R.Good (recordOf w at u k)
 
 -- the place after a record is in the data
 abbrev pub RecordWithin : ℕ → ℕ → RecordRead → Type 0
@@ -79,9 +81,9 @@ RecordWithin at end R.Bad = Unit
 RecordWithin at end (R.Good r) = (at < r .next) × (r .next ≤ end)
 
 -- r is what k reads at the place at, after a path of size bytes
-abbrev pub RestRead : ℕ → ℕ → List ℕ → (ℕ → List ℕ → List ℕ → Read Undo) → RecordRead → Type 0
-RestRead at size d k r =
-    ((p : ℕ) (path : List ℕ) → length path ≡ size → r ≡ recordRead at (k p path (drop at d))) × RecordWithin at (length d) r
+abbrev pub RestRead : ℕ → ℕ → ℕ → List ℕ → (ℕ → List ℕ → List ℕ → Read Undo) → RecordRead → Type 0
+RestRead w at size d k r =
+    ((p : ℕ) (path : List ℕ) → length path ≡ size → r ≡ recordRead w at (k p path (drop at d))) × RecordWithin at (length d) r
 
 -- ---- all records
 
@@ -116,12 +118,12 @@ nothing =
       first = 0;
       second = 0;
       third = 0;
-      «first_object» = replicate 20 0;
-      «second_object» = replicate 20 0;
-      «third_object» = replicate 20 0;
+      «first_object» = replicate 32 0;
+      «second_object» = replicate 32 0;
+      «third_object» = replicate 32 0;
     }
 
--- a record at the place at, shown
+-- a record at the place at, shown; its object names are in 32 bytes, zeros after them
 abbrev pub shown : ℕ → Option Undo → Shown
 shown at none = nothing
 shown at (some u) =
@@ -132,7 +134,7 @@ shown at (some u) =
       first = u .first .mode;
       second = u .second .mode;
       third = u .third .mode;
-      «first_object» = u .first .object;
-      «second_object» = u .second .object;
-      «third_object» = u .third .object;
+      «first_object» = wideObject (u .first .object);
+      «second_object» = wideObject (u .second .object);
+      «third_object» = wideObject (u .third .object);
     }

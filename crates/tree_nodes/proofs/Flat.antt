@@ -44,7 +44,7 @@ node-nil : (w : ℕ) → readNode w 0 [] ≡ bad 15 0
 unfolding readNode readText before need bind
 node-nil w = refl
 
-same-fuel : (w : ℕ) (f g k : ℕ) (s : List ℕ) → length s ≤ f → length s ≤ g → lengthOf w f k s ≡ lengthOf w g k s
+same-fuel : (w f g k : ℕ) (s : List ℕ) → length s ≤ f → length s ≤ g → lengthOf w f k s ≡ lengthOf w g k s
 unfolding lengthOf
 same-fuel w zero zero k s l u = refl
 same-fuel w zero (suc g) zero s l u = refl
@@ -66,12 +66,12 @@ unfolding treesLength lengthOf
 trees-none w [] = refl
 trees-none w (x ∷ s) = refl
 
-pub trees-bad : (w : ℕ) (k n p : ℕ) (s : List ℕ) → readNode w 0 s ≡ bad n p → treesLength w (suc k) s ≡ length s
+pub trees-bad : (w k n p : ℕ) (s : List ℕ) → readNode w 0 s ≡ bad n p → treesLength w (suc k) s ≡ length s
 unfolding treesLength lengthOf
 trees-bad w k n p [] e = refl
 trees-bad w k n p (x ∷ s) e = rw e
 
-pub trees-step : (w : ℕ) (k : ℕ) (s : List ℕ) (h : Head) (m : ℕ) → readNode w 0 s ≡ good h m → treesLength w (suc k) s ≡ m + treesLength w (k + h .subtrees) (drop m s)
+pub trees-step : (w k : ℕ) (s : List ℕ) (h : Head) (m : ℕ) → readNode w 0 s ≡ good h m → treesLength w (suc k) s ≡ m + treesLength w (k + h .subtrees) (drop m s)
 unfolding treesLength lengthOf
 trees-step w k [] h m e = bad-good 15 0 h m (sym (node-nil w) ∙ e)
 trees-step w k (x ∷ s) h m e =
@@ -113,11 +113,11 @@ pub place-none : (w : ℕ) (s : List ℕ) → nodeStart w 0 s ≡ 0
 unfolding nodeStart
 place-none w s = refl
 
-pub place-step : (w : ℕ) (k : ℕ) (s : List ℕ) (h : Head) (m : ℕ) → readNode w 0 s ≡ good h m → nodeStart w (suc k) s ≡ m + nodeStart w k (drop m s)
+pub place-step : (w k : ℕ) (s : List ℕ) (h : Head) (m : ℕ) → readNode w 0 s ≡ good h m → nodeStart w (suc k) s ≡ m + nodeStart w k (drop m s)
 unfolding nodeStart
 place-step w k s h m e = rw e
 
-pub place-bad : (w : ℕ) (k n p : ℕ) (s : List ℕ) → readNode w 0 s ≡ bad n p → nodeStart w (suc k) s ≡ length s
+pub place-bad : (w k n p : ℕ) (s : List ℕ) → readNode w 0 s ≡ bad n p → nodeStart w (suc k) s ≡ length s
 unfolding nodeStart
 place-bad w k n p s e = rw e
 

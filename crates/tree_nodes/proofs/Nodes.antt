@@ -178,12 +178,12 @@ nodeFrom w at place (good h m) = R.Good (record {
   next = place + m;
 })
 
-from-here : (w : ℕ) (at : ℕ) (r : Read Head) → nodeAt w at r ≡ nodeFrom w at at r
+from-here : (w at : ℕ) (r : Read Head) → nodeAt w at r ≡ nodeFrom w at at r
 unfolding nodeAt nodeFrom
 from-here w at (bad n p) = refl
 from-here w at (good h m) = refl
 
-from-shift : (w : ℕ) (at place m : ℕ) (r : Read Head) → nodeFrom w at place (shift m r) ≡ nodeFrom w at (place + m) r
+from-shift : (w at place m : ℕ) (r : Read Head) → nodeFrom w at place (shift m r) ≡ nodeFrom w at (place + m) r
 unfolding nodeFrom shift
 from-shift w at place m (bad n p) = refl
 from-shift w at place m (good h k) = rw (add-assoc place m k)

@@ -133,7 +133,7 @@ node-at w node place own h r q e =
     good-is : {x y : Code.Node} → R.Good x ≡ R.Good y → x ≡ y
     good-is e = cc
 
-pub no-bad : (w : ℕ) (place own : ℕ) (h : Head) (r : Read Head) → r ≡ good h own → R.Bad ≡ nodeAt w place r → ⊥
+pub no-bad : (w place own : ℕ) (h : Head) (r : Read Head) → r ≡ good h own → R.Bad ≡ nodeAt w place r → ⊥
 unfolding nodeAt
 no-bad w place own h r q e = let z : _≡_ {A = ℕ} 0 1 = bad-good (e ∙ ap (nodeAt w place) q) in omega arith
   where

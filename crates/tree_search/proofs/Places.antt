@@ -29,7 +29,7 @@ pub record SameKeys (from slots : ℕ) (t u : List ℕ) : Type 0 where
   pub second : getD t 3073 0 ≡ getD u 3073 0
 
 -- a pass over siblings that has come to a place: those before it were put down
-pub record Placing (w : ℕ) (from slots : ℕ) (d : List ℕ) (f : Forest) (t : List ℕ) (place left : ℕ) : Type 0 where
+pub record Placing (w from slots : ℕ) (d : List ℕ) (f : Forest) (t : List ℕ) (place left : ℕ) : Type 0 where
   pub last : Last w d f place left
   pub is : PutDown w from slots d f t (last .siblings)
 

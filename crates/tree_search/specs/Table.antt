@@ -44,24 +44,24 @@ pub record Inside (from slots : ℕ) (d : List ℕ) (at : ℕ) (t : List ℕ) : 
   pub least : (i : ℕ) → from ≤ i → i < from + slots → 2 ≤ placeAt slots t i → at + 2 ≤ placeAt slots t i
 
 -- of the siblings f all but those of rest were put down
-pub record PutDown (w : ℕ) (from slots : ℕ) (d : List ℕ) (f : Forest) (t : List ℕ) (rest : Forest) : Type 0 where
+pub record PutDown (w from slots : ℕ) (d : List ℕ) (f : Forest) (t : List ℕ) (rest : Forest) : Type 0 where
   pub last : (i : ℕ) → from ≤ i → i < from + slots → 2 ≤ placeAt slots t i → Last w d f (placeAt slots t i - 2) 1
   pub none : (y : List ℕ) → HasKey from slots t y → placeAt slots t (slotFor from slots t y) ≡ 0 → child y f ≡ child y rest
   pub one : (y : List ℕ) → HasKey from slots t y → 2 ≤ placeAt slots t (slotFor from slots t y) → eqList y (nameOf (drop (placeAt slots t (slotFor from slots t y) - 2) d)) ≡ false → child y f ≡ child y rest
 
 -- all siblings of the list that the table is of, which has its place and number at list
-pub record TableKnown (w : ℕ) (from slots list : ℕ) (d t : List ℕ) : Type 0 where
+pub record TableKnown (w from slots list : ℕ) (d t : List ℕ) : Type 0 where
   pub inside : 1 ≤ getD t (list + 1) 0 → Inside from slots d (getD t list 0) t
   pub is : 1 ≤ getD t (list + 1) 0 → (f : Forest) (m : ℕ) → distinct f ≡ true → Reads w (drop (getD t list 0) d) f (getD t (list + 1) 0) m → PutDown w from slots d f t nil
 
 -- ---- a row of cursors
 
 -- those that are set are cursors over the k siblings at a place
-pub record Cursors (w : ℕ) (row : ℕ) (d : List ℕ) (at k : ℕ) (t : List ℕ) : Type 0 where
+pub record Cursors (w row : ℕ) (d : List ℕ) (at k : ℕ) (t : List ℕ) : Type 0 where
   pub is : (c : ℕ) → c < 16 → 1 ≤ getD t (row + c * 2 + 1) 0 → Cursor w d at k (getD t (row + c * 2) 0) (getD t (row + c * 2 + 1) 0)
 
 -- over those of the list that the row is of
-pub record RowKnown (w : ℕ) (row list : ℕ) (d t : List ℕ) : Type 0 where
+pub record RowKnown (w row list : ℕ) (d t : List ℕ) : Type 0 where
   pub is : 1 ≤ getD t (list + 1) 0 → Cursors w row d (getD t list 0) (getD t (list + 1) 0) t
 
 -- ---- the array

@@ -11,7 +11,7 @@ use Rattle.resolve_undo.proofs.read_stages.Tie as tie
 -- the sum that is tested is the length of the object names
 sum-is : (c : tie.After-object-length3) → let a = c .before .before .before .before .args in
     c .before .before .object-length .result + c .before .object-length2 .result + c .object-length3 .result
-    ≡ objectLength 20 (a .first) + objectLength 20 (a .second) + objectLength 20 (a .third)
+    ≡ objectLength (a .w) (a .first) + objectLength (a .w) (a .second) + objectLength (a .w) (a .third)
 sum-is c = omega arith
 
 object-length-requires : tie.Need-object-length-requires
@@ -32,8 +32,9 @@ add-n-2 c = search needs
 returns : tie.Need-returns
 returns c =
     let o = c .before in
-    let a = o .before .before .before .before .args in
-    (λ p s long. sym (stages-none p (a .at) s _ _ _ _ (a .d .now) (sum-is o) (c .if1 .taken)), tt)
+    let f = o .before .before .before .before in
+    let a = f .args in
+    (λ p s long. sym (stages-none _ p (a .at) (f .pre .1) s _ _ _ _ (a .d .now) (sum-is o) (c .if1 .taken)), tt)
 
 sub-if2 : tie.Need-sub-if2
 sub-if2 c = search needs
@@ -41,17 +42,19 @@ sub-if2 c = search needs
 returns-2 : tie.Need-returns-2
 returns-2 c =
     let o = c .before .before in
-    let a = o .before .before .before .before .args in
-    (λ p s long. sym (stages-cut p (a .at) s _ _ _ _ (a .d .now) (sum-is o) (c .if2 .taken)), tt)
+    let f = o .before .before .before .before in
+    let a = f .args in
+    (λ p s long. sym (stages-cut _ p (a .at) (f .pre .1) s _ _ _ _ (a .d .now) (sum-is o) (c .if2 .taken)), tt)
 
-add-t10 : tie.Need-add-t10
-add-t10 c = search needs
+add-t11 : tie.Need-add-t11
+add-t11 c = search needs
 
 returns-3 : tie.Need-returns-3
 returns-3 c =
     let o = c .before .before in
-    let a = o .before .before .before .before .args in
-    (λ p s long. sym (stages-some p (a .at) s _ _ _ _ (a .d .now) (sum-is o) (c .before .if1 .left) (c .if2 .left) _ long), omega arith)
+    let f = o .before .before .before .before in
+    let a = f .args in
+    (λ p s long. sym (stages-some _ p (a .at) (f .pre .1) s _ _ _ _ (a .d .now) (sum-is o) (c .before .if1 .left) (c .if2 .left) _ long), omega arith)
 
 pub read-stages-spec : {M : Type 1} → statement M
 read-stages-spec =
@@ -65,5 +68,5 @@ read-stages-spec =
     returns
     sub-if2
     returns-2
-    add-t10
+    add-t11
     returns-3)

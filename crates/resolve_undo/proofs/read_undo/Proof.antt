@@ -29,7 +29,7 @@ returns : tie.Need-returns
 returns c =
     let f = c .before in
     let a = f .before .before .args in
-    (λ p. sym (undo-none 20 (a .at) _ (a .d .now) _ (f .find .ensures .0) (f .before .before .pre .0) p (c .if1 .taken)), tt)
+    (λ p. sym (undo-none _ (a .at) _ (a .d .now) _ (f .find .ensures .0) (f .before .before .pre .0) p (c .if1 .taken)), tt)
 
 sub-path-ok : tie.Need-sub-path-ok
 sub-path-ok c = search needs
@@ -72,7 +72,7 @@ returns-2 c =
     let more : f .find .result < length (a .d .now) = omega arith in (
       λ p.
           sym
-          (undo-rest 20 (a .at) _ (a .d .now) _ (f .find .ensures .0) (f .before .before .pre .0) p more (path-is o ∙ c .before .if2 .taken)
+          (undo-rest _ (a .at) _ (a .d .now) _ (f .find .ensures .0) (f .before .before .pre .0) p more (path-is o ∙ c .before .if2 .taken)
           ∙ sym (c .read-modes .ensures .0 p _ (part-length (a .d .now) (a .at) (f .find .result) (omega arith)))),
       record-within (a .at) (f .find .result + 1) (length (a .d .now)) (c .read-modes .result) (omega arith) (c .read-modes .ensures .1),
     )
@@ -83,7 +83,7 @@ returns-3 c =
     let f = o .before .before .before .before in
     let a = f .before .before .args in
     let more : f .find .result < length (a .d .now) = omega arith in
-    (λ p. sym (undo-path 20 (a .at) _ (a .d .now) _ (f .find .ensures .0) (f .before .before .pre .0) p more (path-is o ∙ c .if2 .left)), tt)
+    (λ p. sym (undo-path _ (a .at) _ (a .d .now) _ (f .find .ensures .0) (f .before .before .pre .0) p more (path-is o ∙ c .if2 .left)), tt)
 
 pub read-undo-spec : {M : Type 1} → statement M
 read-undo-spec =

@@ -13,15 +13,15 @@ use Rattle.resolve_undo.proofs.read_undos.Statement.{statement}
 use Rattle.resolve_undo.proofs.read_undos.Tie as tie
 
 abbrev Inv-loop : tie.InvT-loop
-Inv-loop d at₀ prior₀ size₀ records₀ at prior size records =
+Inv-loop d w at₀ prior₀ size₀ records₀ at prior size records =
     (at ≤ length d) × (prior + size ≤ length d) × (records ≤ at)
-    × ((p : ℕ) → recordsRead (readUndos 20 p (length d) [] d) ≡ answerFrom p records at (take size (drop prior d)) d)
+    × ((p : ℕ) → recordsRead (readUndos w p (length d) [] d) ≡ answerFrom w p records at (take size (drop prior d)) d)
 
 abbrev μ-loop : tie.MeasureT-loop
-μ-loop d at₀ prior₀ size₀ records₀ at prior size records = length d - at
+μ-loop d w at₀ prior₀ size₀ records₀ at prior size records = length d - at
 
 loop-holds : tie.Need-loop-holds Inv-loop μ-loop
-loop-holds c = (zero-le, zero-le, zero-le, λ p. from-start p (c .before .args .d .now))
+loop-holds c = (zero-le, zero-le, zero-le, λ p. from-start _ p (c .before .args .d .now))
 
 read-undo-requires : tie.Need-read-undo-requires Inv-loop μ-loop
 read-undo-requires c κs = omega arith
@@ -33,7 +33,7 @@ returns : tie.Need-returns Inv-loop μ-loop
 returns c =
     let m = c .before .before in
     let l = m .before .before in
-    λ p. sym (l .loop .inv .3 p ∙ from-bad _ _ _ _ (m .read-undo .ensures) (c .enum-told .given .1) p _ (m .before .loop-test .taken))
+    λ p. sym (l .loop .inv .3 p ∙ from-bad _ _ _ _ _ (m .read-undo .ensures) (c .enum-told .given .1) p _ (m .before .loop-test .taken))
 
 enum-known-g : tie.Need-enum-known-g Inv-loop μ-loop
 enum-known-g c = search needs
@@ -52,18 +52,18 @@ loop-again c =
     let m = c .before .before .before in
     let l = m .before .before in
     let g = c .before .g .given in
-    let b = within _ _ _ _ (m .read-undo .ensures) _ (g .1) (l .loop .inv .0) in (
+    let b = within _ _ _ _ _ (m .read-undo .ensures) _ (g .1) (l .before .before .pre .1) (l .loop .inv .0) in (
       b .1,
       b .2,
       omega arith,
-      λ p. l .loop .inv .3 p ∙ from-good _ _ _ _ (m .read-undo .ensures) _ (g .1) p (m .before .loop-test .taken) (l .loop .records),
+      λ p. l .loop .inv .3 p ∙ from-good _ _ _ _ _ (m .read-undo .ensures) _ (g .1) p (l .before .before .pre .1) (m .before .loop-test .taken) (l .loop .records),
     )
 
 returns-2 : tie.Need-returns-2 Inv-loop μ-loop
 returns-2 c =
     let l = c .before in
     let a = l .before .before .args in
-    λ p. sym (l .loop .inv .3 p ∙ from-end p (l .loop .records) (l .loop .at) _ (a .d .now) (c .loop-test .left))
+    λ p. sym (l .loop .inv .3 p ∙ from-end _ p (l .loop .records) (l .loop .at) _ (a .d .now) (c .loop-test .left))
 
 pub read-undos-spec : {M : Type 1} → statement M
 read-undos-spec =

@@ -14,12 +14,12 @@ use Rattle.resolve_undo.proofs.show_undo.Tie as tie
 -- the object names end in the data
 ends : (c : tie.After-known-told) →
     let g = c .before .g .given .0 .0 in
-    let d = c .before .before .before .before .before .before .args .d .now in
-    g .objects + objectLength 20 (g .first) + objectLength 20 (g .second) + objectLength 20 (g .third) ≤ length d
+    let a = c .before .before .before .before .before .before .args in
+    g .objects + objectLength (a .w) (g .first) + objectLength (a .w) (g .second) + objectLength (a .w) (g .third) ≤ length (a .d .now)
 ends c =
     let g = c .before .g .given in
     let m = c .before .before .before in
-    let end = objects-end _ _ _ (m .read-undo .ensures) _ (g .1) in
+    let end = objects-end _ _ _ _ (m .read-undo .ensures) (m .before .before .before .pre .0) _ (g .1) in
     let b = record-bounds _ _ _ _ (m .read-undo .ensures .1) (g .1) in
     omega arith
 
@@ -30,7 +30,7 @@ returns : tie.Need-returns
 returns c =
     let a = c .before .before .before .args in
     let out : length (a .d .now) ≤ a .place = omega arith in
-    (λ p. c .no-record .ensures ∙ sym (shown-out p (a .place) (a .d .now) out), rw (c .no-record .ensures) zero-le)
+    (λ p. c .no-record .ensures ∙ sym (shown-out _ p (a .place) (a .d .now) out), rw (c .no-record .ensures) zero-le)
 
 read-undo-requires : tie.Need-read-undo-requires
 read-undo-requires c κs = search needs
@@ -68,7 +68,7 @@ object-requires-3 c κs = let e = ends (c .before .before .before .before .befor
 returns-2 : tie.Need-returns-2
 returns-2 c =
     let m = c .before .before .before in (
-      λ p. c .no-record2 .ensures ∙ sym (shown-bad _ _ _ (m .read-undo .ensures) (c .before .enum-told .given .1) p),
+      λ p. c .no-record2 .ensures ∙ sym (shown-bad _ _ _ _ (m .read-undo .ensures) (c .before .enum-told .given .1) p),
       rw (c .no-record2 .ensures) zero-le,
     )
 
@@ -81,8 +81,8 @@ returns-3 c =
       λ p.
           rw (c .object3 .ensures, c .before .object2 .ensures, c .before .before .object .ensures)
           (sym
-          (shown-good _ _ _ (m .read-undo .ensures) _ (g .1) _ _ (l .before .before .object-length .ensures .0) (l .object-length2 .ensures .0) p)),
-      within _ _ _ _ (m .read-undo .ensures) _ (g .1) (m .before .if1 .left) .2,
+          (shown-good _ _ _ _ (m .read-undo .ensures) (m .before .before .before .pre .0) _ (g .1) _ _ (l .before .before .object-length .ensures .0) (l .object-length2 .ensures .0) p)),
+      within _ _ _ _ _ (m .read-undo .ensures) _ (g .1) (m .before .before .before .pre .0) (m .before .if1 .left) .2,
     )
 
 pub show-undo-spec : {M : Type 1} → statement M
