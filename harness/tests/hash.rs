@@ -1,4 +1,4 @@
-//! The proved SHA-1, called as C calls it, against plain Rust.
+//! The proved SHA-1, called as C calls it, against plain Rust; and plain Rust against the published examples.
 
 #![deny(warnings)]
 
@@ -10,7 +10,7 @@ use std::ptr;
 /// What fills the bytes around an input and an output.
 const GUARD: u8 = 0xa5;
 
-fn hex(digest: [u8; 20]) -> String {
+fn hex<const N: usize>(digest: [u8; N]) -> String {
     digest.iter().map(|byte| format!("{byte:02x}")).collect()
 }
 
@@ -44,6 +44,28 @@ fn plain_gives_the_published_digests() {
     assert_eq!(
         hex(plain::sha1(&[b'a'; 1_000_000])),
         "34aa973cd4c4daa4f61eeb2bdbad27316534016f"
+    );
+}
+
+/// The same for SHA-256: FIPS 180-4, and FIPS 180-2, B.3.
+#[test]
+fn plain_gives_the_published_digests_of_sha256() {
+    let two_blocks = b"abcdbcdecdefdefgefghfghighijhijkijkljklmklmnlmnomnopnopq";
+    assert_eq!(
+        hex(plain::sha256(b"abc")),
+        "ba7816bf8f01cfea414140de5dae2223b00361a396177a9cb410ff61f20015ad"
+    );
+    assert_eq!(
+        hex(plain::sha256(two_blocks)),
+        "248d6a61d20638b8e5c026930c3e6039a33ce45964ff2167f6ecedd419db06c1"
+    );
+    assert_eq!(
+        hex(plain::sha256(b"")),
+        "e3b0c44298fc1c149afbf4c8996fb92427ae41e4649b934ca495991b7852b855"
+    );
+    assert_eq!(
+        hex(plain::sha256(&[b'a'; 1_000_000])),
+        "cdc76e5c9914fb9281a1c7e284d73e67f1809a48a497200e046d39ccc7112cd0"
     );
 }
 

@@ -115,37 +115,51 @@ fn round(s: State, w: &mut [u32; 16], t: usize, k: u32) -> State
     step(s, k, x)
 }
 
-// Four rounds, from round t on, with their constants.
-fn four(s: State, w: &mut [u32; 16], t: usize, k0: u32, k1: u32, k2: u32, k3: u32) -> State
-    requires { ⌜ (t + 4 ≤ 64) × (k0 ≡ F.K t) × (k1 ≡ F.K (t + 1)) × (k2 ≡ F.K (t + 2)) × (k3 ≡ F.K (t + 3)) ⌝ }
-    ensures { λ r. ⌜ ((h : State) (m : List ℕ) → At h m t (now (w .entry)) s → At h m (t + 4) (now (w .exit)) r) ⌝ }
+// Two rounds, from round t on, with their constants.
+fn two(s: State, w: &mut [u32; 16], t: usize, k0: u32, k1: u32) -> State
+    requires { ⌜ (t + 2 ≤ 64) × (k0 ≡ F.K t) × (k1 ≡ F.K (t + 1)) ⌝ }
+    ensures { λ r. ⌜ ((h : State) (m : List ℕ) → At h m t (now (w .entry)) s → At h m (t + 2) (now (w .exit)) r) ⌝ }
 {
     let s1 = round(s, w, t, k0);
-    let s2 = round(s1, w, t + 1, k1);
-    let s3 = round(s2, w, t + 2, k2);
-    round(s3, w, t + 3, k3)
+    round(s1, w, t + 1, k1)
 }
 
 // All rounds of a block (6.2.2, step 3), with the constants of 4.2.2. Straight-line code, so that every round's number is a constant once the calls are inlined.
 fn rounds(h: State, w: &mut [u32; 16]) -> State
     ensures { λ r. ⌜ ((m : List ℕ) → At h m 0 (now (w .entry)) h → At h m 64 (now (w .exit)) r) ⌝ }
 {
-    let s = four(h, w, 0, 0x428a2f98, 0x71374491, 0xb5c0fbcf, 0xe9b5dba5);
-    let s = four(s, w, 4, 0x3956c25b, 0x59f111f1, 0x923f82a4, 0xab1c5ed5);
-    let s = four(s, w, 8, 0xd807aa98, 0x12835b01, 0x243185be, 0x550c7dc3);
-    let s = four(s, w, 12, 0x72be5d74, 0x80deb1fe, 0x9bdc06a7, 0xc19bf174);
-    let s = four(s, w, 16, 0xe49b69c1, 0xefbe4786, 0x0fc19dc6, 0x240ca1cc);
-    let s = four(s, w, 20, 0x2de92c6f, 0x4a7484aa, 0x5cb0a9dc, 0x76f988da);
-    let s = four(s, w, 24, 0x983e5152, 0xa831c66d, 0xb00327c8, 0xbf597fc7);
-    let s = four(s, w, 28, 0xc6e00bf3, 0xd5a79147, 0x06ca6351, 0x14292967);
-    let s = four(s, w, 32, 0x27b70a85, 0x2e1b2138, 0x4d2c6dfc, 0x53380d13);
-    let s = four(s, w, 36, 0x650a7354, 0x766a0abb, 0x81c2c92e, 0x92722c85);
-    let s = four(s, w, 40, 0xa2bfe8a1, 0xa81a664b, 0xc24b8b70, 0xc76c51a3);
-    let s = four(s, w, 44, 0xd192e819, 0xd6990624, 0xf40e3585, 0x106aa070);
-    let s = four(s, w, 48, 0x19a4c116, 0x1e376c08, 0x2748774c, 0x34b0bcb5);
-    let s = four(s, w, 52, 0x391c0cb3, 0x4ed8aa4a, 0x5b9cca4f, 0x682e6ff3);
-    let s = four(s, w, 56, 0x748f82ee, 0x78a5636f, 0x84c87814, 0x8cc70208);
-    four(s, w, 60, 0x90befffa, 0xa4506ceb, 0xbef9a3f7, 0xc67178f2)
+    let s = two(h, w, 0, 0x428a2f98, 0x71374491);
+    let s = two(s, w, 2, 0xb5c0fbcf, 0xe9b5dba5);
+    let s = two(s, w, 4, 0x3956c25b, 0x59f111f1);
+    let s = two(s, w, 6, 0x923f82a4, 0xab1c5ed5);
+    let s = two(s, w, 8, 0xd807aa98, 0x12835b01);
+    let s = two(s, w, 10, 0x243185be, 0x550c7dc3);
+    let s = two(s, w, 12, 0x72be5d74, 0x80deb1fe);
+    let s = two(s, w, 14, 0x9bdc06a7, 0xc19bf174);
+    let s = two(s, w, 16, 0xe49b69c1, 0xefbe4786);
+    let s = two(s, w, 18, 0x0fc19dc6, 0x240ca1cc);
+    let s = two(s, w, 20, 0x2de92c6f, 0x4a7484aa);
+    let s = two(s, w, 22, 0x5cb0a9dc, 0x76f988da);
+    let s = two(s, w, 24, 0x983e5152, 0xa831c66d);
+    let s = two(s, w, 26, 0xb00327c8, 0xbf597fc7);
+    let s = two(s, w, 28, 0xc6e00bf3, 0xd5a79147);
+    let s = two(s, w, 30, 0x06ca6351, 0x14292967);
+    let s = two(s, w, 32, 0x27b70a85, 0x2e1b2138);
+    let s = two(s, w, 34, 0x4d2c6dfc, 0x53380d13);
+    let s = two(s, w, 36, 0x650a7354, 0x766a0abb);
+    let s = two(s, w, 38, 0x81c2c92e, 0x92722c85);
+    let s = two(s, w, 40, 0xa2bfe8a1, 0xa81a664b);
+    let s = two(s, w, 42, 0xc24b8b70, 0xc76c51a3);
+    let s = two(s, w, 44, 0xd192e819, 0xd6990624);
+    let s = two(s, w, 46, 0xf40e3585, 0x106aa070);
+    let s = two(s, w, 48, 0x19a4c116, 0x1e376c08);
+    let s = two(s, w, 50, 0x2748774c, 0x34b0bcb5);
+    let s = two(s, w, 52, 0x391c0cb3, 0x4ed8aa4a);
+    let s = two(s, w, 54, 0x5b9cca4f, 0x682e6ff3);
+    let s = two(s, w, 56, 0x748f82ee, 0x78a5636f);
+    let s = two(s, w, 58, 0x84c87814, 0x8cc70208);
+    let s = two(s, w, 60, 0x90befffa, 0xa4506ceb);
+    two(s, w, 62, 0xbef9a3f7, 0xc67178f2)
 }
 
 // The sums that end a block (6.2.2, step 4).

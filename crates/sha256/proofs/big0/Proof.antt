@@ -15,7 +15,7 @@ rotr-requires-3 c κs = search needs
 
 returns : tie.Need-returns
 unfolding big0
-returns c = cc
+returns c = rw (c .rotr3 .ensures, c .before .rotr2 .ensures, c .before .before .rotr .ensures)
 
 pub big0-spec : {M : Type 1} → statement M
 big0-spec = tie.close (tie.spec rotr-requires rotr-requires-2 rotr-requires-3 returns)

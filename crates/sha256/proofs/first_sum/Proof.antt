@@ -24,7 +24,16 @@ add-requires-4 c κs = search needs
 
 returns : tie.Need-returns
 unfolding T1
-returns c = cc
+returns c =
+    let chosen = c .before .before .before in
+    rw (
+      c .add4 .ensures,
+      c .before .add3 .ensures,
+      c .before .before .add2 .ensures,
+      chosen .ch .ensures,
+      chosen .before .add .ensures,
+      chosen .before .before .big1 .ensures,
+    )
 
 pub first-sum-spec : {M : Type 1} → statement M
 first-sum-spec =

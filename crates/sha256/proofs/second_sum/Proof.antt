@@ -15,7 +15,7 @@ add-requires c κs = search needs
 
 returns : tie.Need-returns
 unfolding T2
-returns c = cc
+returns c = rw (c .add .ensures, c .before .maj .ensures, c .before .before .big0 .ensures)
 
 pub second-sum-spec : {M : Type 1} → statement M
 second-sum-spec = tie.close (tie.spec big0-requires maj-requires add-requires returns)

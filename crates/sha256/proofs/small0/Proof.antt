@@ -12,7 +12,7 @@ rotr-requires-2 c κs = search needs
 
 returns : tie.Need-returns
 unfolding small0
-returns c = cc
+returns c = rw (c .rotr2 .ensures, c .before .rotr .ensures)
 
 pub small0-spec : {M : Type 1} → statement M
 small0-spec = tie.close (tie.spec rotr-requires rotr-requires-2 returns)

@@ -12,7 +12,7 @@ rotr-requires-2 c κs = search needs
 
 returns : tie.Need-returns
 unfolding small1
-returns c = cc
+returns c = rw (c .rotr2 .ensures, c .before .rotr .ensures)
 
 pub small1-spec : {M : Type 1} → statement M
 small1-spec = tie.close (tie.spec rotr-requires rotr-requires-2 returns)

@@ -18,7 +18,7 @@ add-requires-2 c κs = search needs
 
 returns : tie.Need-returns
 unfolding round
-returns c = cc
+returns c = rw (c .add2 .ensures, c .before .add .ensures, c .before .before .second-sum .ensures, c .before .before .before .first-sum .ensures)
 
 pub step-spec : {M : Type 1} → statement M
 step-spec =
