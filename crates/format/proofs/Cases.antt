@@ -1,6 +1,7 @@
 -- The cases that the requirements mark P: one table over the definitions.
 use mathlib.Core.Path.{_≡_, refl}
 use mathlib.Core.List.{List, [], _∷_, _++_}
+use mathlib.Core.Bool.{true, false}
 use mathlib.Core.Option.{none, some}
 use Prim.Native.Nat.{ℕ}
 use lib.ListN.{length, replicate}
@@ -78,6 +79,10 @@ Table =
     × (entryLength 62 10 ≡ 80)
     × (entryLength 64 1 ≡ 72)
     × (entryLength 64 8 ≡ 80)
+    × (fixedLength 32 false ≡ 74)
+    × (fixedLength 32 true ≡ 76)
+    × (entryLength (fixedLength 32 false) 5 ≡ 80)
+    × (entryLength (fixedLength 32 false) 6 ≡ 88)
     × (lengthField 4094 ≡ 4094)
     × (lengthField 4095 ≡ 4095)
     × (lengthField 4096 ≡ 4095)
@@ -103,4 +108,4 @@ Table =
 
 table : Table
 unfolding whole wholeBytes cleared clearedBytes cut cutter rest hash put16 put32 put32s putN be16 be32 be32s two eqList before lacks zeros digits decimal valueFrom value componentsFrom components okComponent okComponents okName lengthField compare common modeOf width okMode fixedLength entryLength flagsOf wordOf okNodeName has distinct under inside files allValid sum okCount okCounts okTreeCounts optional trees undos names need shift bind isSet okWord plainLength readPlain readN joined readName entryOf readTail readFixed readEntry readEntries readText countIn needSome readCount readSubtrees readObject readNode readSiblings readForest readNodes readTree readData readExtension readExtensions readBody readFile needsWord writePlain writePacked writeName writeRest writeEntry writeEntries digitsOf decimalOf writeCount writeObject writeNode writeForest writeTree writeExtension writeCacheTree writeResolveUndo writeExtensions writeHeader writeBody writeFile goesBefore sameKey putEntry invalidNode invalidPath invalidTree invalidCacheTree putRecord anyWord okAsked versionFor fitting writing putRequest
-table = (refl, refl, refl, refl, refl, refl, refl, refl, refl, refl, refl, refl, refl, refl, refl, refl, refl, refl, refl, refl, refl, refl, refl, refl, refl, refl, refl, refl)
+table = (refl, refl, refl, refl, refl, refl, refl, refl, refl, refl, refl, refl, refl, refl, refl, refl, refl, refl, refl, refl, refl, refl, refl, refl, refl, refl, refl, refl, refl, refl, refl, refl)
