@@ -1,18 +1,17 @@
 -- The demands hold for every kind, and so for SHA-1 and SHA-256. Each line names the theorem that proves it.
 use mathlib.Core.List.{List}
-use mathlib.Core.Bool.{true, false}
+use mathlib.Core.Bool.{false}
 use mathlib.Core.Path.{_≡_, refl, _∙_}
 use Prim.Native.Nat.{ℕ}
 use lib.ListN.{length, take}
-use Rattle.format.specs.Reader.{Contents}
 use Rattle.answers.specs.Answers.{tooSmall}
 use Rattle.answers.proofs.Laws.{room-small, room-large}
 use Rattle.spelling.proofs.File as spelling
-use Rattle.kinds.specs.Kinds.{okKind, widthOf, hashOf, readKind}
+use Rattle.kinds.specs.Kinds.{widthOf, hashOf, readKind}
 use Rattle.kinds.proofs.Laws.{length-hash, known-file, unknown-file, file-known}
 use Rattle.demands.proofs.Statements.{Demand1, Demand2, Demand3}
 use Rattle.demands.proofs.Written.{rewritten, put-in, removed, filled}
-use Rattle.demands.proofs.Proved.{ReadBy, all-refuse, left, zeroed, name-left, file-read, accepted-inv, checked, entry-shown, node-shown, undo-shown, exact, cut-rule}
+use Rattle.demands.proofs.Proved.{read-by, all-refuse, left, zeroed, name-left, file-read, accepted-inv, checked, entry-shown, node-shown, undo-shown, exact, cut-rule}
 
 module _ (kind : ℕ) (work : List ℕ) where
   abbrev w : ℕ
@@ -24,9 +23,6 @@ module _ (kind : ℕ) (work : List ℕ) where
   width : (b : List ℕ) → length (hash b) ≡ w
   width = length-hash kind
 
-  read : (f : List ℕ) → ReadBy w hash f (readKind kind f)
-  read f c m e = file-known kind f c m e λ _ q. q
-
   pub demand1 : Demand1 kind work
   demand1 = record {
     small = λ small f.
@@ -34,7 +30,7 @@ module _ (kind : ℕ) (work : List ℕ) where
         (checked, left work small, λ k. let (e, after, n, u) = shown k in (e, after ∙ left work small, n, u), asked);
     unknown = λ room unknown f. all-refuse w hash work (readKind kind f) 29 0 (room-large work (readKind kind f) room ∙ unknown-file kind f unknown);
     zeroed = zeroed work;
-    shown = λ f. name-left w hash work width f (readKind kind f) (read f);
+    shown = λ f. name-left w hash work width f (readKind kind f) (read-by kind f);
     left = λ out n p. refl;
     filled = filled;
   }
@@ -45,10 +41,10 @@ module _ (kind : ℕ) (work : List ℕ) where
       refusals = λ f n p e.
           let (checked, shown, asked) = all-refuse w hash work (readKind kind f) n p (room-large work (readKind kind f) room ∙ e) in
           (checked, λ k. let (e, _, n, u) = shown k in (e, n, u), asked);
-      records = λ f. file-read w hash work width f (readKind kind f) (read f) room;
-      rewritten = λ f. rewritten w hash work width f (readKind kind f) (read f);
-      put-in = λ f asked most e is. put-in w hash work width f (readKind kind f) (read f) asked most is e;
-      removed = λ f asked most k is. removed w hash work width f (readKind kind f) (read f) asked most is k;
+      records = λ f. file-read w hash work width f (readKind kind f) (read-by kind f) room;
+      rewritten = rewritten kind work;
+      put-in = λ f asked most e is. put-in kind work f asked most is e;
+      removed = λ f asked most k is. removed kind work f asked most is k;
     }
 
     pub demand3 : Demand3 kind work

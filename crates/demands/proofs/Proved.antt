@@ -2,7 +2,7 @@
 -- spell. Where a proof holds for whatever a call reads of a file, x is that.
 use mathlib.Core.Path.{_≡_, refl, sym, ap, _∙_}
 use mathlib.Core.Logic.{_↔_, _⊎_, inl, inr}
-use mathlib.Core.Bool.{Bool, true, false, cond}
+use mathlib.Core.Bool.{Bool, true, false}
 use mathlib.Core.List.{List, _++_, append-assoc}
 use mathlib.Core.Option.{Option, none, some}
 use Prim.Native.Nat.{ℕ, zero, suc, _-_, _≤_, _<_}
@@ -24,6 +24,8 @@ use Rattle.answers.specs.Answers.{tooSmall, inRoom, cleared, holding, workAfter
 use Rattle.format_laws.proofs.Tests.{and-inv}
 use Rattle.format_laws.proofs.Numbers.{bytes-take}
 use Rattle.answers.proofs.Laws.{room-large, room-inv}
+use Rattle.kinds.specs.Kinds.{widthOf, hashOf, readKind}
+use Rattle.kinds.proofs.Laws.{file-known}
 use Rattle.spelling.proofs.File.{contentsOf, spelled-read, read-spelled, cut}
 use Rattle.answers.specs.Writing.{rewriteAnswer, putAnswer, removeAnswer}
 
@@ -104,6 +106,9 @@ in-workspace false (some a) e q = let z : _≡_ {A = ℕ} 0 1 = cc in absurd (om
 -- x is the reading of a file, where it is no refusal
 abbrev pub ReadBy : (w : ℕ) (hash : List ℕ → List ℕ) (f : List ℕ) (x : Read Contents) → Type 0
 ReadBy w hash f x = (c : Contents) (m : ℕ) → x ≡ good c m → readFile w hash f ≡ good c m
+
+pub read-by : (kind : ℕ) (f : List ℕ) → ReadBy (widthOf kind) (hashOf kind) f (readKind kind f)
+read-by kind f c m e = file-known kind f c m e λ _ q. q
 
 module _ (w : ℕ) (hash : List ℕ → List ℕ) (work : List ℕ) (width : (b : List ℕ) → length (hash b) ≡ w) (f : List ℕ) (x : Read Contents) (read : ReadBy w hash f x) where
   shown-named : (k : ℕ) (e : Entry) → Bytes f → entryAnswer work k x ≡ inWorkspace e → length (e .name) ≤ 8192

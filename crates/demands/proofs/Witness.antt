@@ -4,34 +4,24 @@
 -- undo, whose nodes and records are shown, with a put and a remove.
 use mathlib.Core.Path.{_≡_, refl, ap, _∙_}
 use mathlib.Core.List.{List, [], _∷_, _++_}
-use mathlib.Core.Bool.{Bool, true, false, _&&_}
 use mathlib.Core.Option.{some}
-use Prim.Native.Nat.{ℕ, zero, suc}
-use native.Mathlib.Omega.{arith}
-use lib.ListN.{length, take, replicate}
-use lib.Dec.{ltb}
-use borrow.Author.Tests.{ltb-true}
-use Rattle.hash_words.specs.Padding.{be64, padded, pad}
-use Rattle.hash_words.specs.Words.{bytes4, words, be32 as word}
-use Rattle.hash.specs.Sha1.{quarter, f, K, H0, nextWord, extended, schedule, round, rounds, chain, block, absorb, digest, sha1}
-use Rattle.format.specs.Bytes.{Bytes, fit32, put16, put32, put32s, putN, be16, be32, be32s, two, eqList, before, lacks, zeros, digits, decimal, valueFrom, value}
-use Rattle.format.specs.Names.{componentsFrom, components, okComponent, okComponents, okName, lengthField, compare, common}
-use Rattle.format.specs.Layout.{okMode, fixedLength, entryLength, flagsOf, wordOf, okNodeName, has, distinct, under, inside, files, allValid, sum, okCount, okCounts, okTreeCounts, modeText, someStage, optional, trees, undos, names, Spells}
-use Rattle.format.specs.Reading.{good, need, shift, bind}
-use Rattle.format.specs.Reader.{isSet, okWord, plainLength, readPlain, readN, joined, readSuffix, readPacked, readName, entryOf, readTail, readFixed, readEntry, readEntries, readText, countIn, needSome, readCount, readSubtrees, readObject, readNode, readSiblings, readForest, readNodes, readTree, modeIn, readMode, readStage, readStages, readUndo, readUndos, readData, readExtension, readExtensions, Contents, readBody, readFile}
+use Prim.Native.Nat.{ℕ}
+use lib.ListN.{take, replicate}
+use Rattle.format.specs.Bytes.{Bytes, fit32}
+use Rattle.format.specs.Layout.{entryLength, Spells}
+use Rattle.format.specs.Reading.{good}
+use Rattle.format.specs.Reader.{Contents, readFile}
 use Rattle.format.specs.Places.{entryPlace, namePlace, entryNamePlace, dataFrom, dataPlace, dataIn, dataOf, nodeStart, nodePlace, afterUndo, undoStart, undoPlace}
 use Rattle.format.proofs.Cases.{a-b, a/b, a/c}
-use Rattle.format.specs.Records.{Records, Entry, modeOf, Key, valid, Node, nil, tree, Undo, width, items, treeItems}
-use Rattle.format.specs.Writer.{needsWord, writePlain, writePacked, writeName, writeRest, writeEntry, writeEntries, digitsOf, decimalOf, writeCount, writeObject, writeNode, writeForest, writeTree, writeStage, writeUndo, writeUndos, writeExtension, writeCacheTree, writeResolveUndo, writeExtensions, writeHeader, writeBody, writeFile}
-use Rattle.format.specs.Requests.{goesBefore, sameKey, putEntry, removeEntry, holds, invalidNode, invalidPath, invalidTree, invalidCacheTree, putRecord, removeRecord, anyWord, okAsked, versionFor, fitting, writing, rewriteRequest, putRequest, removeRequest}
-use Rattle.format_laws.proofs.Tests.{and-inv}
-use Rattle.kinds.specs.Kinds.{okKind, widthOf, hashOf, ofKind, readKind}
+use Rattle.format.specs.Records.{Records, Entry, Key, valid, Node, nil, tree}
+use Rattle.format.specs.Requests.{putRecord, removeRecord}
+use Rattle.kinds.specs.Kinds.{widthOf, hashOf, readKind}
 use Rattle.kinds.proofs.Laws.{sha1-known, known-file}
 use Rattle.answers.specs.declared.Summary.{Summary}
 use Rattle.answers.specs.declared.Count.the-variants.{Absent, Present}
 use Rattle.answers.specs.declared.Checked.the-variants.{Refused, Accepted}
-use Rattle.answers.specs.Answers.{tooSmall, inRoom, checkAnswer, entryAnswer, nodeAnswer, undoAnswer, inFile, inWorkspace}
-use Rattle.answers.specs.Writing.{rewriteAnswer, putAnswer, removeAnswer}
+use Rattle.answers.specs.Answers.{checkAnswer, nodeAnswer, undoAnswer, inFile, inWorkspace}
+use Rattle.answers.specs.Writing.{putAnswer, removeAnswer}
 use Rattle.demands.proofs.Statements.{check, entry, node, undo, rewrite, put, remove}
 use Rattle.demands.proofs.Demands.{demand2, demand3}
 use Rattle.demands.proofs.Samples.{work, closed, room, below, all-below, fixedPart, plain, indexBytes, plainEntry, plan}

@@ -6,7 +6,7 @@ use mathlib.Core.Option.{some}
 use Prim.Native.Nat.{ℕ}
 use lib.ListN.{replicate}
 use Rattle.format.specs.Bytes.{Bytes, fit32}
-use Rattle.format.specs.Records.{Records, Entry, valid, Node, nil}
+use Rattle.format.specs.Records.{Records, valid, Node, nil}
 use Rattle.format.specs.Layout.{entryLength, Spells}
 use Rattle.format.specs.Reading.{good}
 use Rattle.format.specs.Reader.{Contents, readFile}

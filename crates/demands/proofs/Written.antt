@@ -18,7 +18,10 @@ use Rattle.writing.specs.Sound.{SoundRecords}
 use Rattle.writing.specs.OneFile.{OneFile, WritesBack}
 use Rattle.writing.proofs.File.{read-sound}
 use Rattle.writing.proofs.Answers.{FileAnswered, answered-one, rewrite-answers, put-answers, remove-answers}
-use Rattle.demands.proofs.Proved.{ReadBy}
+use Rattle.kinds.specs.Kinds.{widthOf, hashOf, readKind}
+use Rattle.kinds.proofs.Laws.{length-hash}
+use Rattle.demands.proofs.Statements.{rewrite, put, remove}
+use Rattle.demands.proofs.Proved.{ReadBy, read-by}
 
 pub filled : (out bytes : List ℕ) (n : ℕ) → n ≡ length bytes
     → (take n (outputAfter (good bytes n) out) ≡ bytes) × (drop n (outputAfter (good bytes n) out) ≡ drop n out)
@@ -42,16 +45,28 @@ module _ (w : ℕ) (hash : List ℕ → List ℕ) (work : List ℕ) (width : (b 
           good-inv c d m i (sym e ∙ read d i good-is) λ same _.
           answered-one (law (c .records) bytes n (read-sound w hash width f c m is e) (rw same q)) width
 
-  pub rewritten : WritesBack w hash f asked (λ r. r) (rewriteAnswer w hash work asked most x)
+  pub writes-rewritten : WritesBack w hash f asked (λ r. r) (rewriteAnswer w hash work asked most x)
   unfolding rewriteAnswer
-  rewritten = back (rewriteRequest w hash asked most) (λ r. r) λ r bytes n sound q. rewrite-answers asked most bytes n r sound q
+  writes-rewritten = back (rewriteRequest w hash asked most) (λ r. r) λ r bytes n sound q. rewrite-answers asked most bytes n r sound q
 
-  pub put-in : (e : Entry) → length (e .numbers) ≡ 10 → fit32 (e .numbers) ≡ true → length (e .object) ≡ w
+  pub writes-put : (e : Entry) → length (e .numbers) ≡ 10 → fit32 (e .numbers) ≡ true → length (e .object) ≡ w
       → WritesBack w hash f asked (putRecord w e) (putAnswer w hash work asked e most x)
   unfolding putAnswer
-  put-in e ten fit object =
+  writes-put e ten fit object =
       back (putRequest w hash asked e most) (putRecord w e) λ r bytes n sound q. put-answers asked most bytes n e r sound ten fit object q
 
-  pub removed : (k : Key) → WritesBack w hash f asked (removeRecord w k) (removeAnswer w hash work asked k most x)
+  pub writes-removed : (k : Key) → WritesBack w hash f asked (removeRecord w k) (removeAnswer w hash work asked k most x)
   unfolding removeAnswer
-  removed k = back (removeRequest w hash asked k most) (removeRecord w k) λ r bytes n sound q. remove-answers asked most bytes n k r sound q
+  writes-removed k = back (removeRequest w hash asked k most) (removeRecord w k) λ r bytes n sound q. remove-answers asked most bytes n k r sound q
+
+-- the same for a kind
+module _ (kind : ℕ) (work f : List ℕ) (asked most : ℕ) (is : Bytes f) where
+  pub rewritten : WritesBack (widthOf kind) (hashOf kind) f asked (λ r. r) (rewrite kind work asked most f)
+  rewritten = writes-rewritten (widthOf kind) (hashOf kind) work (length-hash kind) f (readKind kind f) (read-by kind f) asked most is
+
+  pub put-in : (e : Entry) → length (e .numbers) ≡ 10 → fit32 (e .numbers) ≡ true → length (e .object) ≡ widthOf kind
+      → WritesBack (widthOf kind) (hashOf kind) f asked (putRecord (widthOf kind) e) (put kind work asked e most f)
+  put-in = writes-put (widthOf kind) (hashOf kind) work (length-hash kind) f (readKind kind f) (read-by kind f) asked most is
+
+  pub removed : (k : Key) → WritesBack (widthOf kind) (hashOf kind) f asked (removeRecord (widthOf kind) k) (remove kind work asked k most f)
+  removed = writes-removed (widthOf kind) (hashOf kind) work (length-hash kind) f (readKind kind f) (read-by kind f) asked most is
