@@ -107,7 +107,7 @@ module _ (kind : ℕ) (work : List ℕ) where
         WritesBack w hash f asked (putRecord w e) (put asked e room f)
     pub removed : (f : List ℕ) (asked room : ℕ) (k : Key) → Bytes f → WritesBack w hash f asked (removeRecord w k) (remove asked k room f)
 
-  -- With the workspace that document 01 asks for. A file of an unknown kind is never accepted, whatever spells it:
+  -- With the workspace that document 01 asks for. Of an unknown kind no file is accepted, so what says that one is asks for a known kind:
   pub record Demand3 : Type 0 where
     -- a file of a known kind is accepted exactly when some set of records spells it
     pub exact : okKind kind ≡ true → (f : List ℕ) → Bytes f → ((s : Summary) × (check f ≡ Accepted s)) ↔ ((r : Records) × Spells w hash r f)
