@@ -1,46 +1,75 @@
--- The demands hold: of every width and hash of that width, and so of SHA-1. Each line names the theorem that proves it.
+-- The demands hold for every kind, and so for SHA-1 and SHA-256. Each line names the theorem that proves it.
 use mathlib.Core.List.{List}
 use mathlib.Core.Bool.{false}
-use mathlib.Core.Path.{_≡_, refl}
+use mathlib.Core.Path.{_≡_, refl, _∙_}
 use Prim.Native.Nat.{ℕ}
-use lib.ListN.{length}
+use lib.ListN.{length, take}
 use Rattle.answers.specs.Answers.{tooSmall}
-use Rattle.hash.specs.Sha1.{sha1}
-use Rattle.hash.proofs.Bytes.{length-sha1}
-use Rattle.spelling.proofs.File.{one}
+use Rattle.answers.proofs.Laws.{room-small, room-large}
+use Rattle.spelling.proofs.File as spelling
+use Rattle.kinds.specs.Kinds.{widthOf, hashOf, readKind}
+use Rattle.kinds.proofs.Laws.{length-hash, known-file, unknown-file, file-known}
 use Rattle.demands.proofs.Statements.{Demand1, Demand2, Demand3}
 use Rattle.demands.proofs.Written.{rewritten, put-in, removed, filled}
-use Rattle.demands.proofs.Proved.{small-refused, zeroed, name-left, file-refused, file-read, checked, entry-shown, node-shown, undo-shown, accepted-spelled, cut-rule}
+use Rattle.demands.proofs.Proved.{read-by, all-refuse, left, zeroed, name-left, file-read, accepted-inv, checked, entry-shown, node-shown, undo-shown, exact, cut-rule}
 
-module _ (w : ℕ) (hash : List ℕ → List ℕ) (work : List ℕ) (width : (b : List ℕ) → length (hash b) ≡ w) where
-  pub demand1 : Demand1 w hash work
-  demand1 = record { small = small-refused w hash work; zeroed = zeroed work; shown = name-left w hash work width; left = λ out n p. refl; filled = filled }
+module _ (kind : ℕ) (work : List ℕ) where
+  abbrev w : ℕ
+  w = widthOf kind
 
-  pub demand2 : tooSmall work ≡ false → Demand2 w hash work
-  demand2 room = record {
-    refusals = file-refused w hash work width room;
-    records = file-read w hash work width room;
-    rewritten = λ f asked most is. rewritten w hash work width f asked most is;
-    put-in = λ f asked most e is. put-in w hash work width f asked most is e;
-    removed = λ f asked most k is. removed w hash work width f asked most is k;
+  abbrev hash : List ℕ → List ℕ
+  hash = hashOf kind
+
+  width : (b : List ℕ) → length (hash b) ≡ w
+  width = length-hash kind
+
+  pub demand1 : Demand1 kind work
+  demand1 = record {
+    small = λ small f.
+        let (checked, shown, asked) = all-refuse w hash work (readKind kind f) 19 0 (room-small work (readKind kind f) small) in
+        (checked, left work small, λ k. let (e, after, n, u) = shown k in (e, after ∙ left work small, n, u), asked);
+    unknown = λ room unknown f. all-refuse w hash work (readKind kind f) 29 0 (room-large work (readKind kind f) room ∙ unknown-file kind f unknown);
+    zeroed = zeroed work;
+    shown = λ f. name-left w hash work width f (readKind kind f) (read-by kind f);
+    left = λ out n p. refl;
+    filled = filled;
   }
 
-pub demand3 : (w : ℕ) (hash : List ℕ → List ℕ) (work : List ℕ) → ((b : List ℕ) → length (hash b) ≡ w) → tooSmall work ≡ false → Demand3 w hash work
-demand3 w hash work width room = record {
-  exact = λ f bytes. ((λ a. accepted-spelled w hash work width room f (a .0) bytes (a .1)), (λ p. (_, checked w hash work width room f (p .0) (p .1))));
-  one = λ f r q. one w hash width r q f;
-  counts = checked w hash work width room;
-  entries = λ f r k h. entry-shown w hash work width room f r h k;
-  nodes = λ f r k h. node-shown w hash work width room f r h k;
-  undos = λ f r k h. undo-shown w hash work width room f r h k;
-  cuts = λ f c s bytes _ e. cut-rule w hash work width room f c s bytes e;
-}
+  module _ (room : tooSmall work ≡ false) where
+    pub demand2 : Demand2 kind work
+    demand2 = record {
+      refusals = λ f n p e.
+          let (checked, shown, asked) = all-refuse w hash work (readKind kind f) n p (room-large work (readKind kind f) room ∙ e) in
+          (checked, λ k. let (e, _, n, u) = shown k in (e, n, u), asked);
+      records = λ f. file-read w hash work width f (readKind kind f) (read-by kind f) room;
+      rewritten = rewritten kind work;
+      put-in = λ f asked most e is. put-in kind work f asked most is e;
+      removed = λ f asked most k is. removed kind work f asked most is k;
+    }
 
-pub sha1-demand3 : (work : List ℕ) → tooSmall work ≡ false → Demand3 20 sha1 work
-sha1-demand3 work room = demand3 20 sha1 work length-sha1 room
+    pub demand3 : Demand3 kind work
+    demand3 = record {
+      exact = λ known f bytes. rw (known-file kind f known) (exact w hash work width room f bytes);
+      one = λ f r q. spelling.one w hash width r q f;
+      counts = λ known f r h. rw (known-file kind f known) (checked w hash work width room f r h);
+      entries = λ known f r k h. rw (known-file kind f known) (entry-shown w hash work width room f r h k);
+      nodes = λ known f r k h. rw (known-file kind f known) (node-shown w hash work width room f r h k);
+      undos = λ known f r k h. rw (known-file kind f known) (undo-shown w hash work width room f r h k);
+      cuts = λ f c s bytes _ e.
+          accepted-inv work (readKind kind f) s room e λ d m q.
+          file-known kind f d m q λ known _.
+          rw (known-file kind (take c f) known, known-file kind f known) (cut-rule w hash work width room f c s bytes (rw (known-file kind f known) at e));
+    }
 
-pub sha1-demand1 : (work : List ℕ) → Demand1 20 sha1 work
-sha1-demand1 work = demand1 20 sha1 work length-sha1
+-- the demands of a kind: 2 and 3 with the workspace that document 01 asks for
+abbrev pub Demands : ℕ → Type 0
+Demands kind = (work : List ℕ) → Demand1 kind work × (tooSmall work ≡ false → Demand2 kind work × Demand3 kind work)
 
-pub sha1-demand2 : (work : List ℕ) → tooSmall work ≡ false → Demand2 20 sha1 work
-sha1-demand2 work room = demand2 20 sha1 work length-sha1 room
+pub every-kind : (kind : ℕ) → Demands kind
+every-kind kind work = (demand1 kind work, λ room. (demand2 kind work room, demand3 kind work room))
+
+pub sha1-demands : Demands 1
+sha1-demands = every-kind 1
+
+pub sha256-demands : Demands 2
+sha256-demands = every-kind 2

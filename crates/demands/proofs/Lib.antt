@@ -1,6 +1,9 @@
--- The demands: Statements states them, Proved and Written have the proofs, Demands joins the two, Witness has closed cases.
+-- The demands: Statements states them, Proved and Written have the proofs, Demands joins the two. Witness and WitnessSha256 have closed cases,
+-- made of Samples.
 pub mod Demands
 pub mod Proved
+pub mod Samples
 pub mod Statements
 pub mod Witness
+pub mod WitnessSha256
 pub mod Written

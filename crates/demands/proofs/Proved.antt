@@ -1,7 +1,8 @@
--- The proofs of the demands, from the answers and from the reading of a file that records spell.
+-- The proofs of the demands, over every width w and every hash of that width, from the answers and from the reading of a file that records
+-- spell. Where a proof holds for whatever a call reads of a file, x is that.
 use mathlib.Core.Path.{_≡_, refl, sym, ap, _∙_}
-use mathlib.Core.Logic.{_⊎_, inl, inr}
-use mathlib.Core.Bool.{Bool, true, false, cond}
+use mathlib.Core.Logic.{_↔_, _⊎_, inl, inr}
+use mathlib.Core.Bool.{Bool, true, false}
 use mathlib.Core.List.{List, _++_, append-assoc}
 use mathlib.Core.Option.{Option, none, some}
 use Prim.Native.Nat.{ℕ, zero, suc, _-_, _≤_, _<_}
@@ -23,39 +24,43 @@ use Rattle.answers.specs.Answers.{tooSmall, inRoom, cleared, holding, workAfter
 use Rattle.format_laws.proofs.Tests.{and-inv}
 use Rattle.format_laws.proofs.Numbers.{bytes-take}
 use Rattle.answers.proofs.Laws.{room-large, room-inv}
+use Rattle.kinds.specs.Kinds.{widthOf, hashOf, readKind}
+use Rattle.kinds.proofs.Laws.{file-known}
 use Rattle.spelling.proofs.File.{contentsOf, spelled-read, read-spelled, cut}
 use Rattle.answers.specs.Writing.{rewriteAnswer, putAnswer, removeAnswer}
-use Rattle.demands.proofs.Statements.{check, entry, node, undo, rewrite, put, remove}
-
-module _ (work : List ℕ) (room : tooSmall work ≡ false) where
-  -- with room, an answer is that of the file's reading
-  check-is : (r : Read Contents) → checkAnswer work r ≡ checkedOf r
-  unfolding checkAnswer
-  check-is r = ap checkedOf (room-large work r room)
 
 -- an accepted file has been read
-accepted-inv {ℓ} : {X : Type ℓ} (r : Read Contents) (s : Summary) → checkedOf r ≡ Accepted s → ((c : Contents) (m : ℕ) → r ≡ good c m → s ≡ summaryOf c → X) → X
-accepted-inv (bad n p) s e f = let z : _≡_ {A = ℕ} 0 1 = cc in absurd (omega arith)
-accepted-inv (good c m) s e f = f c m refl (cc)
+pub accepted-inv {ℓ} :
+    {X : Type ℓ} (work : List ℕ) (x : Read Contents) (s : Summary) → tooSmall work ≡ false → checkAnswer work x ≡ Accepted s →
+    ((c : Contents) (m : ℕ) → x ≡ good c m → X) → X
+unfolding checkAnswer
+accepted-inv {X = X} work x s room e f = by x (sym (ap checkedOf (room-large work x room)) ∙ e) f
+  where
+    by : (y : Read Contents) → checkedOf y ≡ Accepted s → ((c : Contents) (m : ℕ) → y ≡ good c m → X) → X
+    by (bad n p) q g = let z : _≡_ {A = ℕ} 0 1 = cc in absurd (omega arith)
+    by (good c m) q g = g c m refl
 
 -- ---- demand 1
 
--- a refusal clears the workspace, and 19 leaves it
-pub small-refused : (w : ℕ) (hash : List ℕ → List ℕ) (work : List ℕ) → tooSmall work ≡ true → (f : List ℕ) →
-    (check w hash work f ≡ Refused 19 0)
-    × (cleared work ≡ work)
+-- what is refused, with the workspace, is refused by every call
+pub all-refuse : (w : ℕ) (hash : List ℕ → List ℕ) (work : List ℕ) (x : Read Contents) (n p : ℕ) → inRoom work x ≡ bad n p →
+    (checkAnswer work x ≡ Refused n p)
     × ((k : ℕ) →
-    (entry w hash work k f ≡ refused 19 0)
-    × (workAfter (entry w hash work k f) work ≡ work)
-    × (node w hash work k f ≡ refused 19 0)
-    × (undo w hash work k f ≡ refused 19 0))
+    (entryAnswer work k x ≡ refused n p)
+    × (workAfter (entryAnswer work k x) work ≡ cleared work)
+    × (nodeAnswer work k x ≡ refused n p)
+    × (undoAnswer work k x ≡ refused n p))
     × ((asked room : ℕ) (e : Entry) (k : Key) →
-    (rewrite w hash work asked room f ≡ bad 19 0)
-    × (put w hash work asked e room f ≡ bad 19 0)
-    × (remove w hash work asked k room f ≡ bad 19 0))
-unfolding inRoom checkAnswer entryAnswer nodeAnswer undoAnswer cleared rewriteAnswer putAnswer removeAnswer
-small-refused w hash work small f =
-    (rw small refl, rw small refl, λ k. (rw small refl, rw (small, small) refl, rw small refl, rw small refl), λ asked room e k. (rw small refl, rw small refl, rw small refl))
+    (rewriteAnswer w hash work asked room x ≡ bad n p)
+    × (putAnswer w hash work asked e room x ≡ bad n p)
+    × (removeAnswer w hash work asked k room x ≡ bad n p))
+unfolding checkAnswer entryAnswer nodeAnswer undoAnswer rewriteAnswer putAnswer removeAnswer
+all-refuse w hash work x n p e = (rw e refl, λ k. (rw e refl, rw e refl, rw e refl, rw e refl), λ asked room y k. (rw e refl, rw e refl, rw e refl))
+
+-- 19 leaves the workspace
+pub left : (work : List ℕ) → tooSmall work ≡ true → cleared work ≡ work
+unfolding cleared
+left work small = rw small
 
 pub zeroed : (work : List ℕ) → tooSmall work ≡ false → (take 8192 (cleared work) ≡ replicate 8192 0) × (drop 8192 (cleared work) ≡ drop 8192 work)
 unfolding cleared
@@ -98,75 +103,76 @@ in-workspace t none e q = let z : _≡_ {A = ℕ} 0 1 = cc in absurd (omega arit
 in-workspace true (some a) e q = cc
 in-workspace false (some a) e q = let z : _≡_ {A = ℕ} 0 1 = cc in absurd (omega arith)
 
-module _ (w : ℕ) (hash : List ℕ → List ℕ) (work : List ℕ) (width : (b : List ℕ) → length (hash b) ≡ w) where
-  shown-named : (f : List ℕ) (k : ℕ) (e : Entry) → Bytes f → entry w hash work k f ≡ inWorkspace e → length (e .name) ≤ 8192
+-- x is the reading of a file, where it is no refusal
+abbrev pub ReadBy : (w : ℕ) (hash : List ℕ → List ℕ) (f : List ℕ) (x : Read Contents) → Type 0
+ReadBy w hash f x = (c : Contents) (m : ℕ) → x ≡ good c m → readFile w hash f ≡ good c m
+
+pub read-by : (kind : ℕ) (f : List ℕ) → ReadBy (widthOf kind) (hashOf kind) f (readKind kind f)
+read-by kind f c m e = file-known kind f c m e λ _ q. q
+
+module _ (w : ℕ) (hash : List ℕ → List ℕ) (work : List ℕ) (width : (b : List ℕ) → length (hash b) ≡ w) (f : List ℕ) (x : Read Contents) (read : ReadBy w hash f x) where
+  shown-named : (k : ℕ) (e : Entry) → Bytes f → entryAnswer work k x ≡ inWorkspace e → length (e .name) ≤ 8192
   unfolding entryAnswer
-  shown-named f k e bytes = by (inRoom work (readFile w hash f)) refl
+  shown-named k e bytes = by (inRoom work x) refl
     where
-      by : (r : Read Contents) → inRoom work (readFile w hash f) ≡ r → entryOf k r ≡ inWorkspace e → length (e .name) ≤ 8192
+      by : (r : Read Contents) → inRoom work x ≡ r → entryOf k r ≡ inWorkspace e → length (e .name) ≤ 8192
       by (bad n p) is q = let z : _≡_ {A = ℕ} 0 1 = cc in absurd (omega arith)
       by (good c m) is q =
-          room-inv work (readFile w hash f) c m is λ large read.
-          let h = read-spelled w hash width f c m bytes read in
+          room-inv work x c m is λ large good-is.
+          let h = read-spelled w hash width f c m bytes (read c m good-is) in
           short-name (e .name) (entry-named w (h .body-is .version) (h .body-is .entries-are) k e (in-workspace (eqb (c .version) 4) _ e q))
 
-  pub name-left : (f : List ℕ) (k : ℕ) (e : Entry) → Bytes f → entry w hash work k f ≡ inWorkspace e →
-      (take (length (e .name)) (workAfter (entry w hash work k f) work) ≡ e .name)
-      × (take (8192 - length (e .name)) (drop (length (e .name)) (workAfter (entry w hash work k f) work)) ≡ replicate (8192 - length (e .name)) 0)
-      × (drop 8192 (workAfter (entry w hash work k f) work) ≡ drop 8192 work)
-  name-left f k e bytes q = rw q (held (e .name) work (shown-named f k e bytes q))
+  pub name-left : (k : ℕ) (e : Entry) → Bytes f → entryAnswer work k x ≡ inWorkspace e →
+      (take (length (e .name)) (workAfter (entryAnswer work k x) work) ≡ e .name)
+      × (take (8192 - length (e .name)) (drop (length (e .name)) (workAfter (entryAnswer work k x) work)) ≡ replicate (8192 - length (e .name)) 0)
+      × (drop 8192 (workAfter (entryAnswer work k x) work) ≡ drop 8192 work)
+  name-left k e bytes q = rw q (held (e .name) work (shown-named k e bytes q))
 
-module _ (w : ℕ) (hash : List ℕ → List ℕ) (work : List ℕ) (width : (b : List ℕ) → length (hash b) ≡ w) (room : tooSmall work ≡ false) where
   -- ---- demand 2
 
-  pub file-refused : (f : List ℕ) (n p : ℕ) → readFile w hash f ≡ bad n p →
-      (check w hash work f ≡ Refused n p)
-      × ((k : ℕ) → (entry w hash work k f ≡ refused n p) × (node w hash work k f ≡ refused n p) × (undo w hash work k f ≡ refused n p))
-      × ((asked room : ℕ) (x : Entry) (k : Key) →
-      (rewrite w hash work asked room f ≡ bad n p)
-      × (put w hash work asked x room f ≡ bad n p)
-      × (remove w hash work asked k room f ≡ bad n p))
-  unfolding inRoom checkAnswer entryAnswer nodeAnswer undoAnswer rewriteAnswer putAnswer removeAnswer
-  file-refused f n p e =
-      (rw (room, e) refl, λ k. (rw (room, e) refl, rw (room, e) refl, rw (room, e) refl), λ asked most x k. (rw (room, e) refl, rw (room, e) refl, rw (room, e) refl))
-
-  pub file-read : (f : List ℕ) (c : Contents) (m : ℕ) → Bytes f → readFile w hash f ≡ good c m →
+  pub file-read : tooSmall work ≡ false → (c : Contents) (m : ℕ) → Bytes f → x ≡ good c m →
       Spells w hash (c .records) f
-      × (check w hash work f ≡ Accepted (summaryOf c))
+      × (checkAnswer work x ≡ Accepted (summaryOf c))
       × ((k : ℕ) →
-      (entry w hash work k f ≡ pick (eqb (c .version) 4) (getElem? (c .records .entries) k))
-      × (node w hash work k f ≡ listed (itemsOf (c .records .cacheTree)) k)
-      × (undo w hash work k f ≡ listed (c .records .resolveUndo) k))
+      (entryAnswer work k x ≡ pick (eqb (c .version) 4) (getElem? (c .records .entries) k))
+      × (nodeAnswer work k x ≡ listed (itemsOf (c .records .cacheTree)) k)
+      × (undoAnswer work k x ≡ listed (c .records .resolveUndo) k))
   unfolding inRoom checkAnswer entryAnswer nodeAnswer undoAnswer
-  file-read f c m bytes e = (read-spelled w hash width f c m bytes e, rw (room, e) refl, λ k. (rw (room, e) refl, rw (room, e) refl, rw (room, e) refl))
+  file-read room c m bytes e =
+      (read-spelled w hash width f c m bytes (read c m e), rw (room, e) refl, λ k. (rw (room, e) refl, rw (room, e) refl, rw (room, e) refl))
 
+module _ (w : ℕ) (hash : List ℕ → List ℕ) (work : List ℕ) (width : (b : List ℕ) → length (hash b) ≡ w) (room : tooSmall work ≡ false) where
   -- ---- demand 3
 
   module _ (f : List ℕ) (r : Records) (h : Spells w hash r f) where
-    pub checked : check w hash work f ≡ Accepted (summaryOf (contentsOf (h .body-is)))
-    checked = check-is work room (readFile w hash f) ∙ ap checkedOf (spelled-read w hash width r f h)
+    pub checked : checkAnswer work (readFile w hash f) ≡ Accepted (summaryOf (contentsOf (h .body-is)))
+    unfolding checkAnswer
+    checked = ap checkedOf (room-large work (readFile w hash f) room ∙ spelled-read w hash width r f h)
 
-    pub entry-shown : (k : ℕ) → entry w hash work k f ≡ pick (eqb (h .body-is .version) 4) (getElem? (r .entries) k)
+    pub entry-shown : (k : ℕ) → entryAnswer work k (readFile w hash f) ≡ pick (eqb (h .body-is .version) 4) (getElem? (r .entries) k)
     unfolding entryAnswer
     entry-shown k = ap (entryOf k) (room-large work (readFile w hash f) room ∙ spelled-read w hash width r f h)
 
-    pub node-shown : (k : ℕ) → node w hash work k f ≡ listed (itemsOf (r .cacheTree)) k
+    pub node-shown : (k : ℕ) → nodeAnswer work k (readFile w hash f) ≡ listed (itemsOf (r .cacheTree)) k
     unfolding nodeAnswer
     node-shown k = ap (nodeOf k) (room-large work (readFile w hash f) room ∙ spelled-read w hash width r f h)
 
-    pub undo-shown : (k : ℕ) → undo w hash work k f ≡ listed (r .resolveUndo) k
+    pub undo-shown : (k : ℕ) → undoAnswer work k (readFile w hash f) ≡ listed (r .resolveUndo) k
     unfolding undoAnswer
     undo-shown k = ap (undoOf k) (room-large work (readFile w hash f) room ∙ spelled-read w hash width r f h)
 
   -- what is accepted is spelled
-  pub accepted-spelled : (f : List ℕ) (s : Summary) → Bytes f → check w hash work f ≡ Accepted s → (r : Records) × Spells w hash r f
+  accepted-spelled : (f : List ℕ) (s : Summary) → Bytes f → checkAnswer work (readFile w hash f) ≡ Accepted s → (r : Records) × Spells w hash r f
   accepted-spelled f s bytes e =
-      accepted-inv (readFile w hash f) s (sym (check-is work room (readFile w hash f)) ∙ e) λ c m q _.
+      accepted-inv work (readFile w hash f) s room e λ c m q.
       (c .records, read-spelled w hash width f c m bytes q)
 
+  pub exact : (f : List ℕ) → Bytes f → ((s : Summary) × (checkAnswer work (readFile w hash f) ≡ Accepted s)) ↔ ((r : Records) × Spells w hash r f)
+  exact f bytes = ((λ a. accepted-spelled f (a .0) bytes (a .1)), (λ p. (_, checked f (p .0) (p .1))))
+
   -- the two answers for a cut, given that the cut is accepted
-  same-entries : (f : List ℕ) (c : ℕ) (s t : Summary) → Bytes f → check w hash work f ≡ Accepted s → check w hash work (take c f) ≡ Accepted t
-      → (t .entries ≡ s .entries) × ((k : ℕ) → entry w hash work k (take c f) ≡ entry w hash work k f)
+  same-entries : (f : List ℕ) (c : ℕ) (s t : Summary) → Bytes f → checkAnswer work (readFile w hash f) ≡ Accepted s → checkAnswer work (readFile w hash (take c f)) ≡ Accepted t
+      → (t .entries ≡ s .entries) × ((k : ℕ) → entryAnswer work k (readFile w hash (take c f)) ≡ entryAnswer work k (readFile w hash f))
   same-entries f c s t bytes e d =
       let (r, h) = accepted-spelled f s bytes e in
       let (q, k) = accepted-spelled (take c f) t (bytes-take c f bytes) d in
@@ -185,15 +191,15 @@ module _ (w : ℕ) (hash : List ℕ → List ℕ) (work : List ℕ) (width : (b 
       entriesOf (Refused n p) = 0
       entriesOf (Accepted s) = s .entries
 
-  pub cut-rule : (f : List ℕ) (c : ℕ) (s : Summary) → Bytes f → check w hash work f ≡ Accepted s
-      → ((n p : ℕ) × (check w hash work (take c f) ≡ Refused n p))
-      ⊎ ((t : Summary) × (check w hash work (take c f) ≡ Accepted t) × (t .entries ≡ s .entries)
-      × ((k : ℕ) → k < s .entries → entry w hash work k (take c f) ≡ entry w hash work k f))
-  cut-rule f c s bytes e = go (check w hash work (take c f)) refl
+  pub cut-rule : (f : List ℕ) (c : ℕ) (s : Summary) → Bytes f → checkAnswer work (readFile w hash f) ≡ Accepted s
+      → ((n p : ℕ) × (checkAnswer work (readFile w hash (take c f)) ≡ Refused n p))
+      ⊎ ((t : Summary) × (checkAnswer work (readFile w hash (take c f)) ≡ Accepted t) × (t .entries ≡ s .entries)
+      × ((k : ℕ) → k < s .entries → entryAnswer work k (readFile w hash (take c f)) ≡ entryAnswer work k (readFile w hash f)))
+  cut-rule f c s bytes e = go (checkAnswer work (readFile w hash (take c f))) refl
     where
-      go : (a : Checked) → check w hash work (take c f) ≡ a
-          → ((n p : ℕ) × (check w hash work (take c f) ≡ Refused n p))
-          ⊎ ((t : Summary) × (check w hash work (take c f) ≡ Accepted t) × (t .entries ≡ s .entries)
-          × ((k : ℕ) → k < s .entries → entry w hash work k (take c f) ≡ entry w hash work k f))
+      go : (a : Checked) → checkAnswer work (readFile w hash (take c f)) ≡ a
+          → ((n p : ℕ) × (checkAnswer work (readFile w hash (take c f)) ≡ Refused n p))
+          ⊎ ((t : Summary) × (checkAnswer work (readFile w hash (take c f)) ≡ Accepted t) × (t .entries ≡ s .entries)
+          × ((k : ℕ) → k < s .entries → entryAnswer work k (readFile w hash (take c f)) ≡ entryAnswer work k (readFile w hash f)))
       go (Refused n p) d = inl (n, p, d)
       go (Accepted t) d = let (count, shown) = same-entries f c s t bytes e d in inr (t, d, count, λ k _. shown k)

@@ -1,5 +1,5 @@
--- The demands, in the paper's order and words. w is the width of an object name and of the checksum, hash the checksum's function, work the
--- workspace. Check, entry k, tree node k and resolve-undo record k answer what checkAnswer, entryAnswer, nodeAnswer and undoAnswer say of the
+-- The demands, in the paper's order and words, for every kind and every workspace: each demand speaks of one kind, so that no two kinds are
+-- mixed. Check, entry k, tree node k and resolve-undo record k answer what checkAnswer, entryAnswer, nodeAnswer and undoAnswer say of the
 -- file's reading, and leave the workspace that cleared and workAfter say: so their promises in crates/index/src/lib.rt say. Rewrite, put and
 -- remove answer what rewriteAnswer, putAnswer and removeAnswer say, clear the workspace, and leave the output that outputAfter says: so their
 -- promises in crates/index_write/src/lib.rt say.
@@ -14,36 +14,44 @@ use Rattle.format.specs.Bytes.{Bytes, fit32}
 use Rattle.format.specs.Records.{Records, Entry, Key, Item, Undo}
 use Rattle.format.specs.Layout.{Spells}
 use Rattle.format.specs.Reading.{Read, bad, good}
-use Rattle.format.specs.Reader.{Contents, readFile}
+use Rattle.format.specs.Reader.{Contents}
 use Rattle.format.specs.Requests.{putRecord, removeRecord}
 use Rattle.writing.specs.OneFile.{WritesBack}
+use Rattle.kinds.specs.Kinds.{okKind, widthOf, hashOf, readKind}
 use Rattle.answers.specs.declared.Summary.{Summary}
 use Rattle.answers.specs.declared.Checked.{Checked}
 use Rattle.answers.specs.declared.Checked.the-variants.{Refused, Accepted}
 use Rattle.answers.specs.Answers.{tooSmall, cleared, workAfter, treeCount, undoCount, summaryOf, checkAnswer, entryAnswer, nodeAnswer, undoAnswer, View, refused, inWorkspace, pick, listed, itemsOf}
 use Rattle.answers.specs.Writing.{rewriteAnswer, putAnswer, removeAnswer, outputAfter}
 
-module _ (w : ℕ) (hash : List ℕ → List ℕ) (work : List ℕ) where
+module _ (kind : ℕ) (work : List ℕ) where
+  -- the width of an object name and of the checksum, and the checksum's function
+  abbrev w : ℕ
+  w = widthOf kind
+
+  abbrev hash : List ℕ → List ℕ
+  hash = hashOf kind
+
   abbrev pub check : List ℕ → Checked
-  check f = checkAnswer work (readFile w hash f)
+  check f = checkAnswer work (readKind kind f)
 
   abbrev pub entry : ℕ → List ℕ → View Entry
-  entry k f = entryAnswer work k (readFile w hash f)
+  entry k f = entryAnswer work k (readKind kind f)
 
   abbrev pub node : ℕ → List ℕ → View Item
-  node k f = nodeAnswer work k (readFile w hash f)
+  node k f = nodeAnswer work k (readKind kind f)
 
   abbrev pub undo : ℕ → List ℕ → View Undo
-  undo k f = undoAnswer work k (readFile w hash f)
+  undo k f = undoAnswer work k (readKind kind f)
 
   abbrev pub rewrite : ℕ → ℕ → List ℕ → Read (List ℕ)
-  rewrite asked room f = rewriteAnswer w hash work asked room (readFile w hash f)
+  rewrite asked room f = rewriteAnswer w hash work asked room (readKind kind f)
 
   abbrev pub put : ℕ → Entry → ℕ → List ℕ → Read (List ℕ)
-  put asked e room f = putAnswer w hash work asked e room (readFile w hash f)
+  put asked e room f = putAnswer w hash work asked e room (readKind kind f)
 
   abbrev pub remove : ℕ → Key → ℕ → List ℕ → Read (List ℕ)
-  remove asked k room f = removeAnswer w hash work asked k room (readFile w hash f)
+  remove asked k room f = removeAnswer w hash work asked k room (readKind kind f)
 
   -- Every call ends with an answer for every input and never touches a byte outside what it was lent: that is what a promise says, whatever else
   -- it says. Each refusal has a number and a place, leaves the output as it was, and the workspace as document 01 states.
@@ -55,7 +63,13 @@ module _ (w : ℕ) (hash : List ℕ → List ℕ) (work : List ℕ) where
         × (cleared work ≡ work)
         × ((k : ℕ) → (entry k f ≡ refused 19 0) × (workAfter (entry k f) work ≡ work) × (node k f ≡ refused 19 0) × (undo k f ≡ refused 19 0))
         × ((asked room : ℕ) (e : Entry) (k : Key) → (rewrite asked room f ≡ bad 19 0) × (put asked e room f ≡ bad 19 0) × (remove asked k room f ≡ bad 19 0))
-    -- on every other answer the first 8,192 bytes are zero, and what is past them is never touched
+    -- an unknown kind is refused with 29, after 19 and whatever the file, and clears the workspace
+    pub unknown :
+        tooSmall work ≡ false → okKind kind ≡ false → (f : List ℕ) →
+        (check f ≡ Refused 29 0)
+        × ((k : ℕ) → (entry k f ≡ refused 29 0) × (workAfter (entry k f) work ≡ cleared work) × (node k f ≡ refused 29 0) × (undo k f ≡ refused 29 0))
+        × ((asked room : ℕ) (e : Entry) (k : Key) → (rewrite asked room f ≡ bad 29 0) × (put asked e room f ≡ bad 29 0) × (remove asked k room f ≡ bad 29 0))
+    -- on every answer but 19 the first 8,192 bytes are zero, and what is past them is never touched
     pub zeroed : tooSmall work ≡ false → (take 8192 (cleared work) ≡ replicate 8192 0) × (drop 8192 (cleared work) ≡ drop 8192 work)
     -- except that an entry shown from version 4 is there first and zeros follow
     pub shown :
@@ -68,16 +82,16 @@ module _ (w : ℕ) (hash : List ℕ → List ℕ) (work : List ℕ) where
     pub filled :
         (out bytes : List ℕ) (n : ℕ) → n ≡ length bytes → (take n (outputAfter (good bytes n) out) ≡ bytes) × (drop n (outputAfter (good bytes n) out) ≡ drop n out)
 
-  -- For versions 2, 3 and 4, the records read are those that the format gives these bytes, and the refusal is the first that applies: readFile
-  -- has the tests in their order.
+  -- For versions 2, 3 and 4, the records read are those that the format gives these bytes, and the refusal is the first that applies: readKind
+  -- has the tests in their order, the kind's before those of the file.
   pub record Demand2 : Type 0 where
     pub refusals :
-        (f : List ℕ) (n p : ℕ) → readFile w hash f ≡ bad n p →
+        (f : List ℕ) (n p : ℕ) → readKind kind f ≡ bad n p →
         (check f ≡ Refused n p)
         × ((k : ℕ) → (entry k f ≡ refused n p) × (node k f ≡ refused n p) × (undo k f ≡ refused n p))
         × ((asked room : ℕ) (e : Entry) (k : Key) → (rewrite asked room f ≡ bad n p) × (put asked e room f ≡ bad n p) × (remove asked k room f ≡ bad n p))
     pub records :
-        (f : List ℕ) (c : Contents) (m : ℕ) → Bytes f → readFile w hash f ≡ good c m →
+        (f : List ℕ) (c : Contents) (m : ℕ) → Bytes f → readKind kind f ≡ good c m →
         Spells w hash (c .records) f
         × (check f ≡ Accepted (summaryOf c))
         × ((k : ℕ) →
@@ -93,15 +107,15 @@ module _ (w : ℕ) (hash : List ℕ → List ℕ) (work : List ℕ) where
         WritesBack w hash f asked (putRecord w e) (put asked e room f)
     pub removed : (f : List ℕ) (asked room : ℕ) (k : Key) → Bytes f → WritesBack w hash f asked (removeRecord w k) (remove asked k room f)
 
-  -- With the workspace that document 01 asks for:
+  -- With the workspace that document 01 asks for. Of an unknown kind no file is accepted, so what says that one is asks for a known kind:
   pub record Demand3 : Type 0 where
-    -- a file is accepted exactly when some set of records spells it
-    pub exact : (f : List ℕ) → Bytes f → ((s : Summary) × (check f ≡ Accepted s)) ↔ ((r : Records) × Spells w hash r f)
+    -- a file of a known kind is accepted exactly when some set of records spells it
+    pub exact : okKind kind ≡ true → (f : List ℕ) → Bytes f → ((s : Summary) × (check f ≡ Accepted s)) ↔ ((r : Records) × Spells w hash r f)
     -- no file is spelled by two different sets
     pub one : (f : List ℕ) (r q : Records) → Spells w hash r f → Spells w hash q f → r ≡ q
     -- check's counts are those of the set that spells it; the version and the byte where entries end are those of the spelling
     pub counts :
-        (f : List ℕ) (r : Records) (h : Spells w hash r f) →
+        okKind kind ≡ true → (f : List ℕ) (r : Records) (h : Spells w hash r f) →
         check f
         ≡ Accepted
         (record {
@@ -113,9 +127,9 @@ module _ (w : ℕ) (hash : List ℕ → List ℕ) (work : List ℕ) where
         })
     -- entry k, tree node k and resolve-undo record k show item k of its lists, an entry of version 4 in the workspace
     pub entries :
-        (f : List ℕ) (r : Records) (k : ℕ) (h : Spells w hash r f) → entry k f ≡ pick (eqb (h .body-is .version) 4) (getElem? (r .entries) k)
-    pub nodes : (f : List ℕ) (r : Records) (k : ℕ) → Spells w hash r f → node k f ≡ listed (itemsOf (r .cacheTree)) k
-    pub undos : (f : List ℕ) (r : Records) (k : ℕ) → Spells w hash r f → undo k f ≡ listed (r .resolveUndo) k
+        okKind kind ≡ true → (f : List ℕ) (r : Records) (k : ℕ) (h : Spells w hash r f) → entry k f ≡ pick (eqb (h .body-is .version) 4) (getElem? (r .entries) k)
+    pub nodes : okKind kind ≡ true → (f : List ℕ) (r : Records) (k : ℕ) → Spells w hash r f → node k f ≡ listed (itemsOf (r .cacheTree)) k
+    pub undos : okKind kind ≡ true → (f : List ℕ) (r : Records) (k : ℕ) → Spells w hash r f → undo k f ≡ listed (r .resolveUndo) k
     -- whichever shorter length an accepted file is cut to, check refuses it, or accepts it with the same entry count, and then entry k of both
     -- is equal in every field
     pub cuts :

@@ -8,12 +8,13 @@ use lib.Dec.{eqb}
 use lib.ListN.{length}
 use borrow.Author.Tests.{ne-eqb}
 use Rattle.format.specs.Reading.{Read, bad, good, need}
+use Rattle.format.specs.Reader.{Contents, readFile}
 use Rattle.format_laws.proofs.Readings.{need-inv}
 use Rattle.hash.specs.Sha1.{sha1}
 use Rattle.hash.proofs.Bytes.{length-sha1}
 use Rattle.sha256.specs.Sha256.{sha256}
 use Rattle.sha256.proofs.Bytes.{length-sha256}
-use Rattle.kinds.specs.Kinds.{okKind, widthOf, hashOf, ofKind}
+use Rattle.kinds.specs.Kinds.{okKind, widthOf, hashOf, ofKind, readKind}
 
 -- ---- widths
 
@@ -88,3 +89,19 @@ module _ {A : Type 0} (kind : ℕ) (x : Read A) where
   pub read-known {ℓ} : {X : Type ℓ} (a : A) (m : ℕ) → ofKind kind x ≡ good a m → (okKind kind ≡ true → x ≡ good a m → X) → X
   unfolding ofKind
   read-known a m e f = need-inv (okKind kind) 29 0 x a m e f
+
+-- the same of a whole file
+module _ (kind : ℕ) (f : List ℕ) where
+  pub known-file : okKind kind ≡ true → readKind kind f ≡ readFile (widthOf kind) (hashOf kind) f
+  unfolding readKind
+  known-file known = known-read kind (readFile (widthOf kind) (hashOf kind) f) known
+
+  pub unknown-file : okKind kind ≡ false → readKind kind f ≡ bad 29 0
+  unfolding readKind
+  unknown-file unknown = unknown-refused kind (readFile (widthOf kind) (hashOf kind) f) unknown
+
+  pub file-known {ℓ} :
+      {X : Type ℓ} (c : Contents) (m : ℕ) → readKind kind f ≡ good c m →
+      (okKind kind ≡ true → readFile (widthOf kind) (hashOf kind) f ≡ good c m → X) → X
+  unfolding readKind
+  file-known c m e g = read-known kind (readFile (widthOf kind) (hashOf kind) f) c m e g
