@@ -21,8 +21,8 @@ use Rattle.extensions.specs.Heads.{part, undosIn, known}
 pub four-bytes : (b : List ℕ) (at : ℕ) (s : List ℕ) (r : Bool) {t : Bool} → r ≡ eqList (part b at (at + 4)) s → r ≡ t → eqList (take 4 (drop at b)) s ≡ t
 four-bytes b at s r e f = let four : at + 4 - at ≡ 4 = omega arith in rw four at (sym e) ∙ f
 
-module _ (b : List ℕ) (at : ℕ) (inside : at ≤ length b) (ns : List (List ℕ)) (k : Seen) where
-  pub head-short : length b - at < 8 → readExtension 20 ns k at (drop at b) ≡ bad 12 at
+module _ (w : ℕ) (b : List ℕ) (at : ℕ) (inside : at ≤ length b) (ns : List (List ℕ)) (k : Seen) where
+  pub head-short : length b - at < 8 → readExtension w ns k at (drop at b) ≡ bad 12 at
   unfolding readExtension need
   head-short h = let l = length-drop at b in rw (lt-leb 8 (length (drop at b)) (omega arith))
 
@@ -33,7 +33,7 @@ module _ (b : List ℕ) (at : ℕ) (inside : at ≤ length b) (ns : List (List �
     eight : leb 8 (length (drop at b)) ≡ true
     eight = let l = length-drop at b in le-leb 8 (length (drop at b)) (omega arith)
 
-    pub head-cut : length b - at - 8 < size → readExtension 20 ns k at (drop at b) ≡ bad 12 at
+    pub head-cut : length b - at - 8 < size → readExtension w ns k at (drop at b) ≡ bad 12 at
     unfolding readExtension need
     head-cut h = let l = length-drop at b in rw (eight, size-is, lt-leb (8 + size) (length (drop at b)) (omega arith))
 
@@ -44,11 +44,11 @@ module _ (b : List ℕ) (at : ℕ) (inside : at ≤ length b) (ns : List (List �
       first-byte : getD (drop at b) 0 0 ≡ getD b at 0
       first-byte = let e : at + 0 ≡ at = omega arith in getD-drop at b 0 0 ∙ rw e
 
-      pub head-low : getD b at 0 < 65 → readExtension 20 ns k at (drop at b) ≡ bad 13 at
+      pub head-low : getD b at 0 < 65 → readExtension w ns k at (drop at b) ≡ bad 13 at
       unfolding readExtension need optional
       head-low h = rw (eight, size-is, whole, first-byte, lt-leb 65 (getD b at 0) h)
 
-      pub head-high : 65 ≤ getD b at 0 → 90 < getD b at 0 → readExtension 20 ns k at (drop at b) ≡ bad 13 at
+      pub head-high : 65 ≤ getD b at 0 → 90 < getD b at 0 → readExtension w ns k at (drop at b) ≡ bad 13 at
       unfolding readExtension need optional
       head-high h i = rw (eight, size-is, whole, first-byte, le-leb 65 (getD b at 0) h, lt-leb (getD b at 0) 90 i)
 
@@ -56,23 +56,23 @@ module _ (b : List ℕ) (at : ℕ) (inside : at ≤ length b) (ns : List (List �
         data-is : take size (drop 8 (drop at b)) ≡ part b (at + 8) end
         data-is = let e : end - (at + 8) ≡ size = omega arith in rw (e, drop-drop 8 at b)
 
-        read-rest : readExtension 20 ns k at (drop at b) ≡ shift 8 (readData 20 ns k at (take 4 (drop at b)) (part b (at + 8) end))
+        read-rest : readExtension w ns k at (drop at b) ≡ shift 8 (readData w ns k at (take 4 (drop at b)) (part b (at + 8) end))
         unfolding readExtension need optional
         read-rest = rw (eight, size-is, whole, first-byte, le-leb 65 (getD b at 0) low, le-leb (getD b at 0) 90 high, data-is)
 
         pub head-tree : eqList (take 4 (drop at b)) TREE ≡ true
-            → readExtension 20 ns k at (drop at b) ≡ known (k .cacheTree) at (readTree 20 ns at (part b (at + 8) end)) cacheTree
+            → readExtension w ns k at (drop at b) ≡ known (k .cacheTree) at (readTree w ns at (part b (at + 8) end)) cacheTree
         unfolding readData known
         head-tree e = read-rest ∙ rw e
 
         module _ (no-tree : eqList (take 4 (drop at b)) TREE ≡ false) where
           pub head-undo : eqList (take 4 (drop at b)) REUC ≡ true
-              → readExtension 20 ns k at (drop at b)
-              ≡ known (k .resolveUndo) at (undosIn at (part b (at + 8) end)) resolveUndo
+              → readExtension w ns k at (drop at b)
+              ≡ known (k .resolveUndo) at (undosIn w at (part b (at + 8) end)) resolveUndo
           unfolding readData known
           head-undo e = read-rest ∙ rw (no-tree, e)
 
           pub head-other : eqList (take 4 (drop at b)) REUC ≡ false
-              → readExtension 20 ns k at (drop at b) ≡ good (other (take 4 (drop at b)) (part b (at + 8) end)) (end - at)
+              → readExtension w ns k at (drop at b) ≡ good (other (take 4 (drop at b)) (part b (at + 8) end)) (end - at)
           unfolding readData shift
           head-other e = let l = part-length b (at + 8) end (omega arith) in read-rest ∙ rw (no-tree, e) (same-size (omega arith))

@@ -37,8 +37,8 @@ module _ {A : Type 0} (p : ℕ) (x : Read A) (kind : A → Extension) where
     known-good a m e = rw (new, e) (same-size (omega arith))
 
 -- what is answered of a reading is answered of one that is equal to it
-pub answered-as : (b : List ℕ) (at : ℕ) (found : Found) {x y : Read Extension} (r : One) → x ≡ y → OneAnswered b at found y r → OneAnswered b at found x r
-answered-as b at found r e h = rw e h
+pub answered-as : (w : ℕ) (b : List ℕ) (at : ℕ) (found : Found) {x y : Read Extension} (r : One) → x ≡ y → OneAnswered w b at found y r → OneAnswered w b at found x r
+answered-as w b at found r e h = rw e h
 
 -- the data that end by their size
 pub data-sized : (b : List ℕ) (at end : ℕ) → Inside b at end → part b (at + 8) end ≡ dataIn (at + 8) b
@@ -58,19 +58,19 @@ records-fault : (p : ℕ) (r : Read (List Undo)) → Faults 17 p r → S.Bad ≡
 records-fault p (bad n q) h e = h .only n q refl
 records-fault p (good us k) h e = let z : _≡_ {A = ℕ} 0 1 = cc in absurd (omega arith)
 
-module _ (b : List ℕ) (at end : ℕ) (inside : Inside b at end) (found : Found) (new : found .undo .there ≡ false) where
-  pub undo-refused : S.Bad ≡ recordsRead (undosIn at (part b (at + 8) end)) → known (found .undo .there) at (undosIn at (part b (at + 8) end)) resolveUndo ≡ bad 17 at
-  undo-refused e = known-bad at _ resolveUndo _ new 17 (records-fault at _ (undos-faults 20 at _ [] (part b (at + 8) end)) e)
+module _ (w : ℕ) (b : List ℕ) (at end : ℕ) (inside : Inside b at end) (found : Found) (new : found .undo .there ≡ false) where
+  pub undo-refused : S.Bad ≡ recordsRead (undosIn w at (part b (at + 8) end)) → known (found .undo .there) at (undosIn w at (part b (at + 8) end)) resolveUndo ≡ bad 17 at
+  undo-refused e = known-bad at _ resolveUndo _ new 17 (records-fault at _ (undos-faults w at _ [] (part b (at + 8) end)) e)
 
-  pub undo-added : (count : ℕ) → S.Good count ≡ recordsRead (undosIn at (part b (at + 8) end))
-      → OneAnswered b at found (known (found .undo .there) at (undosIn at (part b (at + 8) end)) resolveUndo)
+  pub undo-added : (count : ℕ) → S.Good count ≡ recordsRead (undosIn w at (part b (at + 8) end))
+      → OneAnswered w b at found (known (found .undo .there) at (undosIn w at (part b (at + 8) end)) resolveUndo)
       (O.Good end (record { tree = found .tree; undo = record { there = true; at = at + 8; end = end; records = count } }))
   undo-added count e =
       let d : List ℕ = part b (at + 8) end in
-      records-inv count (undosIn at d) e λ us k q number.
+      records-inv count (undosIn w at d) e λ us k q number.
       let l = part-length b (at + 8) end (inside .1) in
-      let h = undos-read 20 at (length d) [] d us k q in
-      let zero : undosIn 0 d ≡ good us (length d) = read-undos 20 0 (length d) (h .1) (omega arith) in (
+      let h = undos-read w at (length d) [] d us k q in
+      let zero : undosIn w 0 d ≡ good us (length d) = read-undos w 0 (length d) (h .1) (omega arith) in (
         resolveUndo us,
         known-good at _ resolveUndo _ new us k q ∙ same-size (omega arith),
         (

@@ -20,17 +20,17 @@ abbrev pub noTree : TreePlace
 noTree = record { there = false; at = 0; end = 0; nodes = 0 }
 
 -- the tree t
-pub record TreeIs (b : List ℕ) (t : Tree) (f : TreePlace) : Type 0 where
+pub record TreeIs (w : ℕ) (b : List ℕ) (t : Tree) (f : TreePlace) : Type 0 where
   pub there : f .there ≡ true
   pub order : f .at ≤ f .end
   pub inside : f .end ≤ length b
   pub sized : part b (f .at) (f .end) ≡ dataIn (f .at) b
-  pub reads : readNodes 20 0 (part b (f .at) (f .end)) ≡ good t (length (part b (f .at) (f .end)))
+  pub reads : readNodes w 0 (part b (f .at) (f .end)) ≡ good t (length (part b (f .at) (f .end)))
   pub nodes : f .nodes ≡ length (treeItems t)
 
-abbrev pub TreeFound : List ℕ → Option Tree → TreePlace → Type 0
-TreeFound b none f = f ≡ noTree
-TreeFound b (some t) f = TreeIs b t f
+abbrev pub TreeFound : ℕ → List ℕ → Option Tree → TreePlace → Type 0
+TreeFound w b none f = f ≡ noTree
+TreeFound w b (some t) f = TreeIs w b t f
 
 -- ---- resolve undo
 
@@ -38,17 +38,17 @@ abbrev pub noUndo : UndoPlace
 noUndo = record { there = false; at = 0; end = 0; records = 0 }
 
 -- the records us
-pub record UndoIs (b : List ℕ) (us : List Undo) (f : UndoPlace) : Type 0 where
+pub record UndoIs (w : ℕ) (b : List ℕ) (us : List Undo) (f : UndoPlace) : Type 0 where
   pub there : f .there ≡ true
   pub order : f .at ≤ f .end
   pub inside : f .end ≤ length b
   pub sized : part b (f .at) (f .end) ≡ dataIn (f .at) b
-  pub reads : undosIn 0 (part b (f .at) (f .end)) ≡ good us (length (part b (f .at) (f .end)))
+  pub reads : undosIn w 0 (part b (f .at) (f .end)) ≡ good us (length (part b (f .at) (f .end)))
   pub records : f .records ≡ length us
 
-abbrev pub UndoFound : List ℕ → Option (List Undo) → UndoPlace → Type 0
-UndoFound b none f = f ≡ noUndo
-UndoFound b (some us) f = UndoIs b us f
+abbrev pub UndoFound : ℕ → List ℕ → Option (List Undo) → UndoPlace → Type 0
+UndoFound w b none f = f ≡ noUndo
+UndoFound w b (some us) f = UndoIs w b us f
 
 -- ---- both
 

@@ -106,16 +106,16 @@ fn none_found() -> Found
 }
 
 // The resolve-undo extension at a place, whose data end at end.
-fn add_undo(b: &[u8], at: usize, end: usize, found: Found) -> One
-    requires { ⌜ Inside (now b) at end × (length (now b) ≤ 16777216) ⌝ }
-    ensures { λ r. ⌜ OneAnswered (now (b .entry)) at found (known (found .undo .there) at (undosIn at (part (now (b .entry)) (at + 8) end)) resolveUndo) r × OneInside (now (b .entry)) at r ⌝ }
+fn add_undo(b: &[u8], at: usize, end: usize, found: Found, w: usize) -> One
+    requires { ⌜ Inside (now b) at end × (length (now b) ≤ 16777216) × (1 ≤ w) × (w ≤ 32) ⌝ }
+    ensures { λ r. ⌜ OneAnswered w (now (b .entry)) at found (known (found .undo .there) at (undosIn w at (part (now (b .entry)) (at + 8) end)) resolveUndo) r × OneInside (now (b .entry)) at r ⌝ }
 {
     if found.undo.there {
         return One::Bad(14);
     }
     let tree = found.tree;
     let from = at + 8;
-    let read = resolve_undo::read_undos(&b[from..end]);
+    let read = resolve_undo::read_undos(&b[from..end], w);
     match read {
         RecordsRead::Bad => One::Bad(17),
         RecordsRead::Good(records) => One::Good(
@@ -142,9 +142,10 @@ fn add_tree(
     v: u32,
     count: u32,
     work: &mut [u8],
+    w: usize,
 ) -> One
-    requires { ⌜ Inside (now b) at end × Room (now b) (now work) ⌝ }
-    ensures { λ r. ⌜ ExtensionPassed (λ ns. known (found .tree .there) at (readTree 20 ns at (part (now (b .entry)) (at + 8) end)) cacheTree) v count (now (b .entry)) (now (work .entry)) at found (now (work .exit)) r ⌝ }
+    requires { ⌜ Inside (now b) at end × Room (now b) (now work) × (w ≤ 32) ⌝ }
+    ensures { λ r. ⌜ ExtensionPassed w (λ ns. known (found .tree .there) at (readTree w ns at (part (now (b .entry)) (at + 8) end)) cacheTree) v count (now (b .entry)) (now (work .entry)) at found (now (work .exit)) r ⌝ }
 {
     if found.tree.there {
         return One::Bad(14);
@@ -152,11 +153,11 @@ fn add_tree(
     let undo = found.undo;
     let from = at + 8;
     let mut table = [0u32; NUMBERS];
-    let read = cache_tree::read_tree(&b[from..end], &mut table);
+    let read = cache_tree::read_tree(&b[from..end], &mut table, w);
     match read {
         TreeRead::Bad => One::Bad(15),
         TreeRead::Good(nodes) => {
-            if counts_ok(&b[from..end], b, v, count, work, &mut table) {
+            if counts_ok(&b[from..end], b, v, count, work, &mut table, w) {
                 return One::Good(
                     end,
                     Found {
@@ -176,28 +177,28 @@ fn add_tree(
 }
 
 // The extension at a place.
-fn read_extension(b: &[u8], at: usize, found: Found, v: u32, count: u32, work: &mut [u8]) -> One
-    requires { ⌜ (at ≤ length (now b)) × Room (now b) (now work) ⌝ }
-    ensures { λ r. ⌜ ExtensionPassed (λ ns. readExtension 20 ns (seenOf found) at (drop at (now (b .entry)))) v count (now (b .entry)) (now (work .entry)) at found (now (work .exit)) r ⌝ }
+fn read_extension(b: &[u8], at: usize, found: Found, v: u32, count: u32, work: &mut [u8], w: usize) -> One
+    requires { ⌜ (at ≤ length (now b)) × Room (now b) (now work) × (1 ≤ w) × (w ≤ 32) ⌝ }
+    ensures { λ r. ⌜ ExtensionPassed w (λ ns. readExtension w ns (seenOf found) at (drop at (now (b .entry)))) v count (now (b .entry)) (now (work .entry)) at found (now (work .exit)) r ⌝ }
 {
     let head = read_head(b, at);
     match head {
         Head::Bad(n) => One::Bad(n),
-        Head::Tree(end) => add_tree(b, at, end, found, v, count, work),
-        Head::Undo(end) => add_undo(b, at, end, found),
+        Head::Tree(end) => add_tree(b, at, end, found, v, count, work, w),
+        Head::Undo(end) => add_undo(b, at, end, found, w),
         Head::Other(end) => One::Good(end, found),
     }
 }
 
 // All extensions of a body, from a place on. v and count are the version and the number of entries.
-pub fn read_extensions(b: &[u8], at: usize, v: u32, count: u32, work: &mut [u8]) -> Extended
-    requires { ⌜ (at ≤ length (now b)) × Room (now b) (now work) ⌝ }
-    ensures { λ r. ⌜ ExtensionsPassed v count (now (b .entry)) (now (work .entry)) at (now (work .exit)) r ⌝ }
+pub fn read_extensions(b: &[u8], at: usize, v: u32, count: u32, work: &mut [u8], w: usize) -> Extended
+    requires { ⌜ (at ≤ length (now b)) × Room (now b) (now work) × (1 ≤ w) × (w ≤ 32) ⌝ }
+    ensures { λ r. ⌜ ExtensionsPassed w v count (now (b .entry)) (now (work .entry)) at (now (work .exit)) r ⌝ }
 {
     let mut place = at;
     let mut found = none_found();
     while place < b.len() {
-        let one = read_extension(b, place, found, v, count, &mut *work);
+        let one = read_extension(b, place, found, v, count, &mut *work, w);
         match one {
             One::Bad(n) => {
                 return Extended::Bad(n, place);

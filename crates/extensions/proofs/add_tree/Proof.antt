@@ -54,7 +54,7 @@ returns-2 c =
     record {
       answered =
           λ es n q.
-          tree-added (a .b .now) (a .at) (a .end) (st .pre .0) (a .found) (c .before .before .before .before .before .before .before .before .before .before .before .before .before .before .if1 .left) _ _ _
+          tree-added _ (a .b .now) (a .at) (a .end) (st .pre .0) (a .found) (c .before .before .before .before .before .before .before .before .before .before .before .before .before .before .if1 .left) _ _ _
           (λ p. sym (c .before .before .before .before .before .before .before .before .read .given .1) ∙ c .before .before .before .before .before .before .before .before .before .before .read-tree .ensures .0 p)
           (λ t i nodes differ. k .is es n t i q nodes differ)
           (c .if2 .taken);
@@ -69,7 +69,7 @@ returns-3 c =
     record {
       answered =
           λ es n q.
-          tree-refused (a .b .now) (a .at) (a .end) (st .pre .0) (a .found) (c .before .before .before .before .before .before .if1 .left) _
+          tree-refused _ (a .b .now) (a .at) (a .end) (st .pre .0) (a .found) (c .before .before .before .before .before .before .if1 .left) _
           (λ p. sym (c .enum-told .given .1) ∙ c .before .before .read-tree .ensures .0 p);
       inside = tt;
       frame = frame-same _;
@@ -86,7 +86,7 @@ returns-4 c =
     record {
       answered =
           λ es n q.
-          tree-miscounted (a .b .now) (a .at) (a .end) (st .pre .0) (a .found) (c .before .before .before .before .before .before .before .before .before .before .before .before .before .before .if1 .left) _ _ _
+          tree-miscounted _ (a .b .now) (a .at) (a .end) (st .pre .0) (a .found) (c .before .before .before .before .before .before .before .before .before .before .before .before .before .before .if1 .left) _ _ _
           (λ p. sym (c .before .before .before .before .before .before .before .before .read .given .1) ∙ c .before .before .before .before .before .before .before .before .before .before .read-tree .ensures .0 p)
           (λ t i nodes differ. k .is es n t i q nodes differ)
           (c .if2 .left);

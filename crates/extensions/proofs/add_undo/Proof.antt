@@ -35,7 +35,7 @@ returns-2 c =
     let e = m .before .before .before in
     let st = e .before .before in
     let a = st .args in
-    (undo-refused (a .b .now) (a .at) (a .end) (st .pre .0) (a .found) (e .if1 .left) (sym (c .enum-told .given .1) ∙ m .read-undos .ensures (a .at)), tt)
+    (undo-refused _ (a .b .now) (a .at) (a .end) (st .pre .0) (a .found) (e .if1 .left) (sym (c .enum-told .given .1) ∙ m .read-undos .ensures (a .at)), tt)
 
 returns-3 : tie.Need-returns-3
 returns-3 c =
@@ -44,7 +44,7 @@ returns-3 c =
     let e = m .before .before .before in
     let st = e .before .before in
     let a = st .args in
-    (undo-added (a .b .now) (a .at) (a .end) (st .pre .0) (a .found) (e .if1 .left) _ (sym (g .1) ∙ m .read-undos .ensures (a .at)), st .pre .0)
+    (undo-added _ (a .b .now) (a .at) (a .end) (st .pre .0) (a .found) (e .if1 .left) _ (sym (g .1) ∙ m .read-undos .ensures (a .at)), st .pre .0)
 
 pub add-undo-spec : {M : Type 1} → statement M
 add-undo-spec =

@@ -21,7 +21,7 @@ enum-known-head-2 c = search needs
 add-tree-requires : tie.Need-add-tree-requires
 add-tree-requires c κs =
     let t = rw (c .before .before .head2 .given .1) at (c .before .before .before .before .read-head .ensures) in
-    (t .inside, c .before .before .before .before .before .before .before .pre .1)
+    (t .inside, c .before .before .before .before .before .before .before .pre .1, omega arith)
 
 enum-known-head-3 : tie.Need-enum-known-head-3
 enum-known-head-3 c = search needs
@@ -29,7 +29,7 @@ enum-known-head-3 c = search needs
 add-undo-requires : tie.Need-add-undo-requires
 add-undo-requires c κs =
     let t = rw (c .before .head3 .given .1) at (c .before .before .before .read-head .ensures) in
-    (t .inside, omega arith)
+    (t .inside, omega arith, omega arith, omega arith)
 
 enum-known-head-4 : tie.Need-enum-known-head-4
 enum-known-head-4 c = search needs
@@ -39,7 +39,7 @@ returns c =
     let h = c .before .before .before in
     let a = h .before .before .before .args in
     let t = rw (c .before .head .given .1) at (h .read-head .ensures) in
-    record { answered = λ es m q. t .same (names es) (seenOf (a .found)); inside = tt; frame = frame-same _ }
+    record { answered = λ es m q. t .same (a .w) (names es) (seenOf (a .found)); inside = tt; frame = frame-same _ }
 
 same-length : tie.Need-same-length
 same-length c = search needs
@@ -53,7 +53,7 @@ returns-2 c =
     let t = rw (g .head2 .given .1) at (h .read-head .ensures) in
     let r = d .add-tree .ensures in
     record {
-      answered = λ es m q. answered-as (a .b .now) (a .at) (a .found) (d .add-tree .result) (t .same (names es) (seenOf (a .found))) (r .answered es m q);
+      answered = λ es m q. answered-as (a .w) (a .b .now) (a .at) (a .found) (d .add-tree .result) (t .same (a .w) (names es) (seenOf (a .found))) (r .answered es m q);
       inside = r .inside;
       frame = r .frame;
     }
@@ -66,7 +66,7 @@ returns-3 c =
     let t = rw (g .head3 .given .1) at (h .read-head .ensures) in
     let r = c .add-undo .ensures in
     record {
-      answered = λ es m q. answered-as (a .b .now) (a .at) (a .found) (c .add-undo .result) (t .same (names es) (seenOf (a .found))) (r .0);
+      answered = λ es m q. answered-as (a .w) (a .b .now) (a .at) (a .found) (c .add-undo .result) (t .same (a .w) (names es) (seenOf (a .found))) (r .0);
       inside = r .1;
       frame = frame-same _;
     }
@@ -77,7 +77,7 @@ returns-4 c =
     let h = g .before .before in
     let a = h .before .before .before .args in
     let t = rw (g .head4 .given .1) at (h .read-head .ensures) in
-    record { answered = λ es m q. (_, t .same (names es) (seenOf (a .found)), refl); inside = t .inside; frame = frame-same _ }
+    record { answered = λ es m q. (_, t .same (a .w) (names es) (seenOf (a .found)), refl); inside = t .inside; frame = frame-same _ }
 
 pub read-extension-spec : {M : Type 1} → statement M
 read-extension-spec =

@@ -16,11 +16,11 @@ use Rattle.extensions.proofs.read_extensions.Statement.{statement}
 use Rattle.extensions.proofs.read_extensions.Tie as tie
 
 abbrev Inv-loop : tie.InvT-loop
-Inv-loop b at v count work₀ place₀ found₀ work place found =
-    (place ≤ length b) × Frame work₀ work × ((es : List Entry) (m : ℕ) → EntriesRead v count b es m → Behind b (names es) at place found)
+Inv-loop b at v count work₀ w place₀ found₀ work place found =
+    (place ≤ length b) × Frame work₀ work × ((es : List Entry) (m : ℕ) → EntriesRead w v count b es m → Behind w b (names es) at place found)
 
 abbrev μ-loop : tie.MeasureT-loop
-μ-loop b at v count work₀ place₀ found₀ work place found = length b - place
+μ-loop b at v count work₀ w place₀ found₀ work place found = length b - place
 
 none-found-requires : tie.Need-none-found-requires Inv-loop μ-loop
 none-found-requires c κs = search needs
@@ -29,13 +29,13 @@ loop-holds : tie.Need-loop-holds Inv-loop μ-loop
 loop-holds c =
     let st = c .before .before .before in
     let a = st .args in
-    rw (c .none-found .ensures) (st .pre .0, frame-same _, λ es m q. behind-none (a .b .now) (names es) (a .at))
+    rw (c .none-found .ensures) (st .pre .0, frame-same _, λ es m q. behind-none _ (a .b .now) (names es) (a .at))
 
 read-extension-requires : tie.Need-read-extension-requires Inv-loop μ-loop
 read-extension-requires c κs =
     let l = c .before .before in
     let r = l .before .before .before .before .pre .1 in
-    (l .loop .inv .0, record { least = r .least; most = r .most; room = omega (arith, l .loop .inv .1) })
+    (l .loop .inv .0, record { least = r .least; most = r .most; room = omega (arith, l .loop .inv .1) }, omega arith, omega arith)
 
 enum-known-one : tie.Need-enum-known-one Inv-loop μ-loop
 enum-known-one c = search needs
@@ -56,7 +56,7 @@ returns c =
     record {
       answered =
           λ es m q.
-          behind-bad (a .b .now) (names es) (a .at) (l .loop .place) (l .loop .found) (l .loop .inv .2 es m q) (i .loop-test .taken) _ (t .answered es m q);
+          behind-bad _ (a .b .now) (names es) (a .at) (l .loop .place) (l .loop .found) (l .loop .inv .2 es m q) (i .loop-test .taken) _ (t .answered es m q);
       frame = frame-then (l .loop .inv .1) (t .frame);
     }
 
@@ -84,7 +84,7 @@ loop-again c =
       frame-then (l .loop .inv .1) (t .frame),
       λ es m q.
           let (x, reads, added) = t .answered es m q in
-          behind-more (a .b .now) (names es) (a .at) (l .loop .place) (l .loop .found) (l .loop .inv .2 es m q) (i .loop-test .taken) _ _ x (t .inside) reads added,
+          behind-more _ (a .b .now) (names es) (a .at) (l .loop .place) (l .loop .found) (l .loop .inv .2 es m q) (i .loop-test .taken) _ _ x (t .inside) reads added,
     )
 
 same-length-2 : tie.Need-same-length-2 Inv-loop μ-loop
@@ -101,7 +101,7 @@ returns-2 c =
           let h = l .loop .inv .2 es m q in
           record {
             list = h .list;
-            reads = behind-end (a .b .now) (names es) (a .at) (l .loop .place) (l .loop .found) h (c .loop-test .left) (l .loop .inv .0);
+            reads = behind-end _ (a .b .now) (names es) (a .at) (l .loop .place) (l .loop .found) h (c .loop-test .left) (l .loop .inv .0);
             tree = h .tree;
             undo = h .undo;
             tree-at = seeks-end TREE (a .b .now) (a .at) (l .loop .place) _ _ (h .tree-at) (l .loop .inv .0);

@@ -12,7 +12,7 @@ sub-left c = search needs
 returns : tie.Need-returns
 returns c =
     let st = c .before .before in
-    record { same = λ ns k. head-short (st .args .b .now) (st .args .at) (st .pre) ns k (c .if1 .taken); inside = tt }
+    record { same = λ w ns k. head-short w (st .args .b .now) (st .args .at) (st .pre) ns k (c .if1 .taken); inside = tt }
 
 add-sized : tie.Need-add-sized
 add-sized c = search needs
@@ -27,7 +27,7 @@ returns-2 : tie.Need-returns-2
 returns-2 c =
     let r = c .before in
     let st = r .before .before .before in
-    record { same = λ ns k. head-cut (st .args .b .now) (st .args .at) (st .pre) ns k (r .before .if1 .left) _ (r .read32 .ensures) (c .if2 .taken); inside = tt }
+    record { same = λ w ns k. head-cut w (st .args .b .now) (st .args .at) (st .pre) ns k (r .before .if1 .left) _ (r .read32 .ensures) (c .if2 .taken); inside = tt }
 
 shared-slice-read-if3 : tie.Need-shared-slice-read-if3
 shared-slice-read-if3 c = search needs
@@ -37,7 +37,7 @@ returns-3 c =
     let e = c .before .before in
     let r = e .before in
     let st = r .before .before .before in
-    record { same = λ ns k. head-low (st .args .b .now) (st .args .at) (st .pre) ns k (r .before .if1 .left) _ (r .read32 .ensures) (e .if2 .left) (c .if3 .taken); inside = tt }
+    record { same = λ w ns k. head-low w (st .args .b .now) (st .args .at) (st .pre) ns k (r .before .if1 .left) _ (r .read32 .ensures) (e .if2 .left) (c .if3 .taken); inside = tt }
 
 shared-slice-read-if4 : tie.Need-shared-slice-read-if4
 shared-slice-read-if4 c = search needs
@@ -49,7 +49,7 @@ returns-4 c =
     let r = e .before in
     let st = r .before .before .before in
     record {
-      same = λ ns k. head-high (st .args .b .now) (st .args .at) (st .pre) ns k (r .before .if1 .left) _ (r .read32 .ensures) (e .if2 .left) (l .if3 .left) (c .if4 .taken);
+      same = λ w ns k. head-high w (st .args .b .now) (st .args .at) (st .pre) ns k (r .before .if1 .left) _ (r .read32 .ensures) (e .if2 .left) (l .if3 .left) (c .if4 .taken);
       inside = tt;
     }
 
@@ -84,7 +84,7 @@ returns-5 c =
     let b = st .args .b .now in
     let at = st .args .at in
     record {
-      same = λ ns k. head-tree b at (st .pre) ns k (r .before .if1 .left) _ (r .read32 .ensures) (e .if2 .left) (l .if3 .left) (h .if4 .left) _ refl (four-bytes b at _ _ (c .before .same .ensures) (c .if5 .taken));
+      same = λ w ns k. head-tree w b at (st .pre) ns k (r .before .if1 .left) _ (r .read32 .ensures) (e .if2 .left) (l .if3 .left) (h .if4 .left) _ refl (four-bytes b at _ _ (c .before .same .ensures) (c .if5 .taken));
       inside = (omega arith, omega arith);
     }
 
@@ -114,7 +114,7 @@ returns-6 c =
     let b = st .args .b .now in
     let at = st .args .at in
     record {
-      same = λ ns k. head-undo b at (st .pre) ns k (r .before .if1 .left) _ (r .read32 .ensures) (e .if2 .left) (l .if3 .left) (h .if4 .left) _ refl (four-bytes b at _ _ (t .before .same .ensures) (t .if5 .left)) (four-bytes b at _ _ (c .before .same2 .ensures) (c .if6 .taken));
+      same = λ w ns k. head-undo w b at (st .pre) ns k (r .before .if1 .left) _ (r .read32 .ensures) (e .if2 .left) (l .if3 .left) (h .if4 .left) _ refl (four-bytes b at _ _ (t .before .same .ensures) (t .if5 .left)) (four-bytes b at _ _ (c .before .same2 .ensures) (c .if6 .taken));
       inside = (omega arith, omega arith);
     }
 
@@ -129,7 +129,7 @@ returns-7 c =
     let b = st .args .b .now in
     let at = st .args .at in
     record {
-      same = λ ns k. head-other b at (st .pre) ns k (r .before .if1 .left) _ (r .read32 .ensures) (e .if2 .left) (l .if3 .left) (h .if4 .left) _ refl (four-bytes b at _ _ (t .before .same .ensures) (t .if5 .left)) (four-bytes b at _ _ (c .before .same2 .ensures) (c .if6 .left));
+      same = λ w ns k. head-other w b at (st .pre) ns k (r .before .if1 .left) _ (r .read32 .ensures) (e .if2 .left) (l .if3 .left) (h .if4 .left) _ refl (four-bytes b at _ _ (t .before .same .ensures) (t .if5 .left)) (four-bytes b at _ _ (c .before .same2 .ensures) (c .if6 .left));
       inside = (omega arith, omega arith);
     }
 
