@@ -177,7 +177,15 @@ fn add_tree(
 }
 
 // The extension at a place.
-fn read_extension(b: &[u8], at: usize, found: Found, v: u32, count: u32, work: &mut [u8], w: usize) -> One
+fn read_extension(
+    b: &[u8],
+    at: usize,
+    found: Found,
+    v: u32,
+    count: u32,
+    work: &mut [u8],
+    w: usize,
+) -> One
     requires { ⌜ (at ≤ length (now b)) × Room (now b) (now work) × (1 ≤ w) × (w ≤ 32) ⌝ }
     ensures { λ r. ⌜ ExtensionPassed w (λ ns. readExtension w ns (seenOf found) at (drop at (now (b .entry)))) v count (now (b .entry)) (now (work .entry)) at found (now (work .exit)) r ⌝ }
 {
@@ -191,7 +199,14 @@ fn read_extension(b: &[u8], at: usize, found: Found, v: u32, count: u32, work: &
 }
 
 // All extensions of a body, from a place on. v and count are the version and the number of entries.
-pub fn read_extensions(b: &[u8], at: usize, v: u32, count: u32, work: &mut [u8], w: usize) -> Extended
+pub fn read_extensions(
+    b: &[u8],
+    at: usize,
+    v: u32,
+    count: u32,
+    work: &mut [u8],
+    w: usize,
+) -> Extended
     requires { ⌜ (at ≤ length (now b)) × Room (now b) (now work) × (1 ≤ w) × (w ≤ 32) ⌝ }
     ensures { λ r. ⌜ ExtensionsPassed w v count (now (b .entry)) (now (work .entry)) at (now (work .exit)) r ⌝ }
 {

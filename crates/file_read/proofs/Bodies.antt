@@ -20,34 +20,34 @@ use Rattle.file_read.specs.Contents.{Contains}
 
 -- ---- the body
 
-module _ (v : ℕ) (b : List ℕ) (count : ℕ) (counted : count ≡ be32 b 8) where
-  no-entries : (n p : ℕ) → readEntries 20 v count F.start 12 (drop 12 b) ≡ bad n p → readBody 20 v b ≡ bad n p
+module _ (w : ℕ) (v : ℕ) (b : List ℕ) (count : ℕ) (counted : count ≡ be32 b 8) where
+  no-entries : (n p : ℕ) → readEntries w v count F.start 12 (drop 12 b) ≡ bad n p → readBody w v b ≡ bad n p
   unfolding readBody bind shift
   no-entries n p e = rw (← counted, e)
 
-  pub body-no-entries : (n p : ℕ) → R.Bad n p ≡ runOf (readEntries 20 v count F.start 12 (drop 12 b)) → readBody 20 v b ≡ bad n p
+  pub body-no-entries : (n p : ℕ) → R.Bad n p ≡ runOf (readEntries w v count F.start 12 (drop 12 b)) → readBody w v b ≡ bad n p
   body-no-entries n p e = no-entries n p (runOf-bad _ n p e)
 
-  module _ (es : List F.Entry) (m : ℕ) (entries : EntriesRead v count b es m) where
+  module _ (es : List F.Entry) (m : ℕ) (entries : EntriesRead w v count b es m) where
     module _ (end : ℕ) (last : end ≡ 12 + m) where
       rest : drop m (drop 12 b) ≡ drop (12 + m) b
       rest = drop-drop m 12 b
 
-      body-no-extensions : (n p : ℕ) → readExtensions 20 (names es) (length (drop end b)) noneSeen end (drop end b) ≡ bad n p → readBody 20 v b ≡ bad n p
+      body-no-extensions : (n p : ℕ) → readExtensions w (names es) (length (drop end b)) noneSeen end (drop end b) ≡ bad n p → readBody w v b ≡ bad n p
       unfolding readBody bind shift
       body-no-extensions n p e = rw (← counted, entries, rest, ← last, e)
 
       contents : List Extension → Contents
       contents xs = record { version = v; end = end; records = record { entries = es; cacheTree = first (trees xs); resolveUndo = first (undos xs) } }
 
-      body-read : (xs : List Extension) (k : ℕ) → readExtensions 20 (names es) (length (drop end b)) noneSeen end (drop end b) ≡ good xs k
-          → readBody 20 v b ≡ good (contents xs) (12 + (m + (k + 0)))
+      body-read : (xs : List Extension) (k : ℕ) → readExtensions w (names es) (length (drop end b)) noneSeen end (drop end b) ≡ good xs k
+          → readBody w v b ≡ good (contents xs) (12 + (m + (k + 0)))
       unfolding readBody bind shift contents
       body-read xs k e = rw (← counted, entries, rest, ← last, e)
 
       body-contains : 12 ≤ length b → length b ≤ 16777216 → (found : Found)
-          → E.Whole b end (readExtensions 20 (names es) (length (drop end b)) noneSeen end (drop end b)) found
-          → Contains (readBody 20 v b) b (record { version = v; count = count; end = end; found = found })
+          → E.Whole w b end (readExtensions w (names es) (length (drop end b)) noneSeen end (drop end b)) found
+          → Contains w (readBody w v b) b (record { version = v; count = count; end = end; found = found })
       unfolding contents
       body-contains least most found h =
           let taken : m ≡ end - 12 = omega arith in
@@ -59,7 +59,7 @@ module _ (v : ℕ) (b : List ℕ) (count : ℕ) (counted : count ≡ be32 b 8) w
             most = most;
             version = refl;
             end = refl;
-            counted = entries-length 20 v count F.start 12 (drop 12 b) es m entries;
+            counted = entries-length w v count F.start 12 (drop 12 b) es m entries;
             entries = entries ∙ ap (good es) taken;
             tree = h .tree;
             undo = h .undo;
@@ -68,10 +68,10 @@ module _ (v : ℕ) (b : List ℕ) (count : ℕ) (counted : count ≡ be32 b 8) w
           }
 
   -- after the run of entries, which ends at a place
-  module _ (end : ℕ) (run : R.Good end ≡ runOf (readEntries 20 v count F.start 12 (drop 12 b))) (work work′ : List ℕ) where
-    pub body-refused : (n p : ℕ) → E.ExtensionsPassed v count b work end work′ (X.Bad n p) → readBody 20 v b ≡ bad n p
+  module _ (end : ℕ) (run : R.Good end ≡ runOf (readEntries w v count F.start 12 (drop 12 b))) (work work′ : List ℕ) where
+    pub body-refused : (n p : ℕ) → E.ExtensionsPassed w v count b work end work′ (X.Bad n p) → readBody w v b ≡ bad n p
     body-refused n p h = runOf-good _ end run λ es m e last. body-no-extensions es m e end last n p (h .answered es m e)
 
-    pub body-accepted : (found : Found) → 12 ≤ length b → length b ≤ 16777216 → E.ExtensionsPassed v count b work end work′ (X.Good found)
-        → Contains (readBody 20 v b) b (record { version = v; count = count; end = end; found = found })
+    pub body-accepted : (found : Found) → 12 ≤ length b → length b ≤ 16777216 → E.ExtensionsPassed w v count b work end work′ (X.Good found)
+        → Contains w (readBody w v b) b (record { version = v; count = count; end = end; found = found })
     body-accepted found least most h = runOf-good _ end run λ es m e last. body-contains es m e end last least most found (h .answered es m e)

@@ -2,6 +2,7 @@
 ghost use mathlib.Core.Path.{_≡_};
 ghost use Prim.Native.Nat.{_≤_};
 ghost use lib.ListN.{length};
+ghost use Rattle.kinds.specs.Kinds.{widthOf, hashOf};
 ghost use Rattle.file_read.specs.Header.{isVersion, HeaderOf};
 
 // The most bytes that a file has.
@@ -29,11 +30,12 @@ fn version_ok(v: u32) -> bool
     v <= 4
 }
 
-// The refusals 1 to 5 in their order, or the version and the number of entries.
-pub fn read_header(file: &[u8]) -> Header
-    ensures { λ r. ⌜ HeaderOf (now (file .entry)) r ⌝ }
+// The refusals 1 to 5 in their order, or the version and the number of entries. w is the width of the kind's object names and of its checksum.
+pub fn read_header(file: &[u8], kind: u32, w: usize) -> Header
+    requires { ⌜ (w ≡ widthOf kind) × (w ≤ 32) ⌝ }
+    ensures { λ r. ⌜ HeaderOf w (hashOf kind) (now (file .entry)) r ⌝ }
 {
-    if file.len() < 32 {
+    if file.len() < 12 + w {
         return Header::Bad(1, 0);
     }
     if LARGEST < file.len() {
@@ -48,9 +50,9 @@ pub fn read_header(file: &[u8]) -> Header
     if !known {
         return Header::Bad(4, 0);
     }
-    let n = file.len() - 20;
-    let digest = hash::sha1(&file[..n]);
-    if !fields::same(&file[n..], &digest) {
+    let n = file.len() - w;
+    let digest = kinds::digest_of(kind, &file[..n]);
+    if !fields::same(&file[n..], &digest[..w]) {
         return Header::Bad(5, n);
     }
     Header::Good(Opening {

@@ -5,12 +5,13 @@ ghost use mathlib.Core.Path.{_≡_};
 ghost use Prim.Native.Nat.{_≤_};
 ghost use lib.ListN.{length};
 ghost use Rattle.format.specs.Bytes.{be32};
-ghost use Rattle.format.specs.Reader.{readBody, readFile};
-ghost use Rattle.hash.specs.Sha1.{sha1};
+ghost use Rattle.format.specs.Reader.{readBody};
+ghost use Rattle.format.specs.Places.{bodyIn};
+ghost use Rattle.kinds.specs.Kinds.{widthOf, readKind};
 ghost use Rattle.fields.specs.Workspace.{Frame};
 ghost use Rattle.entries_run.specs.Steps.{Room};
 ghost use Rattle.answers.specs.Answers.{inRoom, cleared};
-ghost use Rattle.file_read.specs.Contents.{bodyOf, WholeOf};
+ghost use Rattle.file_read.specs.Contents.{WholeOf};
 use crate::header::Header;
 use entries_run::Run;
 use extensions::Extended;
@@ -31,15 +32,15 @@ pub enum Whole {
 }
 
 // The body b of version v with count entries.
-fn read_body(b: &[u8], v: u32, count: u32, work: &mut [u8]) -> Whole
-    requires { ⌜ Room (now b) (now work) × (count ≡ be32 (now b) 8) ⌝ }
-    ensures { λ r. ⌜ WholeOf (readBody 20 v (now (b .entry))) (now (b .entry)) r × Frame (now (work .entry)) (now (work .exit)) ⌝ }
+fn read_body(b: &[u8], v: u32, count: u32, work: &mut [u8], w: usize) -> Whole
+    requires { ⌜ Room (now b) (now work) × (count ≡ be32 (now b) 8) × (1 ≤ w) × (w ≤ 32) ⌝ }
+    ensures { λ r. ⌜ WholeOf w (readBody w v (now (b .entry))) (now (b .entry)) r × Frame (now (work .entry)) (now (work .exit)) ⌝ }
 {
-    let run = entries_run::run_entries(b, v, &mut *work, count);
+    let run = entries_run::run_entries(b, v, &mut *work, count, w);
     match run {
         Run::Bad(n, p) => Whole::Bad(n, p),
         Run::Good(end) => {
-            let read = extensions::read_extensions(b, end, v, count, work);
+            let read = extensions::read_extensions(b, end, v, count, work, w);
             match read {
                 Extended::Bad(n, p) => Whole::Bad(n, p),
                 Extended::Good(found) => Whole::Good(Parts {
@@ -53,29 +54,33 @@ fn read_body(b: &[u8], v: u32, count: u32, work: &mut [u8]) -> Whole
     }
 }
 
-// The whole file.
-pub fn read_whole(file: &[u8], work: &mut [u8]) -> Whole
+// The whole file. An unknown kind is refused with 29.
+pub fn read_whole(file: &[u8], work: &mut [u8], kind: u32) -> Whole
     requires { ⌜ 8192 ≤ length (now work) ⌝ }
-    ensures { λ r. ⌜ WholeOf (readFile 20 sha1 (now (file .entry))) (bodyOf (now (file .entry))) r × Frame (now (work .entry)) (now (work .exit)) ⌝ }
+    ensures { λ r. ⌜ WholeOf (widthOf kind) (readKind kind (now (file .entry))) (bodyIn (widthOf kind) (now (file .entry))) r × Frame (now (work .entry)) (now (work .exit)) ⌝ }
 {
-    let header = crate::header::read_header(file);
+    if !kinds::is_known(kind) {
+        return Whole::Bad(29, 0);
+    }
+    let w = kinds::width_of(kind);
+    let header = crate::header::read_header(file, kind, w);
     match header {
         Header::Bad(n, p) => Whole::Bad(n, p),
         Header::Good(h) => {
-            let n = file.len() - 20;
-            read_body(&file[..n], h.version, h.count, work)
+            let n = file.len() - w;
+            read_body(&file[..n], h.version, h.count, work, w)
         }
     }
 }
 
 // The same for any workspace, which is cleared afterwards; one below 8,192 bytes is refused with 19 and left as it is.
-pub fn read_cleared(file: &[u8], work: &mut [u8]) -> Whole
-    ensures { λ r. ⌜ WholeOf (inRoom (now (work .entry)) (readFile 20 sha1 (now (file .entry)))) (bodyOf (now (file .entry))) r × (now (work .exit) ≡ cleared (now (work .entry))) ⌝ }
+pub fn read_cleared(file: &[u8], work: &mut [u8], kind: u32) -> Whole
+    ensures { λ r. ⌜ WholeOf (widthOf kind) (inRoom (now (work .entry)) (readKind kind (now (file .entry)))) (bodyIn (widthOf kind) (now (file .entry))) r × (now (work .exit) ≡ cleared (now (work .entry))) ⌝ }
 {
     if work.len() < fields::LONGEST {
         return Whole::Bad(19, 0);
     }
-    let whole = read_whole(file, &mut *work);
+    let whole = read_whole(file, &mut *work, kind);
     fields::clear_from(work, 0);
     whole
 }

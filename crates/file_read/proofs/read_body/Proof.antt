@@ -23,6 +23,8 @@ read-extensions-requires c κs =
     let st = q .before .before .before .before in (
       rw (w .run2 .given .1) at (q .run-entries .ensures .inside),
       record { least = st .pre .0 .least; most = st .pre .0 .most; room = omega (arith, st .pre .0 .room, q .run-entries .ensures .frame) },
+      omega arith,
+      omega arith,
     )
 
 enum-known-read : tie.Need-enum-known-read
@@ -39,7 +41,7 @@ returns c =
     let q = c .before .before .before .before .before in
     let st = q .before .before .before .before in
     let a = st .args in
-    (body-no-entries (a .v) (a .b .now) (a .count) (st .pre .1) _ _ (sym (c .before .run .given .1) ∙ q .run-entries .ensures .same), q .run-entries .ensures .frame)
+    (body-no-entries _ (a .v) (a .b .now) (a .count) (st .pre .1) _ _ (sym (c .before .run .given .1) ∙ q .run-entries .ensures .same), q .run-entries .ensures .frame)
 
 same-length-2 : tie.Need-same-length-2
 same-length-2 c = search needs
@@ -51,7 +53,7 @@ returns-2 c =
     let q = w .before .before .before .before in
     let st = q .before .before .before .before in
     let a = st .args in (
-      body-refused (a .v) (a .b .now) (a .count) (st .pre .1) _ (sym (w .run2 .given .1) ∙ q .run-entries .ensures .same) _ _ _ _
+      body-refused _ (a .v) (a .b .now) (a .count) (st .pre .1) _ (sym (w .run2 .given .1) ∙ q .run-entries .ensures .same) _ _ _ _
           (rw (c .before .read .given .1) at (x .read-extensions .ensures)),
       frame-then (q .run-entries .ensures .frame) (x .read-extensions .ensures .frame),
     )
@@ -66,7 +68,7 @@ returns-3 c =
     let q = w .before .before .before .before in
     let st = q .before .before .before .before in
     let a = st .args in (
-      body-accepted (a .v) (a .b .now) (a .count) (st .pre .1) _ (sym (w .run2 .given .1) ∙ q .run-entries .ensures .same) _ _ _
+      body-accepted _ (a .v) (a .b .now) (a .count) (st .pre .1) _ (sym (w .run2 .given .1) ∙ q .run-entries .ensures .same) _ _ _
           (st .pre .0 .least) (st .pre .0 .most) (rw (c .before .read2 .given .1) at (x .read-extensions .ensures)),
       frame-then (q .run-entries .ensures .frame) (x .read-extensions .ensures .frame),
     )

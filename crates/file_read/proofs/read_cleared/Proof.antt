@@ -1,7 +1,6 @@
 -- The proof that `read_cleared` meets its contract.
 use mathlib.Core.Path.{sym}
-use Rattle.format.specs.Reader.{readFile}
-use Rattle.hash.specs.Sha1.{sha1}
+use Rattle.kinds.specs.Kinds.{readKind}
 use Rattle.answers.proofs.Laws.{cleared-small}
 use Rattle.file_read.proofs.Room.{cleared-by, in-room, no-room}
 use borrow.Author.Needs.{needs}
@@ -26,7 +25,7 @@ returns-2 c =
     let q = m .before .before .before .before in
     let e = q .before .before in
     let a = e .before .before .before .args in (
-      rw (in-room (a .work .now) (readFile 20 sha1 (a .file .now)) (e .if1 .left)) (q .read-whole .ensures .0),
+      rw (in-room (a .work .now) (readKind (a .kind) (a .file .now)) (e .if1 .left)) (q .read-whole .ensures .0),
       cleared-by (a .work .now) _ _ (e .if1 .left) (q .read-whole .ensures .1) (m .clear-from .ensures),
     )
 
