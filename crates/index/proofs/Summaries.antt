@@ -15,16 +15,16 @@ use Rattle.answers.specs.Answers.{treeCount, undoCount, checkedOf}
 use Rattle.file_read.specs.declared.Parts.{Parts}
 use Rattle.file_read.specs.Contents.{Contains}
 
-module _ (b : List ℕ) (found : Found) where
-  tree-count : (o : Option F.Tree) → TreeFound b o (found .tree) → cond (found .tree .there) (Present (found .tree .nodes)) Absent ≡ treeCount o
+module _ (w : ℕ) (b : List ℕ) (found : Found) where
+  tree-count : (o : Option F.Tree) → TreeFound w b o (found .tree) → cond (found .tree .there) (Present (found .tree .nodes)) Absent ≡ treeCount o
   tree-count none h = rw h
   tree-count (some t) h = rw (h .there, h .nodes)
 
-  undo-count : (o : Option (List F.Undo)) → UndoFound b o (found .undo) → cond (found .undo .there) (Present (found .undo .records)) Absent ≡ undoCount o
+  undo-count : (o : Option (List F.Undo)) → UndoFound w b o (found .undo) → cond (found .undo .there) (Present (found .undo .records)) Absent ≡ undoCount o
   undo-count none h = rw h
   undo-count (some us) h = rw (h .there, h .records)
 
-pub check-says : (x : Read Contents) (b : List ℕ) (parts : Parts) (h : Contains x b parts)
+pub check-says : (w : ℕ) (x : Read Contents) (b : List ℕ) (parts : Parts) (h : Contains w x b parts)
     → K.Accepted
     (record {
       version = parts .version;
@@ -34,12 +34,12 @@ pub check-says : (x : Read Contents) (b : List ℕ) (parts : Parts) (h : Contain
       records = cond (parts .found .undo .there) (Present (parts .found .undo .records)) Absent;
     })
     ≡ checkedOf (good (h .contents) (h .taken))
-check-says x b parts h =
+check-says w x b parts h =
     rw (
       h .version,
       h .end,
       h .counted,
-      tree-count b (parts .found) (h .contents .records .cacheTree) (h .tree),
-      undo-count b (parts .found) (h .contents .records .resolveUndo) (h .undo),
+      tree-count w b (parts .found) (h .contents .records .cacheTree) (h .tree),
+      undo-count w b (parts .found) (h .contents .records .resolveUndo) (h .undo),
     )
     refl

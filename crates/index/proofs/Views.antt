@@ -9,6 +9,7 @@ use lib.ListN.{length, getD, getElem?, length-take}
 use Rattle.format.specs.Records as F
 use Rattle.format.specs.Reading.{Read, bad}
 use Rattle.format.specs.Reader.{Contents}
+use Rattle.format.specs.Places.{bodyIn}
 use Rattle.answers.specs.declared.Checked.the-variants as K
 use Rattle.answers.specs.declared.EntryAnswer.{EntryAnswer}
 use Rattle.answers.specs.declared.NodeAnswer.{NodeAnswer}
@@ -16,16 +17,15 @@ use Rattle.answers.specs.declared.UndoAnswer.{UndoAnswer}
 use Rattle.answers.specs.Answers.{inRoom, View, refused, inFile, inWorkspace, pick, cleared, checkedOf, checkAnswer, entryOf, entryAnswer, nodeOf, nodeAnswer, undoOf, undoAnswer, entrySaid, nodeSaid, undoSaid, refusedEntry, refusedNode, refusedUndo}
 use Rattle.answers.proofs.Laws.{part-within}
 use Rattle.extensions.specs.Heads.{part}
-use Rattle.file_read.specs.Contents.{bodyOf}
 use Rattle.index.specs.Calls.{EntryShows, NodeShows, UndoShows}
 
 -- ---- lists
 
 -- data in the body are data in the file
-pub part-of-body : (f : List ℕ) (a e : ℕ) → a ≤ e → e ≤ length (bodyOf f) → part (bodyOf f) a e ≡ part f a e
-part-of-body f a e order inside =
-    let b : length (bodyOf f) ≤ length f - 20 = simp length-take (omega arith) in
-    part-within (length f - 20) a (e - a) f (omega arith)
+pub part-of-body : (w : ℕ) (f : List ℕ) (a e : ℕ) → a ≤ e → e ≤ length (bodyIn w f) → part (bodyIn w f) a e ≡ part f a e
+part-of-body w f a e order inside =
+    let b : length (bodyIn w f) ≤ length f - w = simp length-take (omega arith) in
+    part-within (length f - w) a (e - a) f (omega arith)
 
 module _ {A : Type 0} where
   pub item-some : (l : List A) (k : ℕ) (z : A) → k < length l → getElem? l k ≡ some (getD l k z)
@@ -66,20 +66,20 @@ module _ (work : List ℕ) (k : ℕ) (x y : Read Contents) (e : inRoom work x �
 
 -- ---- refusals
 
-module _ (n p : ℕ) (f : List ℕ) (at : ℕ) where
+module _ (w n p : ℕ) (f : List ℕ) (at : ℕ) where
   pub entry-refused :
       (v : View F.Entry) (work work′ : List ℕ) (r : EntryAnswer) → v ≡ refused n p →
-      ((file work : List ℕ) → entrySaid r file work ≡ refused n p) × (r ≡ refusedEntry n p) → work′ ≡ cleared work →
-      EntryShows at v f work work′ r
+      ((u : ℕ) (file work : List ℕ) → entrySaid u r file work ≡ refused n p) × (r ≡ refusedEntry n p) → work′ ≡ cleared work →
+      EntryShows w at v f work work′ r
   entry-refused v work work′ r e (said, is) after =
-      record { shows = record { whole = rw e is; said = said f work′ ∙ sym e; inside = rw is tt }; after = rw e after }
+      record { shows = record { whole = rw e is; said = said w f work′ ∙ sym e; inside = rw is tt }; after = rw e after }
 
   pub node-refused :
-      (v : View F.Item) (r : NodeAnswer) → v ≡ refused n p → ((file work : List ℕ) → nodeSaid r file work ≡ refused n p) × (r ≡ refusedNode n p) →
-      NodeShows at v f r
-  node-refused v r e (said, is) = record { shows = λ work. record { whole = rw e is; said = said f work ∙ sym e; inside = rw is tt }; zeros = λ _. rw is refl }
+      (v : View F.Item) (r : NodeAnswer) → v ≡ refused n p → ((u : ℕ) (file work : List ℕ) → nodeSaid u r file work ≡ refused n p) × (r ≡ refusedNode n p) →
+      NodeShows w at v f r
+  node-refused v r e (said, is) = record { shows = λ work. record { whole = rw e is; said = said w f work ∙ sym e; inside = rw is tt }; zeros = λ _. rw is refl }
 
   pub undo-refused :
-      (v : View F.Undo) (r : UndoAnswer) → v ≡ refused n p → ((file work : List ℕ) → undoSaid r file work ≡ refused n p) × (r ≡ refusedUndo n p) →
-      UndoShows at v f r
-  undo-refused v r e (said, is) = record { shows = λ work. record { whole = rw e is; said = said f work ∙ sym e; inside = rw is tt }; zeros = (λ _. rw is refl, λ _. rw is refl, λ _. rw is refl) }
+      (v : View F.Undo) (r : UndoAnswer) → v ≡ refused n p → ((u : ℕ) (file work : List ℕ) → undoSaid u r file work ≡ refused n p) × (r ≡ refusedUndo n p) →
+      UndoShows w at v f r
+  undo-refused v r e (said, is) = record { shows = λ work. record { whole = rw e is; said = said w f work ∙ sym e; inside = rw is tt }; zeros = (λ _. rw is refl, λ _. rw is refl, λ _. rw is refl) }

@@ -5,16 +5,18 @@ use mathlib.Core.Bool.{true}
 use mathlib.Core.Option.{some}
 use Prim.Native.Nat.{ℕ, zero, suc, _+_, _-_, _≤_, _<_}
 use native.Mathlib.Omega.{arith}
-use lib.ListN.{length, take, drop, replicate, drop-of-length-le}
+use lib.ListN.{length, take, drop, replicate, length-replicate, drop-of-length-le}
+use lib.Dec.{eqb}
 use lib.Seq.{drop-drop}
 use Rattle.format.specs.Bytes.{before}
 use Rattle.format.specs.Names.{okName, compare, isBelow}
-use Rattle.format.specs.Records.{Undo}
+use Rattle.format.specs.Records.{Undo, Stage}
+use Rattle.format.specs.Layout.{IsStage}
 use Rattle.format.specs.Reading.{Read, bad, good, need, bind}
 use Rattle.format.specs.Reader.{readText, readUndo, readUndos}
-use Rattle.format_laws.proofs.Tests.{false-true, and-both}
+use Rattle.format_laws.proofs.Tests.{false-true, and-both, by-test}
 use Rattle.format_laws.proofs.Readings.{good-inv, bind-inv, need-good, bind-good, none-some, same-size}
-use Rattle.spelling.proofs.Undo.{undosOf, undosOf-end, undosOf-step}
+use Rattle.spelling.proofs.Undo.{undosOf, undosOf-end, undosOf-step, undo-read}
 use Rattle.entries.specs.Record.{wideObject}
 use Rattle.resolve_undo.specs.declared.Record.{Record}
 use Rattle.resolve_undo.specs.declared.RecordRead.{RecordRead}
@@ -114,6 +116,20 @@ unfolding undoAt
 missing-zeros w p s u wide e =
     value-inv (readUndo w p [] s) u e λ k q.
     let h = undo-objects w p 0 [] s u k wide q in (missing w _ _ _ (h .first), missing w _ _ _ (h .second), missing w _ _ _ (h .third))
+
+-- the object name of a stage has w bytes
+stage-long : (w : ℕ) (s : Stage) (a : List ℕ) → IsStage w s a → length (s .object) ≡ w
+stage-long w s a h =
+    by-test (eqb (s .mode) 0)
+    (λ e. let zeros = rw e at h in ap length (zeros .0) ∙ length-replicate {A = ℕ} w 0)
+    (λ e. let there = rw e at h in there .1)
+
+pub objects-long : (w p : ℕ) (s : List ℕ) (u : Undo) → undoAt w p s ≡ some u
+    → (length (u .first .object) ≡ w) × (length (u .second .object) ≡ w) × (length (u .third .object) ≡ w)
+unfolding undoAt
+objects-long w p s u e =
+    value-inv (readUndo w p [] s) u e λ k q.
+    let h = undo-read w p [] s u k q .1 in (stage-long w (u .first) (h .firstBytes) (h .first), stage-long w (u .second) (h .secondBytes) (h .second), stage-long w (u .third) (h .thirdBytes) (h .third))
 
 -- ---- what is shown
 

@@ -1,9 +1,9 @@
 -- The proof that `check` meets its contract.
 use mathlib.Core.Path.{sym, _∙_}
-use Rattle.format.specs.Reader.{readFile}
-use Rattle.hash.specs.Sha1.{sha1}
+use Rattle.format.specs.Places.{bodyIn}
+use Rattle.kinds.specs.Kinds.{widthOf, readKind}
 use Rattle.answers.specs.Answers.{inRoom}
-use Rattle.file_read.specs.Contents.{bodyOf, Contains}
+use Rattle.file_read.specs.Contents.{Contains}
 use Rattle.index.proofs.Views.{check-is}
 use Rattle.index.proofs.Summaries.{check-says}
 use borrow.Author.Needs.{needs}
@@ -14,7 +14,7 @@ use Rattle.index.proofs.check.Tie as tie
 accepted :
     (c : tie.After-whole2) →
     let a = c .before .before .before .before .before .before .before .before .args in
-    Contains (inRoom (a .work .now) (readFile 20 sha1 (a .file .now))) (bodyOf (a .file .now)) (c .whole2 .given .0 .0)
+    Contains (widthOf (a .kind)) (inRoom (a .work .now) (readKind (a .kind) (a .file .now))) (bodyIn (widthOf (a .kind)) (a .file .now)) (c .whole2 .given .0 .0)
 accepted c = rw (c .whole2 .given .1) at (c .before .before .before .before .read-cleared .ensures .0)
 
 read-cleared-requires : tie.Need-read-cleared-requires
@@ -46,10 +46,10 @@ same-length-2 c = search needs
 
 returns-2 : tie.Need-returns-2
 returns-2 c =
-    let w = c .before .before .before in
-    let h = accepted w in (
-      rw (c .count-of2 .ensures, c .before .count-of .ensures) (check-says _ _ _ h ∙ sym (check-is _ 0 _ _ (h .read))),
-      w .before .before .before .before .read-cleared .ensures .1,
+    let got = c .before .before .before in
+    let h = accepted got in (
+      rw (c .count-of2 .ensures, c .before .count-of .ensures) (check-says _ _ _ _ h ∙ sym (check-is _ 0 _ _ (h .read))),
+      got .before .before .before .before .read-cleared .ensures .1,
     )
 
 pub check-spec : {M : Type 1} → statement M

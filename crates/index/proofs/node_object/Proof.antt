@@ -4,7 +4,7 @@ use Rattle.index.proofs.node_object.Statement.{statement}
 use Rattle.index.proofs.node_object.Tie as tie
 
 object-at-requires : tie.Need-object-at-requires
-object-at-requires c κs = c .before .before .pre (c .if1 .taken)
+object-at-requires c κs = (c .before .before .pre .0 (c .if1 .taken), c .before .before .pre .1)
 
 returns : tie.Need-returns
 returns c = rw (c .before .if1 .taken) (c .object-at .ensures)

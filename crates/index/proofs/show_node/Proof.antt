@@ -15,7 +15,7 @@ use Rattle.index.proofs.show_node.Tie as tie
 inside : (c : tie.Else1) → let a = c .before .before .before .args in Within (a .file .now) (a .tree)
 inside c =
     let st = c .before .before .before in
-    within (st .args .k) (st .args .file .now) (st .args .tree) (st .pre .0) (st .pre .1) (c .if1 .left)
+    within _ (st .args .k) (st .args .file .now) (st .args .tree) (st .pre .0 .0) (st .pre .0 .1) (c .if1 .left)
 
 -- and the parts of the node in them
 placed :
@@ -23,13 +23,13 @@ placed :
     let f = c .before .before .before .before in
     let a = f .before .before .before .before .before .args in
     let n = c .read .given .0 .0 in
-    (f .find-node .result .place ≤ n .nul) × (n .valid ≡ true → n .object + 20 ≤ length (part (a .file .now) (a .tree .at) (a .tree .end)))
+    (f .find-node .result .place ≤ n .nul) × (n .valid ≡ true → n .object + a .w ≤ length (part (a .file .now) (a .tree .at) (a .tree .end)))
 placed c =
     let q = c .before .before in
     let f = q .before .before in
     let t = f .before .before in
     let st = t .before .before .before in
-    places (st .args .k) (st .args .file .now) (st .args .tree) _ (f .find-node .ensures) (st .pre .0) (st .pre .1) (t .if1 .left) _ (sym (c .read .given .1) ∙ q .read-node .ensures)
+    places _ (st .args .k) (st .args .file .now) (st .args .tree) _ (f .find-node .ensures) (st .pre .0 .0) (st .pre .0 .1) (t .if1 .left) _ (sym (c .read .given .1) ∙ q .read-node .ensures)
 
 refused-node-requires : tie.Need-refused-node-requires
 refused-node-requires c κs = search needs
@@ -37,7 +37,7 @@ refused-node-requires c κs = search needs
 returns : tie.Need-returns
 returns c =
     let a = c .before .before .before .before .args in
-    λ o at is placed. node-refused 18 0 (a .file .now) at _ _ (no-node-there (a .k) (a .file .now) (a .tree) o is (c .before .if1 .taken)) (c .refused-node .ensures)
+    λ o at is placed. node-refused _ 18 0 (a .file .now) at _ _ (no-node-there _ (a .k) (a .file .now) (a .tree) o is (c .before .if1 .taken)) (c .refused-node .ensures)
 
 sub-find-node : tie.Need-sub-find-node
 sub-find-node c = inside c .order
@@ -72,12 +72,6 @@ refused-node-requires-2 c κs = search needs
 enum-known-read : tie.Need-enum-known-read
 enum-known-read c = search needs
 
-add-t19 : tie.Need-add-t19
-add-t19 c = search needs
-
-sub-t20 : tie.Need-sub-t20
-sub-t20 c = placed (c .before .before) .0
-
 sub-node-object : tie.Need-sub-node-object
 sub-node-object c = inside (c .before .before .before .before .before .before .before .before) .order
 
@@ -88,7 +82,7 @@ part-node-object-end : tie.Need-part-node-object-end
 part-node-object-end c = inside (c .before .before .before .before .before .before .before .before) .inside
 
 node-object-requires : tie.Need-node-object-requires
-node-object-requires c κs = placed (c .before .before .before) .1
+node-object-requires c κs = (placed (c .before .before .before) .1, omega arith)
 
 returns-2 : tie.Need-returns-2
 returns-2 c =
@@ -97,8 +91,8 @@ returns-2 c =
     let t = f .before .before in
     let a = t .before .before .before .args in
     λ o at is placed.
-    item-here (a .k) (a .file .now) (a .tree) _ (f .find-node .ensures) o is (t .if1 .left) λ i v there h.
-    absurd (node-there _ _ i (h .taken) (h .reads) (sym (c .before .enum-told .given .1) ∙ q .read-node .ensures))
+    item-here _ (a .k) (a .file .now) (a .tree) _ (f .find-node .ensures) o is (t .if1 .left) λ i v there h.
+    absurd (node-there _ _ _ i (h .taken) (h .reads) (sym (c .before .enum-told .given .1) ∙ q .read-node .ensures))
 
 returns-3 : tie.Need-returns-3
 returns-3 c =
@@ -108,9 +102,15 @@ returns-3 c =
     let t = f .before .before in
     let a = t .before .before .before .args in
     λ o at is placed.
-    item-here (a .k) (a .file .now) (a .tree) _ (f .find-node .ensures) o is (t .if1 .left) λ i v there h.
-    node-shows (a .k) (a .file .now) (a .tree) _ at _ i v h (placed there) _ (node-parts _ _ i (h .taken) (h .reads) _ (sym (s .read .given .1) ∙ q .read-node .ensures)) _
+    item-here _ (a .k) (a .file .now) (a .tree) _ (f .find-node .ensures) o is (t .if1 .left) λ i v there h.
+    node-shows _ (a .k) (a .file .now) (a .tree) _ at _ i v h (t .before .before .before .pre .1) (placed there) _ (node-parts _ _ _ i (h .taken) (h .reads) _ (sym (s .read .given .1) ∙ q .read-node .ensures)) _
     (c .node-object .ensures)
+
+add-t20 : tie.Need-add-t20
+add-t20 c = search needs
+
+sub-t21 : tie.Need-sub-t21
+sub-t21 c = placed (c .before .before) .0
 
 pub show-node-spec : {M : Type 1} → statement M
 show-node-spec =
@@ -129,8 +129,8 @@ show-node-spec =
     enum-told
     refused-node-requires-2
     enum-known-read
-    add-t19
-    sub-t20
+    add-t20
+    sub-t21
     sub-node-object
     part-node-object-start
     part-node-object-end

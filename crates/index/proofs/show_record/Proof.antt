@@ -10,7 +10,7 @@ use Rattle.index.proofs.show_record.Tie as tie
 inside : (c : tie.Else1) → let a = c .before .before .before .args in Within (a .file .now) (a .undo)
 inside c =
     let st = c .before .before .before in
-    within (st .args .k) (st .args .file .now) (st .args .undo) (st .pre .0) (st .pre .1) (c .if1 .left)
+    within _ (st .args .k) (st .args .file .now) (st .args .undo) (st .pre .0 .0) (st .pre .0 .1) (c .if1 .left)
 
 refused-undo-requires : tie.Need-refused-undo-requires
 refused-undo-requires c κs = search needs
@@ -18,7 +18,7 @@ refused-undo-requires c κs = search needs
 returns : tie.Need-returns
 returns c =
     let a = c .before .before .before .before .args in
-    λ o at is placed. undo-refused 18 0 (a .file .now) at _ _ (no-record-there (a .k) (a .file .now) (a .undo) o is (c .before .if1 .taken)) (c .refused-undo .ensures)
+    λ o at is placed. undo-refused _ 18 0 (a .file .now) at _ _ (no-record-there _ (a .k) (a .file .now) (a .undo) o is (c .before .if1 .taken)) (c .refused-undo .ensures)
 
 sub-find-undo : tie.Need-sub-find-undo
 sub-find-undo c = inside c .order
@@ -44,9 +44,6 @@ part-show-undo-end c = inside (c .before .before) .inside
 show-undo-requires : tie.Need-show-undo-requires
 show-undo-requires c κs = search needs
 
-add-t13 : tie.Need-add-t13
-add-t13 c = search needs
-
 returns-2 : tie.Need-returns-2
 returns-2 c =
     let q = c .before .before .before .before in
@@ -54,8 +51,11 @@ returns-2 c =
     let t = f .before .before in
     let a = t .before .before .before .args in
     λ o at is placed.
-    record-here (a .k) (a .file .now) (a .undo) _ (f .find-undo .ensures) o is (t .if1 .left) λ u v there h.
-    undo-shows (a .k) (a .file .now) (a .undo) _ at _ u v h (placed there) _ (q .show-undo .ensures .0 0) (q .show-undo .ensures .1)
+    record-here _ (a .k) (a .file .now) (a .undo) _ (f .find-undo .ensures) o is (t .if1 .left) λ u v there h.
+    undo-shows _ (a .k) (a .file .now) (a .undo) _ at _ u v h (placed there) _ (q .show-undo .ensures .0 0) (q .show-undo .ensures .1) (t .before .before .before .pre .1) (t .before .before .before .pre .2)
+
+add-t14 : tie.Need-add-t14
+add-t14 c = search needs
 
 pub show-record-spec : {M : Type 1} → statement M
 show-record-spec =
@@ -71,5 +71,5 @@ show-record-spec =
     part-show-undo-start
     part-show-undo-end
     show-undo-requires
-    add-t13
+    add-t14
     returns-2)
