@@ -84,13 +84,14 @@ fn in_slices() -> [u8; 32] {
     finalize(update(h, b"ijklmnopjklmnopqklmnopqrlmnopqrsmnopqrstnopqrstu"))
 }
 
-// A thousand bytes in two slices.
+// A thousand bytes in two slices. The parameter's type gives the length.
 fn split(h: Hasher, piece: &[u8; 1000], at: usize) -> Hasher
     requires { ⌜ at ≤ 1000 ⌝ }
 {
     cut(h, piece, at)
 }
 
+// The first at bytes of a piece, and then the others.
 fn cut(h: Hasher, piece: &[u8], at: usize) -> Hasher
     requires { ⌜ at ≤ length (now piece) ⌝ }
 {

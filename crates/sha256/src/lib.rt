@@ -30,25 +30,28 @@ pub struct State {
     pub h: u32,
 }
 
-// The four functions of one word (4.1.2).
+// Σ_0, of the working variable a (4.1.2).
 fn big0(x: u32) -> u32
     ensures { λ r. ⌜ r ≡ F.big0 x ⌝ }
 {
     rotr(x, 2) ^ rotr(x, 13) ^ rotr(x, 22)
 }
 
+// Σ_1, of the working variable e (4.1.2).
 fn big1(x: u32) -> u32
     ensures { λ r. ⌜ r ≡ F.big1 x ⌝ }
 {
     rotr(x, 6) ^ rotr(x, 11) ^ rotr(x, 25)
 }
 
+// σ_0, for the schedule (4.1.2).
 fn small0(x: u32) -> u32
     ensures { λ r. ⌜ r ≡ F.small0 x ⌝ }
 {
     rotr(x, 7) ^ rotr(x, 18) ^ (x >> 3)
 }
 
+// σ_1, for the schedule (4.1.2).
 fn small1(x: u32) -> u32
     ensures { λ r. ⌜ r ≡ F.small1 x ⌝ }
 {

@@ -2,7 +2,7 @@
 use mathlib.Core.Path.{_≡_, refl, _∙_}
 use Prim.Native.Nat.{_-_, _≤_}
 use native.Mathlib.Omega.{arith}
-use lib.ListN.{length, take}
+use lib.ListN.{take}
 use lib.Seq.{sets, take-all}
 use Rattle.hash_words.proofs.Copying.{sets-next}
 use Rattle.hash_words.proofs.fill.Statement.{statement}
