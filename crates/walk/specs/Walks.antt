@@ -49,13 +49,13 @@ or18 (good a m) = good a m
 unfoldable pub walkRead : ℕ → List ℕ → ℕ → ℕ → Read Entry
 walkRead w f at left = need (ltb 0 left && walkable w f) 18 0 (or18 (readEntry w (be32 f 4) start at (drop at (bodyIn w f))))
 
-abbrev pub viewIn : Read Entry → View Entry
-viewIn (bad n p) = refused n p
-viewIn (good e m) = inFile e
-
 -- the same for a kind. A step takes no workspace: an unknown kind is refused with 29 before all else
 unfoldable pub stepRead : ℕ → List ℕ → ℕ → ℕ → Read Entry
 stepRead kind f at left = ofKind kind (walkRead (widthOf kind) f at left)
+
+abbrev pub viewIn : Read Entry → View Entry
+viewIn (bad n p) = refused n p
+viewIn (good e m) = inFile e
 
 -- what it shows
 unfoldable pub walkAnswer : ℕ → List ℕ → ℕ → ℕ → View Entry

@@ -29,7 +29,7 @@ returns-2 : tie.Need-returns-2
 returns-2 c = past-body _ _ _ _ (c .before .before .before .if1 .left) (ok (c .before)) (c .if3 .taken)
 
 slice-aggregate-plain-at : tie.Need-slice-aggregate-plain-at
-slice-aggregate-plain-at c = let f = c .before .before .before .before .before .before .args .file .now in sym (length-take-le _ f (omega arith))
+slice-aggregate-plain-at c = sym (length-take-le _ (c .before .before .before .before .before .before .args .file .now) (omega arith))
 
 read32-requires : tie.Need-read32-requires
 read32-requires c κs = omega (arith, walkable-long _ _ (ok (c .before .before)))
@@ -37,8 +37,12 @@ read32-requires c κs = omega (arith, walkable-long _ _ (ok (c .before .before))
 plain-at-requires : tie.Need-plain-at-requires
 plain-at-requires c κs =
     let e = c .before .before in
-    let f = e .before .before .before .before .before .args .file .now in
-    (rw (length-take-le _ f (omega arith)) (e .if3 .left), rw (c .read32 .ensures) (walkable-old _ f (ok (e .before))), omega arith)
+    let st = e .before .before .before .before .before in
+    let f = st .args .file .now in (
+      rw (length-take-le (length f - st .args .w) f (omega arith)) (e .if3 .left),
+      rw (c .read32 .ensures) (walkable-old _ f (ok (e .before))),
+      st .pre,
+    )
 
 returns-3 : tie.Need-returns-3
 returns-3 c =

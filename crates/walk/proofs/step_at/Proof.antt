@@ -106,8 +106,7 @@ returns-2 c =
 returns-3 : tie.Need-returns-3
 returns-3 c =
     let k = c .before .before .before .before in
-    let u = k .before .before .before in
-    (
+    let u = k .before .before .before in (
       rw (← (u .width-of .ensures .0)) (step-shows _ _ _ _ _ (read u) _ _ _ (seen k) _ (c .fields-at .ensures)),
       place-moves _ _ _ _ _ (read u) _ _ _ (seen k) _ _ refl (u .before .before .before .fewer .ensures),
     )
