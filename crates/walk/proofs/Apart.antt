@@ -30,7 +30,7 @@ B κs = T.the-row (namedLft 1 0 tt κs)
 
 -- the types of the fields
 abbrev pub parts : Lft → List RattleType
-parts κ = ShrSlice (named 0) κ u8 ∷ usize ∷ u32 ∷ []
+parts κ = u32 ∷ ShrSlice (named 0) κ u8 ∷ usize ∷ u32 ∷ []
 
 abbrev pub D : Lft → Declared
 D κ = T.the-type (namedLft 1 0 tt (κ, tt))
@@ -42,12 +42,12 @@ L κ = T′.the-laws (namedLft 1 0 tt (κ, tt))
 abbrev pub mach : Walk → Val
 mach d = T′.lowered d
 
-abbrev pub passed : Walk → List Val × (List Val × (List Val × Unit {0}))
-passed d = (sliceVal (d .file .ptr) (length (d .file .now)) ∷ [], (vint w64 (d .at) ∷ [], (vint w32 (d .left) ∷ [], tt)))
+abbrev pub passed : Walk → List Val × (List Val × (List Val × (List Val × Unit {0})))
+passed d = (vint w32 (d .kind) ∷ [], (sliceVal (d .file .ptr) (length (d .file .now)) ∷ [], (vint w64 (d .at) ∷ [], (vint w32 (d .left) ∷ [], tt))))
 
 module _ (κ : Lft) (d : Walk) where
   abbrev pub vd : Values (D κ .parts)
-  vd = (d .file, (d .at, (d .left, tt)))
+  vd = (d .kind, (d .file, (d .at, (d .left, tt))))
 
   abbrev pub Own : Fml
   Own = B (κ, tt) .own d (mach d ∷ [])

@@ -27,23 +27,22 @@ use Rattle.entries.specs.declared.record.Fields.{Fields}
 use Rattle.answers.specs.declared.Shown.{Shown}
 use Rattle.answers.specs.declared.Shown.the-variants as S
 use Rattle.answers.specs.Answers.{View, refused, inFile, partIn, nameIn, entrySaid, refusedEntry, entryShown}
-use Rattle.entries.specs.Record.{entryWith}
+use Rattle.entries.specs.Record.{FieldsRead}
 use Rattle.answers.proofs.Laws.{part-in, part-within}
-use Rattle.entries.proofs.Fields.{fields-are}
 use Rattle.walk.specs.declared.Sight.{Sight}
 use Rattle.walk.specs.declared.Sight.the-variants.{Nothing, Found}
-use Rattle.walk.specs.Walks.{placeAt, walkable, or18, walkRead, walkAnswer, nameShown, placeAfter, StepShows}
+use Rattle.walk.specs.Walks.{placeAt, walkable, or18, walkRead, stepRead, walkAnswer, nameShown, placeAfter, StepShows}
 use Rattle.walk.specs.Sights.{sightRead, PartsInside, Sees}
 use Rattle.walk.proofs.Plain.{tail-bad, tail-start}
 use Rattle.walk.proofs.Steps.{walk-on, view-is, place-is}
 
 -- ---- nothing, or an entry
 
-sees-nothing : (x : Read Entry) (b : List ℕ) (at : ℕ) → x ≡ bad 18 0 → Sees x b at Nothing
-sees-nothing x b at e = record { same = e; parts = λ h n m q. let z : _≡_ {A = ℕ} 0 1 = cc in absurd (omega arith) }
+sees-nothing : (w : ℕ) (x : Read Entry) (b : List ℕ) (at : ℕ) → x ≡ bad 18 0 → Sees w x b at Nothing
+sees-nothing w x b at e = record { same = e; parts = λ h n m q. let z : _≡_ {A = ℕ} 0 1 = cc in absurd (omega arith) }
 
-sees-found : (x : Read Entry) (b : List ℕ) (at : ℕ) (h : Head) (n m : ℕ) → x ≡ sightRead b at (Found h n m) → PartsInside b at h n m → Sees x b at (Found h n m)
-sees-found x b at h n m e s =
+sees-found : (w : ℕ) (x : Read Entry) (b : List ℕ) (at : ℕ) (h : Head) (n m : ℕ) → x ≡ sightRead w b at (Found h n m) → PartsInside w b at h n m → Sees w x b at (Found h n m)
+sees-found w x b at h n m e s =
     record {
       same = e;
       parts = λ h′ n′ m′ q.
@@ -54,136 +53,137 @@ sees-found x b at h n m e s =
 
 -- ---- at a place of the body b, in version v
 
-module _ (v : ℕ) (b : List ℕ) (at : ℕ) (old : eqb v 4 ≡ false) where
-  refused-at : (n : ℕ) → readEntry 20 v start at (drop at b) ≡ bad n at → Sees (or18 (readEntry 20 v start at (drop at b))) b at Nothing
-  refused-at n e = sees-nothing _ b at (ap or18 e)
+module _ (w v : ℕ) (b : List ℕ) (at : ℕ) (old : eqb v 4 ≡ false) where
+  refused-at : (n : ℕ) → readEntry w v start at (drop at b) ≡ bad n at → Sees w (or18 (readEntry w v start at (drop at b))) b at Nothing
+  refused-at n e = sees-nothing w _ b at (ap or18 e)
 
-  pub no-head : (n : ℕ) → ((p : ℕ) → F.Bad n ≡ fixedOf (readHead 20 v p (drop at b))) → Sees (or18 (readEntry 20 v start at (drop at b))) b at Nothing
-  no-head n e = refused-at n (readEntry-bad 20 v start at (drop at b) n (sym (e at)))
+  pub no-head : (n : ℕ) → ((p : ℕ) → F.Bad n ≡ fixedOf (readHead w v p (drop at b))) → Sees w (or18 (readEntry w v start at (drop at b))) b at Nothing
+  no-head n e = refused-at n (readEntry-bad w v start at (drop at b) n (sym (e at)))
 
-  module _ (h : Head) (head : (p : ℕ) → F.Good h ≡ fixedOf (readHead 20 v p (drop at b))) where
+  module _ (h : Head) (head : (p : ℕ) → F.Good h ≡ fixedOf (readHead w v p (drop at b))) where
     pub no-name : (n : ℕ) → ((p : ℕ) → T.Bad n ≡ textOf (readPlain (h .length) p (h .flags % 4096) (drop (at + h .length) b)))
-        → Sees (or18 (readEntry 20 v start at (drop at b))) b at Nothing
+        → Sees w (or18 (readEntry w v start at (drop at b))) b at Nothing
     unfolding shift
     no-name n e =
         let name = readPlain-bad (h .length) at (h .flags % 4096) (drop (at + h .length) b) n (sym (e at)) in
-        let rest = tail-bad 20 v at old (h .length) (h .flags) (h .word) (drop at b) start n (rw drop-drop name) in
-        refused-at n (readEntry-good 20 v start at (drop at b) h (sym (head at)) ∙ rw rest)
+        let rest = tail-bad w v at old (h .length) (h .flags) (h .word) (drop at b) start n (rw drop-drop name) in
+        refused-at n (readEntry-good w v start at (drop at b) h (sym (head at)) ∙ rw rest)
 
     -- the name begins after them
-    head-end : at + h .length ≡ namePlace 20 at b
+    head-end : at + h .length ≡ namePlace w at b
     unfolding namePlace
-    head-end = let size = head-size v at (drop at b) h (sym (head at)) in rw (size .is, size .flags)
+    head-end = let size = head-size w v at (drop at b) h (sym (head at)) in rw (size .is, size .flags)
 
     pub a-name : (n m : ℕ) → ((p : ℕ) → T.Good n m ≡ textOf (readPlain (h .length) p (h .flags % 4096) (drop (at + h .length) b)))
-        → n ≤ m → at + h .length + m ≤ length b → Sees (or18 (readEntry 20 v start at (drop at b))) b at (Found h n m)
+        → n ≤ m → at + h .length + m ≤ length b → Sees w (or18 (readEntry w v start at (drop at b))) b at (Found h n m)
     unfolding shift
     a-name n m e fits end =
         let name = readPlain-good (h .length) at (h .flags % 4096) (drop (at + h .length) b) n m (sym (e at)) in
-        let rest = tail-start 20 v at old (h .length) (h .flags) (h .word) (drop at b) (take n (drop (at + h .length) b)) m (rw drop-drop name) in
-        let is : readEntry 20 v start at (drop at b) ≡ sightRead b at (Found h n m) =
-        readEntry-good 20 v start at (drop at b) h (sym (head at)) ∙ rw (rest, add-zero m) in
-        let least : 62 ≤ h .length + m = entry-takes 20 v start at (drop at b) _ _ is in
-        sees-found _ b at h n m (ap or18 is) (record { fixed = omega arith; start = head-end; name = omega arith; end = end })
+        let rest = tail-start w v at old (h .length) (h .flags) (h .word) (drop at b) (take n (drop (at + h .length) b)) m (rw drop-drop name) in
+        let is : readEntry w v start at (drop at b) ≡ sightRead w b at (Found h n m) =
+        readEntry-good w v start at (drop at b) h (sym (head at)) ∙ rw (rest, add-zero m) in
+        let least : 42 + w ≤ h .length + m = entry-takes w v start at (drop at b) _ _ is in
+        sees-found w _ b at h n m (ap or18 is) (record { fixed = omega arith; start = head-end; name = omega arith; end = end })
 
 -- ---- of a file
 
 -- a header of version 2 or 3
-module _ (f : List ℕ) where
-  pub not-long : length f < 32 → walkable 20 f ≡ false
+module _ (w : ℕ) (f : List ℕ) where
+  pub not-long : length f < 12 + w → walkable w f ≡ false
   unfolding walkable
-  not-long h = rw (lt-leb 32 (length f) h)
+  not-long h = rw (lt-leb (12 + w) (length f) h)
 
-  module _ (long : 32 ≤ length f) where
-    pub not-signed : eqList (take 4 f) DIRC ≡ false → walkable 20 f ≡ false
+  module _ (long : 12 + w ≤ length f) where
+    pub not-signed : eqList (take 4 f) DIRC ≡ false → walkable w f ≡ false
     unfolding walkable
-    not-signed e = rw (le-leb 32 (length f) long, e)
+    not-signed e = rw (le-leb (12 + w) (length f) long, e)
 
     module _ (signed : eqList (take 4 f) DIRC ≡ true) where
-      pub version-two : be32 f 4 ≡ 2 → walkable 20 f ≡ true
+      pub version-two : be32 f 4 ≡ 2 → walkable w f ≡ true
       unfolding walkable
-      version-two e = rw (le-leb 32 (length f) long, signed, eq-eqb (be32 f 4) 2 e)
+      version-two e = rw (le-leb (12 + w) (length f) long, signed, eq-eqb (be32 f 4) 2 e)
 
-      pub version-three : (be32 f 4 ≡ 2 → ⊥) → walkable 20 f ≡ eqb (be32 f 4) 3
+      pub version-three : (be32 f 4 ≡ 2 → ⊥) → walkable w f ≡ eqb (be32 f 4) 3
       unfolding walkable
-      version-three e = rw (le-leb 32 (length f) long, signed, ne-eqb (be32 f 4) 2 e)
+      version-three e = rw (le-leb (12 + w) (length f) long, signed, ne-eqb (be32 f 4) 2 e)
 
   module _ (at left : ℕ) where
-    pub none-left : left ≡ 0 → Sees (walkRead 20 f at left) (bodyIn 20 f) at Nothing
+    pub none-left : left ≡ 0 → Sees w (walkRead w f at left) (bodyIn w f) at Nothing
     unfolding walkRead need
-    none-left e = sees-nothing _ _ at (rw e)
+    none-left e = sees-nothing w _ _ at (rw e)
 
     module _ (some : left ≡ 0 → ⊥) where
       more : ltb 0 left ≡ true
       more = lt-ltb 0 left (omega arith)
 
-      pub not-walkable : walkable 20 f ≡ false → Sees (walkRead 20 f at left) (bodyIn 20 f) at Nothing
+      pub not-walkable : walkable w f ≡ false → Sees w (walkRead w f at left) (bodyIn w f) at Nothing
       unfolding walkRead need
-      not-walkable e = sees-nothing _ _ at (rw (more, e))
+      not-walkable e = sees-nothing w _ _ at (rw (more, e))
 
-      module _ (ok : walkable 20 f ≡ true) where
-        walk-is : walkRead 20 f at left ≡ or18 (readEntry 20 (be32 f 4) start at (drop at (bodyIn 20 f)))
-        walk-is = walk-on 20 f at left more ok
+      module _ (ok : walkable w f ≡ true) where
+        walk-is : walkRead w f at left ≡ or18 (readEntry w (be32 f 4) start at (drop at (bodyIn w f)))
+        walk-is = walk-on w f at left more ok
 
-        pub past-body : length f - 20 < at → Sees (walkRead 20 f at left) (bodyIn 20 f) at Nothing
+        pub past-body : length f - w < at → Sees w (walkRead w f at left) (bodyIn w f) at Nothing
         unfolding readEntry need fixedLength
         past-body h =
-            let cut : length (drop at (bodyIn 20 f)) < 62 = rw (length-drop, length-take) (omega arith) in
-            sees-nothing _ _ at (walk-is ∙ rw (lt-leb 62 (length (drop at (bodyIn 20 f))) cut))
+            let cut : length (drop at (bodyIn w f)) < fixedLength w false = rw (length-drop, length-take) (omega arith) in
+            sees-nothing w _ _ at (walk-is ∙ rw (lt-leb (fixedLength w false) (length (drop at (bodyIn w f))) cut))
 
-        pub at-place : (v : ℕ) (r : Sight) → v ≡ be32 f 4 → Sees (or18 (readEntry 20 v start at (drop at (bodyIn 20 f)))) (bodyIn 20 f) at r
-            → Sees (walkRead 20 f at left) (bodyIn 20 f) at r
+        pub at-place : (v : ℕ) (r : Sight) → v ≡ be32 f 4 → Sees w (or18 (readEntry w v start at (drop at (bodyIn w f)))) (bodyIn w f) at r
+            → Sees w (walkRead w f at left) (bodyIn w f) at r
         at-place v r e s = rw (walk-is, ← e) s
 
 -- ---- what is shown, and the place after it
 
-module _ (f : List ℕ) (at left : ℕ) where
-  pub step-refused : (r : EntryAnswer) → Sees (walkRead 20 f at left) (bodyIn 20 f) at Nothing
-      → ((file work : List ℕ) → entrySaid r file work ≡ refused 18 0) × (r ≡ refusedEntry 18 0)
-      → StepShows (namePlace 20 at (bodyIn 20 f)) (walkAnswer 20 f at left) f r
-  step-refused r s (said, is) =
-      let v : walkAnswer 20 f at left ≡ refused 18 0 = view-is 20 f at left _ (s .same) in
-      record { shows = λ work. record { whole = is ∙ sym (ap (entryShown _) v); said = said f work ∙ sym v; inside = rw is tt } }
+module _ (kind : ℕ) (f : List ℕ) (at left : ℕ) where
+  -- a refusal, of the kind or of the place
+  module _ (n : ℕ) (bad-is : stepRead kind f at left ≡ bad n 0) where
+    pub step-refused : (w place : ℕ) (r : EntryAnswer) → ((x : ℕ) (file work : List ℕ) → entrySaid x r file work ≡ refused n 0) × (r ≡ refusedEntry n 0)
+        → StepShows w place (walkAnswer kind f at left) f r
+    step-refused w place r (said, is) =
+        let v : walkAnswer kind f at left ≡ refused n 0 = view-is kind f at left _ bad-is in
+        record { shows = λ work. record { whole = is ∙ sym (ap (entryShown _) v); said = said w f work ∙ sym v; inside = rw is tt } }
 
-  pub place-stays : (less : ℕ) → Sees (walkRead 20 f at left) (bodyIn 20 f) at Nothing → less ≡ left - 1
-      → placeAt at less ≡ placeAfter 20 f at left
-  place-stays less s e = rw (place-is 20 f at left _ (s .same), add-zero at, e)
+    pub place-stays : (less : ℕ) → less ≡ left - 1 → placeAt at less ≡ placeAfter kind f at left
+    place-stays less e = rw (place-is kind f at left _ bad-is, add-zero at, e)
 
-  module _ (h : Head) (n m : ℕ) (s : Sees (walkRead 20 f at left) (bodyIn 20 f) at (Found h n m)) where
-    pub place-moves : (end less : ℕ) → end ≡ at + h .length + m → less ≡ left - 1 → placeAt end less ≡ placeAfter 20 f at left
-    place-moves end less e l = let sum : end ≡ at + (h .length + m) = omega arith in rw (place-is 20 f at left _ (s .same), sum, l)
+  -- an entry, in a file whose object names have the width w
+  module _ (w : ℕ) (read : stepRead kind f at left ≡ walkRead w f at left) (h : Head) (n m : ℕ) (s : Sees w (walkRead w f at left) (bodyIn w f) at (Found h n m)) where
+    pub place-moves : (end less : ℕ) → end ≡ at + h .length + m → less ≡ left - 1 → placeAt end less ≡ placeAfter kind f at left
+    place-moves end less e l = let sum : end ≡ at + (h .length + m) = omega arith in rw (place-is kind f at left _ (read ∙ s .same), sum, l)
 
-    pub found-parts : PartsInside (bodyIn 20 f) at h n m
+    pub found-parts : PartsInside w (bodyIn w f) at h n m
     found-parts = s .parts h n m refl
 
-    pub body-long : length (bodyIn 20 f) + 20 ≤ length f
-    body-long = let l = length-take (length f - 20) f in let t = found-parts in omega arith
+    pub body-long : length (bodyIn w f) + w ≤ length f
+    body-long = let l = length-take (length f - w) f in let t = found-parts in omega arith
 
-    pub step-shows : (x : Fields) → ((name : List ℕ) → entryWith x name ≡ entryOf 20 (drop at (bodyIn 20 f)) (h .flags) (h .word) name)
-        → StepShows (namePlace 20 at (bodyIn 20 f)) (walkAnswer 20 f at left) f (record { shown = S.InFile (at + h .length) n; fields = x })
+    pub step-shows : (x : Fields) → FieldsRead w (drop at (bodyIn w f)) (h .flags) (h .word) x
+        → StepShows w (namePlace w at (bodyIn w f)) (walkAnswer kind f at left) f (record { shown = S.InFile (at + h .length) n; fields = x })
     unfolding entrySaid nameIn entryOf
     step-shows x fields =
-        let v = view-is 20 f at left _ (s .same) in
+        let v = view-is kind f at left _ (read ∙ s .same) in
         let t = found-parts in
         let long = body-long in
-        let within : at + h .length + n ≤ length f - 20 = omega arith in
-        let bytes : List ℕ = take n (drop (at + h .length) (bodyIn 20 f)) in
-        let name : partIn (at + h .length) n f ≡ bytes = part-in _ _ f (omega arith) ∙ sym (part-within (length f - 20) (at + h .length) n f within) in
-        let size : length bytes ≡ n = length-take-le n (drop (at + h .length) (bodyIn 20 f)) (rw length-drop (omega arith)) in
+        let within : at + h .length + n ≤ length f - w = omega arith in
+        let bytes : List ℕ = take n (drop (at + h .length) (bodyIn w f)) in
+        let name : partIn (at + h .length) n f ≡ bytes = part-in _ _ f (omega arith) ∙ sym (part-within (length f - w) (at + h .length) n f within) in
+        let size : length bytes ≡ n = length-take-le n (drop (at + h .length) (bodyIn w f)) (rw length-drop (omega arith)) in
         record {
           shows = λ work. record {
-            whole = rw (v, size, ← (t .start)) (ap (λ (y : Fields). record { shown = S.InFile (at + h .length) n; fields = y }) (fields-are x bytes _ (fields bytes)));
-            said = ap inFile (fields (partIn (at + h .length) n f) ∙ rw name) ∙ sym v;
+            whole = rw (v, size, ← (t .start)) (ap (λ (y : Fields). record { shown = S.InFile (at + h .length) n; fields = y }) (fields .whole bytes));
+            said = ap inFile (fields .entry (partIn (at + h .length) n f) ∙ rw name) ∙ sym v;
             inside = omega arith;
           };
         }
 
 -- the name that an answer points at is the one of what it shows
-said-name : (x : Fields) (s : Shown) (f work : List ℕ) → nameIn s f work ≡ nameShown (entrySaid (record { shown = s; fields = x }) f work)
+said-name : (w : ℕ) (x : Fields) (s : Shown) (f work : List ℕ) → nameIn s f work ≡ nameShown (entrySaid w (record { shown = s; fields = x }) f work)
 unfolding entrySaid nameIn
-said-name x (S.Refused n p) f work = refl
-said-name x (S.InFile at n) f work = refl
-said-name x (S.InWorkspace n) f work = refl
+said-name w x (S.Refused n p) f work = refl
+said-name w x (S.InFile at n) f work = refl
+said-name w x (S.InWorkspace n) f work = refl
 
-pub shown-name : (at : ℕ) (v : View Entry) (f : List ℕ) (r : EntryAnswer) → StepShows at v f r → nameIn (r .shown) f [] ≡ nameShown v
-shown-name at v f r h = said-name (r .fields) (r .shown) f [] ∙ ap nameShown (h .shows [] .said)
+pub shown-name : (w at : ℕ) (v : View Entry) (f : List ℕ) (r : EntryAnswer) → StepShows w at v f r → nameIn (r .shown) f [] ≡ nameShown v
+shown-name w at v f r h = said-name w (r .fields) (r .shown) f [] ∙ ap nameShown (h .shows [] .said)

@@ -17,7 +17,7 @@ module _ (work : List ℕ) (x : Read Contents) where
   unfolding startAnswer
   start-is y e = ap startedOf e
 
-  module _ (b : List ℕ) (parts : Parts) (h : Contains (inRoom work x) b parts) where
+  module _ (w : ℕ) (b : List ℕ) (parts : Parts) (h : Contains w (inRoom work x) b parts) where
     pub starts-four : parts .version ≡ 4 → startAnswer work x ≡ Refused 4 0
     starts-four e = start-is _ (h .read) ∙ rw (h .version, e)
 

@@ -1,4 +1,5 @@
--- A walk over the entries of a file of version 2 or 3: its start, the next entry, the place after it. w is the width of an object name and of the checksum.
+-- A walk over the entries of a file of version 2 or 3: its start, the next entry, the place after it. w is the width of an object name and of the checksum, kind the
+-- kind of object names, which has one.
 use mathlib.Core.List.{List, [], _∷_}
 use mathlib.Core.Bool.{Bool, cond, _&&_, _||_}
 use Prim.Native.Nat.{ℕ, zero, suc, _+_, _-_}
@@ -10,6 +11,7 @@ use Rattle.format.specs.Layout.{DIRC}
 use Rattle.format.specs.Reading.{Read, bad, good, need}
 use Rattle.format.specs.Reader.{Contents, readEntry}
 use Rattle.format.specs.Places.{bodyIn, taken}
+use Rattle.kinds.specs.Kinds.{widthOf, ofKind}
 use Rattle.answers.specs.declared.EntryAnswer.{EntryAnswer}
 use Rattle.answers.specs.Answers.{View, refused, inFile, inWorkspace, inRoom, EntryShown}
 use Rattle.walk.specs.declared.Started.{Started}
@@ -47,13 +49,17 @@ or18 (good a m) = good a m
 unfoldable pub walkRead : ℕ → List ℕ → ℕ → ℕ → Read Entry
 walkRead w f at left = need (ltb 0 left && walkable w f) 18 0 (or18 (readEntry w (be32 f 4) start at (drop at (bodyIn w f))))
 
+-- the same for a kind. A step takes no workspace: an unknown kind is refused with 29 before all else
+unfoldable pub stepRead : ℕ → List ℕ → ℕ → ℕ → Read Entry
+stepRead kind f at left = ofKind kind (walkRead (widthOf kind) f at left)
+
 abbrev pub viewIn : Read Entry → View Entry
 viewIn (bad n p) = refused n p
 viewIn (good e m) = inFile e
 
--- what the next entry shows
+-- what it shows
 unfoldable pub walkAnswer : ℕ → List ℕ → ℕ → ℕ → View Entry
-walkAnswer w f at left = viewIn (walkRead w f at left)
+walkAnswer kind f at left = viewIn (stepRead kind f at left)
 
 -- its name
 abbrev pub nameShown : View Entry → List ℕ
@@ -63,22 +69,22 @@ nameShown (inWorkspace e) = e .name
 
 -- the place after it, with one fewer to come; where there is none, the place stays
 unfoldable pub placeAfter : ℕ → List ℕ → ℕ → ℕ → Place
-placeAfter w f at left = placeAt (at + taken (walkRead w f at left)) (left - 1)
+placeAfter kind f at left = placeAt (at + taken (stepRead kind f at left)) (left - 1)
 
 -- ---- many steps
 
 -- the place after k of them
 unfoldable pub placeAfterAll : ℕ → List ℕ → ℕ → Place → Place
-placeAfterAll w f zero p = p
-placeAfterAll w f (suc k) p = placeAfterAll w f k (placeAfter w f (p .at) (p .left))
+placeAfterAll kind f zero p = p
+placeAfterAll kind f (suc k) p = placeAfterAll kind f k (placeAfter kind f (p .at) (p .left))
 
 -- what k of them show
 unfoldable pub walkOver : ℕ → List ℕ → ℕ → Place → List (View Entry)
-walkOver w f zero p = []
-walkOver w f (suc k) p = walkAnswer w f (p .at) (p .left) ∷ walkOver w f k (placeAfter w f (p .at) (p .left))
+walkOver kind f zero p = []
+walkOver kind f (suc k) p = walkAnswer kind f (p .at) (p .left) ∷ walkOver kind f k (placeAfter kind f (p .at) (p .left))
 
 -- ---- what the answer of the code shows
 
 -- v, whose name is the part of the file at the place at
-pub record StepShows (at : ℕ) (v : View Entry) (f : List ℕ) (r : EntryAnswer) : Type 0 where
-  pub shows : (work : List ℕ) → EntryShown at v f work r
+pub record StepShows (w at : ℕ) (v : View Entry) (f : List ℕ) (r : EntryAnswer) : Type 0 where
+  pub shows : (work : List ℕ) → EntryShown w at v f work r

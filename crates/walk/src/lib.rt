@@ -1,13 +1,14 @@
-// A walk over the entries of a file of version 2 or 3: the next entry, step by step, without a workspace.
+// A walk over the entries of a file of version 2 or 3: the next entry, step by step, without a workspace. The kind says which function gives object
+// names: 1 is SHA-1, 2 is SHA-256.
 ghost use mathlib.Core.Path.{_≡_};
 ghost use mathlib.Core.Bool.{false};
 ghost use Prim.Native.Nat.{_-_, _≤_};
 ghost use lib.ListN.{length, drop};
 ghost use lib.Dec.{eqb};
 ghost use Rattle.format.specs.Records as F;
-ghost use Rattle.format.specs.Reader.{readEntry, readFile};
+ghost use Rattle.format.specs.Reader.{readEntry};
 ghost use Rattle.format.specs.Places.{bodyIn, namePlace};
-ghost use Rattle.hash.specs.Sha1.{sha1};
+ghost use Rattle.kinds.specs.Kinds.{widthOf, readKind};
 ghost use Rattle.answers.specs.Answers.{cleared};
 ghost use Rattle.walk.specs.Walks.{startAnswer, placeAt, firstPlace, or18, walkRead, walkAnswer, nameShown, placeAfter, StepShows};
 ghost use Rattle.walk.specs.Walks as W;
@@ -37,8 +38,9 @@ pub struct Step {
     pub next: Place,
 }
 
-// A walk: the file, the place of the next entry, and how many remain.
+// A walk: the kind and the file, the place of the next entry, and how many remain.
 pub struct Walk<'a> {
+    pub kind: u32,
     pub file: &'a [u8],
     pub at: usize,
     pub left: u32,
@@ -52,11 +54,12 @@ pub enum Sight {
 
 // ---- the entry at a place
 
-// Whether the header is one of version 2 or 3.
-fn walkable(file: &[u8]) -> bool
-    ensures { λ r. ⌜ r ≡ W.walkable 20 (now (file .entry)) ⌝ }
+// Whether the header is one of version 2 or 3; w is the width of an object name and of the checksum.
+fn walkable(file: &[u8], w: usize) -> bool
+    requires { ⌜ w ≤ 32 ⌝ }
+    ensures { λ r. ⌜ r ≡ W.walkable w (now (file .entry)) ⌝ }
 {
-    if file.len() < 32 {
+    if file.len() < 12 + w {
         return false;
     }
     if fields::same(&file[..4], b"DIRC") {
@@ -70,11 +73,11 @@ fn walkable(file: &[u8]) -> bool
 }
 
 // The entry of version v, 2 or 3, at a place of the body b.
-fn plain_at(b: &[u8], at: usize, v: u32) -> Sight
-    requires { ⌜ (at ≤ length (now b)) × (eqb v 4 ≡ false) ⌝ }
-    ensures { λ r. ⌜ Sees (or18 (readEntry 20 v F.start at (drop at (now (b .entry))))) (now (b .entry)) at r ⌝ }
+fn plain_at(b: &[u8], at: usize, v: u32, w: usize) -> Sight
+    requires { ⌜ (at ≤ length (now b)) × (eqb v 4 ≡ false) × (w ≤ 32) ⌝ }
+    ensures { λ r. ⌜ Sees w (or18 (readEntry w v F.start at (drop at (now (b .entry))))) (now (b .entry)) at r ⌝ }
 {
-    let fixed = entries::read_fixed(b, at, v);
+    let fixed = entries::read_fixed(b, at, v, w);
     match fixed {
         Fixed::Bad(_) => Sight::Nothing,
         Fixed::Good(h) => {
@@ -88,18 +91,19 @@ fn plain_at(b: &[u8], at: usize, v: u32) -> Sight
 }
 
 // The next entry of a file at a place, where some remain.
-fn see(file: &[u8], at: usize, left: u32) -> Sight
-    ensures { λ r. ⌜ Sees (walkRead 20 (now (file .entry)) at left) (bodyIn 20 (now (file .entry))) at r ⌝ }
+fn see(file: &[u8], at: usize, left: u32, w: usize) -> Sight
+    requires { ⌜ w ≤ 32 ⌝ }
+    ensures { λ r. ⌜ Sees w (walkRead w (now (file .entry)) at left) (bodyIn w (now (file .entry))) at r ⌝ }
 {
     if left == 0 {
         return Sight::Nothing;
     }
-    if walkable(file) {
-        let n = file.len() - 20;
+    if walkable(file, w) {
+        let n = file.len() - w;
         if n < at {
             return Sight::Nothing;
         }
-        return plain_at(&file[..n], at, fields::read32(file, 4));
+        return plain_at(&file[..n], at, fields::read32(file, 4), w);
     }
     Sight::Nothing
 }
@@ -114,25 +118,33 @@ fn fewer(left: u32) -> u32
     0
 }
 
-// The next entry of a file at a place, where left remain, and the place after it, with one fewer to come. Where there is none, the entry is 18 and the place stays.
-pub fn step_at(file: &[u8], at: usize, left: u32) -> Step
-    ensures { λ r. ⌜ StepShows (namePlace 20 at (bodyIn 20 (now (file .entry)))) (walkAnswer 20 (now (file .entry)) at left) (now (file .entry)) (r .answer) × (r .next ≡ placeAfter 20 (now (file .entry)) at left) ⌝ }
+// The next entry of a file at a place, where left remain, and the place after it, with one fewer to come. Where there is none, the entry is 18 and the place stays; an unknown
+// kind is 29 before all else.
+pub fn step_at(kind: u32, file: &[u8], at: usize, left: u32) -> Step
+    ensures { λ r. ⌜ StepShows (widthOf kind) (namePlace (widthOf kind) at (bodyIn (widthOf kind) (now (file .entry)))) (walkAnswer kind (now (file .entry)) at left) (now (file .entry)) (r .answer) × (r .next ≡ placeAfter kind (now (file .entry)) at left) ⌝ }
 {
-    let sight = see(file, at, left);
     let less = fewer(left);
+    if !kinds::is_known(kind) {
+        return Step {
+            answer: answers::refused_entry(29, 0),
+            next: Place { at: at, left: less },
+        };
+    }
+    let w = kinds::width_of(kind);
+    let sight = see(file, at, left, w);
     match sight {
         Sight::Nothing => Step {
             answer: answers::refused_entry(18, 0),
             next: Place { at: at, left: less },
         },
         Sight::Found(h, length, m) => {
-            let n = file.len() - 20;
+            let n = file.len() - w;
             let name = at + h.length;
             let end = name + m;
             Step {
                 answer: EntryAnswer {
                     shown: Shown::InFile(name, length),
-                    fields: entries::record::fields_at(&file[..n], at, h.flags, h.word),
+                    fields: entries::record::fields_at(&file[..n], at, h.flags, h.word, w),
                 },
                 next: Place {
                     at: end,
@@ -144,39 +156,39 @@ pub fn step_at(file: &[u8], at: usize, left: u32) -> Step
 }
 
 // The entry alone.
-pub fn entry_at(file: &[u8], at: usize, left: u32) -> EntryAnswer
-    ensures { λ r. ⌜ StepShows (namePlace 20 at (bodyIn 20 (now (file .entry)))) (walkAnswer 20 (now (file .entry)) at left) (now (file .entry)) r ⌝ }
+pub fn entry_at(kind: u32, file: &[u8], at: usize, left: u32) -> EntryAnswer
+    ensures { λ r. ⌜ StepShows (widthOf kind) (namePlace (widthOf kind) at (bodyIn (widthOf kind) (now (file .entry)))) (walkAnswer kind (now (file .entry)) at left) (now (file .entry)) r ⌝ }
 {
-    let step = step_at(file, at, left);
+    let step = step_at(kind, file, at, left);
     let answer = step.answer;
     answer
 }
 
 // Its name, a part of the file.
-pub fn name_at<'a>(file: &'a [u8], at: usize, left: u32) -> &'a [u8]
-    ensures { λ r. ⌜ now r ≡ nameShown (walkAnswer 20 (now (file .entry)) at left) ⌝ }
+pub fn name_at<'a>(kind: u32, file: &'a [u8], at: usize, left: u32) -> &'a [u8]
+    ensures { λ r. ⌜ now r ≡ nameShown (walkAnswer kind (now (file .entry)) at left) ⌝ }
 {
-    let answer = entry_at(file, at, left);
+    let answer = entry_at(kind, file, at, left);
     let shown = answer.shown;
     answers::part_of(file, shown)
 }
 
 // The place alone.
-pub fn place_after(file: &[u8], at: usize, left: u32) -> Place
-    ensures { λ r. ⌜ r ≡ placeAfter 20 (now (file .entry)) at left ⌝ }
+pub fn place_after(kind: u32, file: &[u8], at: usize, left: u32) -> Place
+    ensures { λ r. ⌜ r ≡ placeAfter kind (now (file .entry)) at left ⌝ }
 {
-    let step = step_at(file, at, left);
+    let step = step_at(kind, file, at, left);
     let next = step.next;
     next
 }
 
 // ---- the start
 
-// Whether a walk can go over a file: the refusals of the file, then 4 for version 4, else how many entries there are.
-pub fn start(file: &[u8], work: &mut [u8]) -> Started
-    ensures { λ r. ⌜ (r ≡ startAnswer (now (work .entry)) (readFile 20 sha1 (now (file .entry)))) × (now (work .exit) ≡ cleared (now (work .entry))) ⌝ }
+// Whether a walk can go over a file of a kind: 19, 29 and the refusals of the file, then 4 for version 4, else how many entries there are.
+pub fn start(kind: u32, file: &[u8], work: &mut [u8]) -> Started
+    ensures { λ r. ⌜ (r ≡ startAnswer (now (work .entry)) (readKind kind (now (file .entry)))) × (now (work .exit) ≡ cleared (now (work .entry))) ⌝ }
 {
-    let whole = file_read::read_cleared(file, work);
+    let whole = file_read::read_cleared(file, work, kind);
     match whole {
         Whole::Bad(n, p) => Started::Refused(n, p),
         Whole::Good(parts) => {
@@ -191,10 +203,11 @@ pub fn start(file: &[u8], work: &mut [u8]) -> Started
 // ---- the walk as one value
 
 // A walk before the first entry; entries is the number of all.
-pub fn new<'a>(file: &'a [u8], entries: u32) -> Walk<'a>
-    ensures { λ r. ⌜ (r .file ≡ file .entry) × (placeAt (r .at) (r .left) ≡ firstPlace entries) ⌝ }
+pub fn new<'a>(kind: u32, file: &'a [u8], entries: u32) -> Walk<'a>
+    ensures { λ r. ⌜ (r .kind ≡ kind) × (r .file ≡ file .entry) × (placeAt (r .at) (r .left) ≡ firstPlace entries) ⌝ }
 {
     Walk {
+        kind: kind,
         file: file,
         at: 12,
         left: entries,
@@ -202,34 +215,35 @@ pub fn new<'a>(file: &'a [u8], entries: u32) -> Walk<'a>
 }
 
 // The next entry; 18 where none remain.
-pub fn next<'a>(w: Walk<'a>) -> EntryAnswer
-    ensures { λ r. ⌜ StepShows (namePlace 20 (w .entry .at) (bodyIn 20 (now (w .entry .file)))) (walkAnswer 20 (now (w .entry .file)) (w .entry .at) (w .entry .left)) (now (w .entry .file)) r ⌝ }
+pub fn next<'a>(walk: Walk<'a>) -> EntryAnswer
+    ensures { λ r. ⌜ StepShows (widthOf (walk .entry .kind)) (namePlace (widthOf (walk .entry .kind)) (walk .entry .at) (bodyIn (widthOf (walk .entry .kind)) (now (walk .entry .file)))) (walkAnswer (walk .entry .kind) (now (walk .entry .file)) (walk .entry .at) (walk .entry .left)) (now (walk .entry .file)) r ⌝ }
 {
-    entry_at(w.file, w.at, w.left)
+    entry_at(walk.kind, walk.file, walk.at, walk.left)
 }
 
 // The walk after the next entry.
-pub fn advance<'a>(w: Walk<'a>) -> Walk<'a>
-    ensures { λ r. ⌜ (r .file ≡ w .entry .file) × (placeAt (r .at) (r .left) ≡ placeAfter 20 (now (w .entry .file)) (w .entry .at) (w .entry .left)) ⌝ }
+pub fn advance<'a>(walk: Walk<'a>) -> Walk<'a>
+    ensures { λ r. ⌜ (r .kind ≡ walk .entry .kind) × (r .file ≡ walk .entry .file) × (placeAt (r .at) (r .left) ≡ placeAfter (walk .entry .kind) (now (walk .entry .file)) (walk .entry .at) (walk .entry .left)) ⌝ }
 {
-    let p = place_after(w.file, w.at, w.left);
+    let p = place_after(walk.kind, walk.file, walk.at, walk.left);
     Walk {
-        file: w.file,
+        kind: walk.kind,
+        file: walk.file,
         at: p.at,
         left: p.left,
     }
 }
 
 // The name of the next entry, a part of the file; none where there is no entry.
-pub fn name<'a>(w: Walk<'a>) -> &'a [u8]
-    ensures { λ r. ⌜ now r ≡ nameShown (walkAnswer 20 (now (w .entry .file)) (w .entry .at) (w .entry .left)) ⌝ }
+pub fn name<'a>(walk: Walk<'a>) -> &'a [u8]
+    ensures { λ r. ⌜ now r ≡ nameShown (walkAnswer (walk .entry .kind) (now (walk .entry .file)) (walk .entry .at) (walk .entry .left)) ⌝ }
 {
-    name_at(w.file, w.at, w.left)
+    name_at(walk.kind, walk.file, walk.at, walk.left)
 }
 
 // How many entries remain.
-pub fn remaining<'a>(w: Walk<'a>) -> u32
-    ensures { λ r. ⌜ r ≡ w .entry .left ⌝ }
+pub fn remaining<'a>(walk: Walk<'a>) -> u32
+    ensures { λ r. ⌜ r ≡ walk .entry .left ⌝ }
 {
-    w.left
+    walk.left
 }

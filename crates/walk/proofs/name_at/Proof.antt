@@ -12,7 +12,7 @@ part-of-requires : tie.Need-part-of-requires
 part-of-requires c κs = search needs
 
 returns : tie.Need-returns
-returns c = c .part-of .ensures ∙ shown-name _ _ _ _ (c .before .entry-at .ensures)
+returns c = c .part-of .ensures ∙ shown-name _ _ _ _ _ (c .before .entry-at .ensures)
 
 pub name-at-spec : {M : Type 1} → statement M
 name-at-spec = tie.close (tie.spec entry-at-requires part-of-requires returns)

@@ -55,8 +55,8 @@ module _ {M : Type 1} (𝓤 : URA M) (H : Heap 𝓤) (A : Atoms 𝓤) (W : Given
         qed W ((‵ (flft κ q) ⊛ ‵ ftrue) ∷ ‵ (owns (B (κ, tt) ∷ []) (d, tt) (mach d ∷ [], tt)) ∷ []) ∵ enter ! C Λ code.function (mach d ∷ []) _ $
         alloc1 ! (λ l₀. alloc1 ! (λ l₁. alloc0 ! $ params1 ! $
         pass1 ! (init ! 0 refl (LL.lawful (D κ) (L κ) 𝓤 H A W .typed d (mach d ∷ []) p .0)) $ pass0 ! $
-        assigns ! (of-opd ! (load ! (from ! (fld ! refl (stop !))) (look-in ! 0 (sub ! 2 refl (whole !))))) (from ! (stop !)) (init ! 2 refl (tt, record { fits = p .1 .1 .1 .1 .0 .1 })) $
-        returns ! (look ! 2 refl) $ forget ! 0 refl $ forget ! 2 refl $ move ! (2 ∷ 3 ∷ []) $ free1 ! $ free1 ! $ free0 ! $ by ! (exits (p .1 .1 .1 .1 .0 .1))))
+        assigns ! (of-opd ! (load ! (from ! (fld ! refl (stop !))) (look-in ! 0 (sub ! 3 refl (whole !))))) (from ! (stop !)) (init ! 2 refl (tt, record { fits = p .1 .1 .1 .1 .1 .0 .1 })) $
+        returns ! (look ! 2 refl) $ forget ! 0 refl $ forget ! 2 refl $ move ! (2 ∷ 3 ∷ []) $ free1 ! $ free1 ! $ free0 ! $ by ! (exits (p .1 .1 .1 .1 .1 .0 .1))))
 
 module _ {M : Type 1} (𝓤 : URA M) (H : Heap 𝓤) (A : Atoms 𝓤) (W : Given 𝓤 H A) (mem : Memory → SProp 𝓤) (run : Routine → Fun 𝓤) where
   remaining-walks : (C : Calls 𝓤 H) (Λ : Loops 𝓤 H) → Walks 𝓤 H A remaining.ended stayed (WpFn 𝓤 H C Λ code.function) (remaining.clauses 𝓤 H A mem run)

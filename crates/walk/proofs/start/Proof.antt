@@ -1,9 +1,9 @@
 -- The proof that `start` meets its contract.
 use mathlib.Core.Path.{sym}
-use Rattle.format.specs.Reader.{readFile}
-use Rattle.hash.specs.Sha1.{sha1}
+use Rattle.format.specs.Places.{bodyIn}
+use Rattle.kinds.specs.Kinds.{widthOf, readKind}
 use Rattle.answers.specs.Answers.{inRoom}
-use Rattle.file_read.specs.Contents.{bodyOf, Contains}
+use Rattle.file_read.specs.Contents.{Contains}
 use Rattle.walk.proofs.Starts.{start-is, starts-four, starts-ready}
 use borrow.Author.Needs.{needs}
 use Rattle.walk.proofs.start.Statement.{statement}
@@ -13,7 +13,7 @@ use Rattle.walk.proofs.start.Tie as tie
 accepted :
     (c : tie.After-whole2) →
     let a = c .before .before .before .before .before .before .before .before .args in
-    Contains (inRoom (a .work .now) (readFile 20 sha1 (a .file .now))) (bodyOf (a .file .now)) (c .whole2 .given .0 .0)
+    Contains (widthOf (a .kind)) (inRoom (a .work .now) (readKind (a .kind) (a .file .now))) (bodyIn (widthOf (a .kind)) (a .file .now)) (c .whole2 .given .0 .0)
 accepted c = rw (c .whole2 .given .1) at (c .before .before .before .before .read-cleared .ensures .0)
 
 read-cleared-requires : tie.Need-read-cleared-requires
@@ -30,8 +30,8 @@ same-length c = search needs
 
 returns : tie.Need-returns
 returns c =
-    let w = c .before .before .before in
-    (sym (starts-four _ _ _ _ (accepted w) (c .if1 .taken)), w .before .before .before .before .read-cleared .ensures .1)
+    let t = c .before .before .before in
+    (sym (starts-four _ _ _ _ _ (accepted t) (c .if1 .taken)), t .before .before .before .before .read-cleared .ensures .1)
 
 same-length-2 : tie.Need-same-length-2
 same-length-2 c = search needs
@@ -47,8 +47,8 @@ same-length-3 c = search needs
 
 returns-3 : tie.Need-returns-3
 returns-3 c =
-    let w = c .before .before .before in
-    (sym (starts-ready _ _ _ _ (accepted w) (c .if1 .left)), w .before .before .before .before .read-cleared .ensures .1)
+    let t = c .before .before .before in
+    (sym (starts-ready _ _ _ _ _ (accepted t) (c .if1 .left)), t .before .before .before .before .read-cleared .ensures .1)
 
 pub start-spec : {M : Type 1} → statement M
 start-spec =
