@@ -33,20 +33,20 @@ pub count-is : (e : Entry) (edit : Edit) (parts : Parts) (r : Records) → lengt
     → (n : ℕ) → n ≡ countAfter edit (parts .count) → n ≡ length (edited edit e (r .entries))
 count-is e edit parts r counted reach n is = is ∙ rw (← counted) (count-edited e (r .entries) edit (rw counted reach))
 
-pub changed-entries : (edit : Edit) (e : Entry) (r : Records) → changed edit e r .entries ≡ edited edit e (r .entries)
+pub changed-entries : (w : ℕ) (edit : Edit) (e : Entry) (r : Records) → changed w edit e r .entries ≡ edited edit e (r .entries)
 unfolding changed
-changed-entries edit e r = refl
+changed-entries w edit e r = refl
 
 -- ---- the parts of a body, one after another
 
-module _ (version : ℕ) (edit : Edit) (e : Entry) (r : Records) (out out₁ out₂ out₃ out′ : List ℕ) (count p q s t : ℕ) where
+module _ (w version : ℕ) (edit : Edit) (e : Entry) (r : Records) (out out₁ out₂ out₃ out′ : List ℕ) (count p q s t : ℕ) where
   pub body-wrote :
       count ≡ length (edited edit e (r .entries)) →
       Wrote out 0 (writeHeader version count) out₁ p →
-      Wrote out₁ p (writeEntries 20 version [] (edited edit e (r .entries))) out₂ q →
-      Wrote out₂ q (writeCacheTree (treeAfter (changes edit) (e .name) (r .cacheTree))) out₃ s →
+      Wrote out₁ p (writeEntries w version [] (edited edit e (r .entries))) out₂ q →
+      Wrote out₂ q (writeCacheTree (treeAfter w (changes edit) (e .name) (r .cacheTree))) out₃ s →
       Wrote out₃ s (writeResolveUndo (r .resolveUndo)) out′ t →
-      Wrote out 0 (writeBody 20 version (changed edit e r)) out′ t
+      Wrote out 0 (writeBody w version (changed w edit e r)) out′ t
   unfolding writeBody writeExtensions changed
   body-wrote n x y z u =
       let header : Wrote out 0 (writeHeader version (length (edited edit e (r .entries)))) out₁ p = rw n at x in

@@ -62,63 +62,63 @@ extension-after signature content out out₁ out′ at after r four x y =
 
 -- ---- the cache tree
 
-module _ (b name : List ℕ) (tree : TreePlace) where
-  pub tree-within : (o : Option Tree) → TreeFound b o tree → tree .there ≡ true → Within b (tree .at) (tree .end)
+module _ (w : ℕ) (b name : List ℕ) (tree : TreePlace) where
+  pub tree-within : (o : Option Tree) → TreeFound w b o tree → tree .there ≡ true → Within b (tree .at) (tree .end)
   tree-within none h t = clash t (ap (λ (x : TreePlace). x .there) h)
   tree-within (some s) h t = record { order = h .order; inside = h .inside }
 
   -- what put_tree ensures of the data
   abbrev pub TreeWrote : Bool → List ℕ → ℕ → List ℕ → ℕ → Type 0
   TreeWrote touched out at out′ r =
-      (t : Tree) (m : ℕ) → readNodes 20 0 (part b (tree .at) (tree .end)) ≡ good t m → distinct (t .subtrees) ≡ true
-      → Wrote out at (writeTree (cond touched (invalidTree 20 name t) t)) out′ r
+      (t : Tree) (m : ℕ) → readNodes w 0 (part b (tree .at) (tree .end)) ≡ good t m → distinct (t .subtrees) ≡ true
+      → Wrote out at (writeTree (cond touched (invalidTree w name t) t)) out′ r
 
-  tree-text : (touched : Bool) (t : Tree) → writeCacheTree (treeAfter touched name (some t)) ≡ writeExtension TREE (writeTree (cond touched (invalidTree 20 name t) t))
+  tree-text : (touched : Bool) (t : Tree) → writeCacheTree (treeAfter w touched name (some t)) ≡ writeExtension TREE (writeTree (cond touched (invalidTree w name t) t))
   unfolding writeCacheTree treeAfter invalidCacheTree
   tree-text true t = refl
   tree-text false t = refl
 
-  no-tree-text : (touched : Bool) → writeCacheTree (treeAfter touched name none) ≡ []
+  no-tree-text : (touched : Bool) → writeCacheTree (treeAfter w touched name none) ≡ []
   unfolding writeCacheTree treeAfter invalidCacheTree
   no-tree-text true = refl
   no-tree-text false = refl
 
-  pub tree-grown : (touched : Bool) (out out₁ : List ℕ) (at after : ℕ) (o : Option Tree) → TreeFound b o tree → SiblingsDiffer o → tree .there ≡ true
+  pub tree-grown : (touched : Bool) (out out₁ : List ℕ) (at after : ℕ) (o : Option Tree) → TreeFound w b o tree → SiblingsDiffer o → tree .there ≡ true
       → TreeWrote touched out at out₁ after → (at ≤ after) × (length out₁ ≡ length out)
-  tree-grown touched out out₁ at after none h d t w = clash t (ap (λ (x : TreePlace). x .there) h)
-  tree-grown touched out out₁ at after (some s) h d t w = let x = w s _ (h .reads) (d s refl) in (omega (arith, x .end), x .long)
+  tree-grown touched out out₁ at after none h d t wrote = clash t (ap (λ (x : TreePlace). x .there) h)
+  tree-grown touched out out₁ at after (some s) h d t wrote = let x = wrote s _ (h .reads) (d s refl) in (omega (arith, x .end), x .long)
 
-  pub tree-wrote : (touched : Bool) (out out₁ out′ : List ℕ) (at after r : ℕ) (o : Option Tree) → TreeFound b o tree → SiblingsDiffer o → tree .there ≡ true
+  pub tree-wrote : (touched : Bool) (out out₁ out′ : List ℕ) (at after r : ℕ) (o : Option Tree) → TreeFound w b o tree → SiblingsDiffer o → tree .there ≡ true
       → TreeWrote touched out (at + 8) out₁ after → Wrote out₁ at (TREE ++ put32 (after - (at + 8))) out′ r
-      → Wrote out at (writeCacheTree (treeAfter touched name o)) out′ after
-  tree-wrote touched out out₁ out′ at after r none h d t w y = clash t (ap (λ (x : TreePlace). x .there) h)
-  tree-wrote touched out out₁ out′ at after r (some s) h d t w y = rw (tree-text touched s) (extension-after TREE _ out out₁ out′ at after r refl (w s _ (h .reads) (d s refl)) y)
+      → Wrote out at (writeCacheTree (treeAfter w touched name o)) out′ after
+  tree-wrote touched out out₁ out′ at after r none h d t wrote y = clash t (ap (λ (x : TreePlace). x .there) h)
+  tree-wrote touched out out₁ out′ at after r (some s) h d t wrote y = rw (tree-text touched s) (extension-after TREE _ out out₁ out′ at after r refl (wrote s _ (h .reads) (d s refl)) y)
 
-  pub no-tree-wrote : (touched : Bool) (out : List ℕ) (at : ℕ) (o : Option Tree) → TreeFound b o tree → tree .there ≡ false
-      → Wrote out at (writeCacheTree (treeAfter touched name o)) out at
+  pub no-tree-wrote : (touched : Bool) (out : List ℕ) (at : ℕ) (o : Option Tree) → TreeFound w b o tree → tree .there ≡ false
+      → Wrote out at (writeCacheTree (treeAfter w touched name o)) out at
   no-tree-wrote touched out at none h t = rw (no-tree-text touched) (wrote-nothing out at)
   no-tree-wrote touched out at (some s) h t = clash (h .there) t
 
 -- ---- resolve undo
 
-module _ (b : List ℕ) (undo : UndoPlace) where
-  pub undo-within : (o : Option (List Undo)) → UndoFound b o undo → undo .there ≡ true → Within b (undo .at) (undo .end)
+module _ (w : ℕ) (b : List ℕ) (undo : UndoPlace) where
+  pub undo-within : (o : Option (List Undo)) → UndoFound w b o undo → undo .there ≡ true → Within b (undo .at) (undo .end)
   undo-within none h t = clash t (ap (λ (x : UndoPlace). x .there) h)
   undo-within (some us) h t = record { order = h .order; inside = h .inside }
 
-  pub undo-wrote : (out out₁ out′ : List ℕ) (at p r : ℕ) (o : Option (List Undo)) → UndoFound b o undo → undo .there ≡ true
+  pub undo-wrote : (out out₁ out′ : List ℕ) (at p r : ℕ) (o : Option (List Undo)) → UndoFound w b o undo → undo .there ≡ true
       → Wrote out at (REUC ++ put32 (undo .end - undo .at)) out₁ p → Wrote out₁ p (part b (undo .at) (undo .end)) out′ r
       → Wrote out at (writeResolveUndo o) out′ r
   unfolding writeResolveUndo writeExtension
   undo-wrote out out₁ out′ at p r none h t x y = clash t (ap (λ (z : UndoPlace). z .there) h)
   undo-wrote out out₁ out′ at p r (some us) h t x y =
       let d : List ℕ = part b (undo .at) (undo .end) in
-      let copied : writeUndos us ≡ d = undos-copied 20 0 (length d) d us (length d) (h .reads) .1 in
+      let copied : writeUndos us ≡ d = undos-copied w 0 (length d) d us (length d) (h .reads) .1 in
       let size : undo .end - undo .at ≡ length d = sym (part-length b (undo .at) (undo .end) (h .inside)) in
       let head : Wrote out at (REUC ++ put32 (length d)) out₁ p = rw size at x in
       rw (copied, ← append-assoc REUC (put32 (length d)) d) (wrote-then out (REUC ++ put32 (length d)) d out₁ out′ at p r head y)
 
-  pub no-undo-wrote : (out : List ℕ) (at : ℕ) (o : Option (List Undo)) → UndoFound b o undo → undo .there ≡ false → Wrote out at (writeResolveUndo o) out at
+  pub no-undo-wrote : (out : List ℕ) (at : ℕ) (o : Option (List Undo)) → UndoFound w b o undo → undo .there ≡ false → Wrote out at (writeResolveUndo o) out at
   unfolding writeResolveUndo
   no-undo-wrote out at none h t = wrote-nothing out at
   no-undo-wrote out at (some us) h t = clash (h .there) t

@@ -1,4 +1,5 @@
--- The records of the file that is written, and what the writing of its body leaves behind. b is the body of the file that was read.
+-- The records of the file that is written, and what the writing of its body leaves behind. b is the body of the file that was read,
+-- w the width of an object name.
 use mathlib.Core.Path.{_≡_}
 use mathlib.Core.List.{List}
 use mathlib.Core.Bool.{Bool, true, false, cond}
@@ -29,14 +30,14 @@ changes (E.Put k there) = true
 changes (E.Remove k) = true
 
 -- the cache tree, made invalid on the path to a name where entries are changed
-unfoldable pub treeAfter : Bool → List ℕ → Option Tree → Option Tree
-treeAfter touched name o = cond touched (invalidCacheTree 20 name o) o
+unfoldable pub treeAfter : ℕ → Bool → List ℕ → Option Tree → Option Tree
+treeAfter w touched name o = cond touched (invalidCacheTree w name o) o
 
 -- the records with an edit; e is what is put, or has the name of what is removed
-unfoldable pub changed : Edit → Entry → Records → Records
-changed edit e r = record {
+unfoldable pub changed : ℕ → Edit → Entry → Records → Records
+changed w edit e r = record {
   entries = edited edit e (r .entries);
-  cacheTree = treeAfter (changes edit) (e .name) (r .cacheTree);
+  cacheTree = treeAfter w (changes edit) (e .name) (r .cacheTree);
   resolveUndo = r .resolveUndo;
 }
 
@@ -54,30 +55,30 @@ abbrev pub SiblingsDiffer : Option Tree → Type 0
 SiblingsDiffer o = (t : Tree) → o ≡ some t → distinct (t .subtrees) ≡ true
 
 -- it has the records r, of which parts tell where they are
-pub record BodyHas (b : List ℕ) (parts : Parts) (r : Records) : Type 0 where
-  pub entries : EntriesRead (parts .version) (parts .count) b (r .entries) (parts .end - 12)
+pub record BodyHas (w : ℕ) (b : List ℕ) (parts : Parts) (r : Records) : Type 0 where
+  pub entries : EntriesRead w (parts .version) (parts .count) b (r .entries) (parts .end - 12)
   pub counted : length (r .entries) ≡ parts .count
-  pub tree : TreeFound b (r .cacheTree) (parts .found .tree)
-  pub undo : UndoFound b (r .resolveUndo) (parts .found .undo)
+  pub tree : TreeFound w b (r .cacheTree) (parts .found .tree)
+  pub undo : UndoFound w b (r .resolveUndo) (parts .found .undo)
   pub differ : SiblingsDiffer (r .cacheTree)
 
 -- it can be written with an edit; fields and name are those of the entry that is put
-pub record WriteReady (b work : List ℕ) (parts : Parts) (edit : Edit) (fields : Fields) (name : List ℕ) : Type 0 where
+pub record WriteReady (w : ℕ) (b work : List ℕ) (parts : Parts) (edit : Edit) (fields : Fields) (name : List ℕ) : Type 0 where
   pub room : Room b work
   pub few : parts .count < 4294967295
   pub reach : passes edit ≤ parts .count
   pub stage : fields .stage ≤ 3
   pub short : length name ≤ 8192
   pub records : Records
-  pub has : BodyHas b parts records
+  pub has : BodyHas w b parts records
   pub there : Replaces edit name (records .entries)
 
 -- ---- what is written
 
 -- the body of a version, with an edit; e is what is put
-pub record BodyWritten (b : List ℕ) (parts : Parts) (work : List ℕ) (edit : Edit) (e : Entry) (version : ℕ) (out work′ out′ : List ℕ) (r : WriteEnd) : Type 0 where
-  pub wrote : (x : Records) → BodyHas b parts x → Replaces edit (e .name) (x .entries) → Wrote out 0 (writeBody 20 version (changed edit e x)) out′ (r .at)
-  pub extended : (x : Records) → BodyHas b parts x → Replaces edit (e .name) (x .entries) → r .extended ≡ anyWord (changed edit e x .entries)
+pub record BodyWritten (w : ℕ) (b : List ℕ) (parts : Parts) (work : List ℕ) (edit : Edit) (e : Entry) (version : ℕ) (out work′ out′ : List ℕ) (r : WriteEnd) : Type 0 where
+  pub wrote : (x : Records) → BodyHas w b parts x → Replaces edit (e .name) (x .entries) → Wrote out 0 (writeBody w version (changed w edit e x)) out′ (r .at)
+  pub extended : (x : Records) → BodyHas w b parts x → Replaces edit (e .name) (x .entries) → r .extended ≡ anyWord (changed w edit e x .entries)
   pub near : r .at ≤ 1125899906842624
   pub frame : Frame work work′
   pub out-long : length out′ ≡ length out

@@ -77,15 +77,16 @@ fn put_cache_tree(
     name: &[u8],
     out: &mut [u8],
     at: usize,
+    w: usize,
 ) -> usize
-    requires { ⌜ (length (now b) ≤ 16777216) × (at < 562949953421304) × ((o : Option Tree) × TreeFound (now b) o tree × SiblingsDiffer o) ⌝ }
-    ensures { λ r. ⌜ ((o : Option Tree) → TreeFound (now (b .entry)) o tree → SiblingsDiffer o → Wrote (now (out .entry)) at (writeCacheTree (treeAfter touched (now (name .entry)) o)) (now (out .exit)) r) × (r ≤ at + 16777224) × (length (now (out .exit)) ≡ length (now (out .entry))) ⌝ }
+    requires { ⌜ (length (now b) ≤ 16777216) × (at < 562949953421304) × ((o : Option Tree) × TreeFound w (now b) o tree × SiblingsDiffer o) × (1 ≤ w) ⌝ }
+    ensures { λ r. ⌜ ((o : Option Tree) → TreeFound w (now (b .entry)) o tree → SiblingsDiffer o → Wrote (now (out .entry)) at (writeCacheTree (treeAfter w touched (now (name .entry)) o)) (now (out .exit)) r) × (r ≤ at + 16777224) × (length (now (out .exit)) ≡ length (now (out .entry))) ⌝ }
 {
     if tree.there {
         let from = tree.at;
         let end = tree.end;
         let content = at + 8;
-        let after = tree_write::put_tree(&b[from..end], touched, name, &mut *out, content);
+        let after = tree_write::put_tree(&b[from..end], touched, name, &mut *out, content, w);
         put_head(out, at, b"TREE", (after - content) as u32);
         return after;
     }
@@ -93,9 +94,9 @@ fn put_cache_tree(
 }
 
 // The resolve-undo records, whose data are copied.
-fn put_resolve_undo(b: &[u8], undo: UndoPlace, out: &mut [u8], at: usize) -> usize
-    requires { ⌜ (length (now b) ≤ 16777216) × (at ≤ 562949970198528) × ((o : Option (List Undo)) × UndoFound (now b) o undo) ⌝ }
-    ensures { λ r. ⌜ ((o : Option (List Undo)) → UndoFound (now (b .entry)) o undo → Wrote (now (out .entry)) at (writeResolveUndo o) (now (out .exit)) r) × (r ≤ at + 16777224) × (length (now (out .exit)) ≡ length (now (out .entry))) ⌝ }
+fn put_resolve_undo(b: &[u8], undo: UndoPlace, out: &mut [u8], at: usize, w: usize) -> usize
+    requires { ⌜ (length (now b) ≤ 16777216) × (at ≤ 562949970198528) × ((o : Option (List Undo)) × UndoFound w (now b) o undo) ⌝ }
+    ensures { λ r. ⌜ ((o : Option (List Undo)) → UndoFound w (now (b .entry)) o undo → Wrote (now (out .entry)) at (writeResolveUndo o) (now (out .exit)) r) × (r ≤ at + 16777224) × (length (now (out .exit)) ≡ length (now (out .entry))) ⌝ }
 {
     if undo.there {
         let from = undo.at;
@@ -116,9 +117,10 @@ pub fn put_body(
     name: &[u8],
     version: u32,
     out: &mut [u8],
+    w: usize,
 ) -> WriteEnd
-    requires { ⌜ WriteReady (now b) (now work) parts edit fields (now name) ⌝ }
-    ensures { λ r. ⌜ BodyWritten (now (b .entry)) parts (now (work .entry)) edit (entryWith fields (now (name .entry))) version (now (out .entry)) (now (work .exit)) (now (out .exit)) r ⌝ }
+    requires { ⌜ WriteReady w (now b) (now work) parts edit fields (now name) × (1 ≤ w) × (w ≤ 32) ⌝ }
+    ensures { λ r. ⌜ BodyWritten w (now (b .entry)) parts (now (work .entry)) edit (entryWith w fields (now (name .entry))) version (now (out .entry)) (now (work .exit)) (now (out .exit)) r ⌝ }
 {
     let start = put_header(&mut *out, version, count_after(edit, parts.count));
     let written = entries_edit::put_edited(
@@ -132,6 +134,7 @@ pub fn put_body(
         version,
         &mut *out,
         start,
+        w,
     );
     let middle = put_cache_tree(
         b,
@@ -140,8 +143,9 @@ pub fn put_body(
         name,
         &mut *out,
         written.at,
+        w,
     );
-    let end = put_resolve_undo(b, parts.found.undo, out, middle);
+    let end = put_resolve_undo(b, parts.found.undo, out, middle, w);
     WriteEnd {
         at: end,
         extended: written.extended,

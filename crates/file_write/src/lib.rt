@@ -8,7 +8,7 @@ ghost use lib.ListN.{length, take};
 ghost use lib.Dec.{eqb};
 ghost use Rattle.entries.specs.Record.{entryWith};
 ghost use Rattle.output.specs.Output.{Wrote};
-ghost use Rattle.hash.specs.Sha1.{sha1};
+ghost use Rattle.kinds.specs.Kinds.{widthOf, hashOf};
 ghost use Rattle.file_write.specs.Bodies.{WriteReady};
 ghost use Rattle.file_write.specs.Results.{versionOf, measuredVersion, Measured, FileWritten};
 use crate::body::put_body;
@@ -17,7 +17,7 @@ use entries::record::Fields;
 use entries_edit::Edit;
 use entries_edit::rest::WriteEnd;
 use file_read::Parts;
-use output::put_bytes;
+use output::put_part;
 
 // How long the body is in a version, and whether one of its entries needs the extended word. No part of it fits one byte, so nothing is written.
 fn measure(
@@ -28,21 +28,22 @@ fn measure(
     fields: Fields,
     name: &[u8],
     version: u32,
+    w: usize,
 ) -> WriteEnd
-    requires { ⌜ WriteReady (now b) (now work) parts edit fields (now name) ⌝ }
-    ensures { λ r. ⌜ Measured (now (b .entry)) parts (now (work .entry)) edit (entryWith fields (now (name .entry))) version (now (work .exit)) r ⌝ }
+    requires { ⌜ WriteReady w (now b) (now work) parts edit fields (now name) × (1 ≤ w) × (w ≤ 32) ⌝ }
+    ensures { λ r. ⌜ Measured w (now (b .entry)) parts (now (work .entry)) edit (entryWith w fields (now (name .entry))) version (now (work .exit)) r ⌝ }
 {
     let mut none = [0u8; 1];
-    put_body(b, parts, work, edit, fields, name, version, &mut none)
+    put_body(b, parts, work, edit, fields, name, version, &mut none, w)
 }
 
 // The checksum of the first n bytes, after them.
-fn append_checksum(out: &mut [u8], n: usize) -> usize
-    requires { ⌜ (n ≤ length (now out)) × (n ≤ 16777216) ⌝ }
-    ensures { λ r. ⌜ Wrote (now (out .entry)) n (sha1 (take n (now (out .entry)))) (now (out .exit)) r ⌝ }
+fn append_checksum(out: &mut [u8], n: usize, kind: u32, w: usize) -> usize
+    requires { ⌜ (n ≤ length (now out)) × (n ≤ 16777216) × (w ≡ widthOf kind) × (w ≤ 32) ⌝ }
+    ensures { λ r. ⌜ Wrote (now (out .entry)) n (hashOf kind (take n (now (out .entry)))) (now (out .exit)) r ⌝ }
 {
-    let checksum = hash::sha1(&out[..n]);
-    put_bytes(out, n, &checksum)
+    let checksum = kinds::digest_of(kind, &out[..n]);
+    put_part(out, n, &checksum, 0, w)
 }
 
 // The version that is asked for: 0 asks for 3 where an entry needs the extended word, else for 2.
@@ -78,7 +79,7 @@ fn is_barred(asked: u32, extended: bool) -> bool
     false
 }
 
-// The file of a version, with an edit. It is measured first: 21 where version 2 has no extended word, 2 where it is too long, 20 where the output is too small.
+// The file of a version, with an edit. w is the width of the kind's object names and of its checksum. It is measured first: 21 where version 2 has no extended word, 2 where it is too long, 20 where the output is too small.
 pub fn write(
     b: &[u8],
     parts: Parts,
@@ -88,9 +89,11 @@ pub fn write(
     fields: Fields,
     name: &[u8],
     out: &mut [u8],
+    kind: u32,
+    w: usize,
 ) -> Written
-    requires { ⌜ WriteReady (now b) (now work) parts edit fields (now name) ⌝ }
-    ensures { λ r. ⌜ FileWritten (now (b .entry)) parts (now (work .entry)) asked edit (entryWith fields (now (name .entry))) (now (out .entry)) (now (work .exit)) (now (out .exit)) r ⌝ }
+    requires { ⌜ WriteReady w (now b) (now work) parts edit fields (now name) × (w ≡ widthOf kind) × (1 ≤ w) × (w ≤ 32) ⌝ }
+    ensures { λ r. ⌜ FileWritten w (hashOf kind) (now (b .entry)) parts (now (work .entry)) asked edit (entryWith w fields (now (name .entry))) (now (out .entry)) (now (work .exit)) (now (out .exit)) r ⌝ }
 {
     let sized = measure(
         b,
@@ -100,18 +103,20 @@ pub fn write(
         fields,
         name,
         measured_version(asked),
+        w,
     );
     if is_barred(asked, sized.extended) {
         return Written::Refused(21, 0);
     }
-    if 16777196 < sized.at {
+    let long = sized.at + w;
+    if 16777216 < long {
         return Written::Refused(2, 0);
     }
-    if out.len() < sized.at + 20 {
+    if out.len() < long {
         return Written::Refused(20, 0);
     }
     let version = version_for(asked, sized.extended);
-    let written = put_body(b, parts, work, edit, fields, name, version, &mut *out);
-    let n = append_checksum(out, written.at);
+    let written = put_body(b, parts, work, edit, fields, name, version, &mut *out, w);
+    let n = append_checksum(out, written.at, kind, w);
     Written::Done(n)
 }

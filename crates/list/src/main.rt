@@ -1,4 +1,4 @@
-// Lists the index that is on standard input: a line with its version and its number of entries, a line for each entry, then what it has
+// Lists the index of a SHA-1 repository that is on standard input: a line with its version and its number of entries, a line for each entry, then what it has
 // of a cache tree and of resolve-undo records. A refusal prints only its number and its place.
 use answers::Checked;
 use answers::Count;
@@ -19,7 +19,7 @@ fn main() {
 }
 
 fn list(bytes: &[u8], work: &mut [u8; 8192]) {
-    let checked = index::check(bytes, work);
+    let checked = index::check(kinds::SHA1, bytes, work);
     match checked {
         Checked::Refused(number, place) => print_refusal(number, place),
         Checked::Accepted(summary) => {
@@ -47,7 +47,7 @@ fn list_entries(bytes: &[u8], work: &mut [u8; 8192], count: u32) {
 
 // Mode, object name, stage, tab, name.
 fn list_entry(bytes: &[u8], work: &mut [u8; 8192], k: u32) {
-    let answer = index::entry(bytes, work, k);
+    let answer = index::entry(kinds::SHA1, bytes, work, k);
     print_mode(answer.fields.mode);
     print(b" ");
     let object = answer.fields.object;
@@ -102,7 +102,8 @@ fn print_octal(n: u32) {
     io::print_decimal(1, (n % 8) as u64);
 }
 
-fn print_object(object: &[u8; 20]) {
+// The first 20 bytes are the name of a SHA-1 object.
+fn print_object(object: &[u8; 32]) {
     for i in 0..20usize {
         io::print_hex(1, wide(object[i]), 2);
     }

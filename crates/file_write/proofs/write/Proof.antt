@@ -1,8 +1,13 @@
 -- The proof that `write` meets its contract.
 use mathlib.Core.Path.{_≡_, sym, _∙_}
+use mathlib.Core.List.{List}
 use mathlib.Core.Bool.{false, _&&_}
+use Prim.Native.Nat.{ℕ}
 use native.Mathlib.Omega.{arith}
+use lib.ListN.{length}
 use lib.Dec.{eqb}
+use Rattle.kinds.specs.Kinds.{hashOf}
+use Rattle.kinds.proofs.Laws.{length-hash}
 use Rattle.entries.specs.Record.{entryWith}
 use Rattle.file_write.specs.Results.{Measured, measuredVersion}
 use Rattle.file_write.proofs.Files.{file-worded, file-long-refused, file-small-refused, same-size, file-done}
@@ -10,11 +15,15 @@ use borrow.Author.Needs.{needs}
 use Rattle.file_write.proofs.write.Statement.{statement}
 use Rattle.file_write.proofs.write.Tie as tie
 
+-- the checksum has the width
+width : (c : tie.Start) (m : List ℕ) → length (hashOf (c .args .kind) m) ≡ c .args .w
+width c m = length-hash (c .args .kind) m ∙ sym (c .pre .1)
+
 -- the body was measured
 measured :
     (c : tie.After-measure) →
     let a = c .before .before .before .before .before .before .before .args in
-    Measured (a .b .now) (a .parts) (a .work .now) (a .edit) (entryWith (a .fields) (a .name .now)) (measuredVersion (a .asked)) (c .measure .last .1 .1 .0)
+    Measured (a .w) (a .b .now) (a .parts) (a .work .now) (a .edit) (entryWith (a .w) (a .fields) (a .name .now)) (measuredVersion (a .asked)) (c .measure .last .1 .1 .0)
     (c .measure .result)
 measured c = rw (c .before .measured-version .ensures) at (c .measure .ensures)
 
@@ -23,15 +32,15 @@ free : (c : tie.Else1) → (eqb (c .before .before .before .before .before .befo
 free c = sym (c .before .is-barred .ensures) ∙ c .if1 .left
 
 -- it was written as long as it was measured
-lengths : (c : tie.After-put-body) → c .put-body .result .at ≡ c .before .before .before .before .before .before .before .before .before .before .before .before .measure .result .at
+lengths : (c : tie.After-put-body) → c .put-body .result .at ≡ c .before .before .before .before .before .before .before .before .before .before .before .measure .result .at
 lengths c =
     let v = c .before .before .before in
-    let r = v .before .before .before in
+    let r = v .before .before in
     let f = r .before .before in
     let m = f .before .before .before .before in
     let st = m .before .before .before .before .before .before .before in
-    let p = st .pre in
-    same-size _ _ _ _ (st .args .asked) _ _ _ (measured m) _ (free f) (r .if2 .left) (v .before .if3 .left) _ (v .version-for .ensures) _ _ _ (c .put-body .ensures)
+    let p = st .pre .0 in
+    same-size _ (hashOf (st .args .kind)) (width st) _ _ _ _ (st .args .asked) _ _ _ (measured m) _ (free f) (r .if2 .left) (v .before .if3 .left) _ (v .version-for .ensures) _ _ _ (c .put-body .ensures)
     (p .records) (p .has) (p .there)
 
 measured-version-requires : tie.Need-measured-version-requires
@@ -49,7 +58,9 @@ same-length c = search needs
 returns : tie.Need-returns
 returns c =
     let t = c .before in
-    file-worded _ _ _ _ _ _ _ _ (measured (t .before .before .before)) _ (sym (t .is-barred .ensures) ∙ c .if1 .taken)
+    let m = t .before .before .before in
+    let st = m .before .before .before .before .before .before .before in
+    file-worded _ (hashOf (st .args .kind)) (width st) _ _ _ _ _ _ _ _ (measured m) _ (sym (t .is-barred .ensures) ∙ c .if1 .taken)
 
 same-length-2 : tie.Need-same-length-2
 same-length-2 c = search needs
@@ -57,43 +68,49 @@ same-length-2 c = search needs
 returns-2 : tie.Need-returns-2
 returns-2 c =
     let f = c .before .before in
-    file-long-refused _ _ _ _ _ _ _ _ (measured (f .before .before .before .before)) _ (free f) (c .if2 .taken)
-
-add-if3 : tie.Need-add-if3
-add-if3 c = search needs
+    let m = f .before .before .before .before in
+    let st = m .before .before .before .before .before .before .before in
+    file-long-refused _ (hashOf (st .args .kind)) (width st) _ _ _ _ _ _ _ _ (measured m) _ (free f) (c .if2 .taken)
 
 same-length-3 : tie.Need-same-length-3
 same-length-3 c = search needs
 
 returns-3 : tie.Need-returns-3
 returns-3 c =
-    let s = c .before .before in
+    let s = c .before in
     let f = s .before .before in
-    file-small-refused _ _ _ _ _ _ _ _ (measured (f .before .before .before .before)) _ (free f) (s .if2 .left) (c .if3 .taken)
+    let m = f .before .before .before .before in
+    let st = m .before .before .before .before .before .before .before in
+    file-small-refused _ (hashOf (st .args .kind)) (width st) _ _ _ _ _ _ _ _ (measured m) _ (free f) (s .if2 .left) (c .if3 .taken)
 
 version-for-requires : tie.Need-version-for-requires
 version-for-requires c κs = search needs
 
 put-body-requires : tie.Need-put-body-requires
 put-body-requires c κs =
-    let m = c .before .before .before .before .before .before .before .before .before .before .before in
-    let p = m .before .before .before .before .before .before .before .pre in
-    record {
-      room = record { least = p .room .least; most = p .room .most; room = omega (arith, measured m .frame, p .room .room) };
-      few = p .few;
-      reach = p .reach;
-      stage = p .stage;
-      short = p .short;
-      records = p .records;
-      has = p .has;
-      there = p .there;
-    }
+    let m = c .before .before .before .before .before .before .before .before .before .before in
+    let st = m .before .before .before .before .before .before .before in
+    let p = st .pre .0 in (
+      record {
+        room = record { least = p .room .least; most = p .room .most; room = omega (arith, measured m .frame, p .room .room) };
+        few = p .few;
+        reach = p .reach;
+        stage = p .stage;
+        short = p .short;
+        records = p .records;
+        has = p .has;
+        there = p .there;
+      },
+      st .pre .2,
+      st .pre .3,
+    )
 
 append-checksum-requires : tie.Need-append-checksum-requires
 append-checksum-requires c κs =
     let l = c .before .before .before .before .before in
     let same = lengths l in
-    (omega (arith, l .put-body .ensures .out-long), omega arith)
+    let st = l .before .before .before .before .before .before .before .before .before .before .before .before .before .before .before .before .before .before in
+    (omega (arith, l .put-body .ensures .out-long), omega arith, st .pre .1, st .pre .3)
 
 same-length-4 : tie.Need-same-length-4
 same-length-4 c = search needs
@@ -106,10 +123,15 @@ returns-4 c =
     let s = c .before .before in
     let l = s .before .before .before .before .before .before in
     let v = l .before .before .before in
-    let r = v .before .before .before in
+    let r = v .before .before in
     let f = r .before .before in
-    file-done _ _ _ _ _ _ _ _ (measured (f .before .before .before .before)) _ (free f) (r .if2 .left) (v .before .if3 .left) _ (v .version-for .ensures) _ _ _ (l .put-body .ensures) _ _
+    let m = f .before .before .before .before in
+    let st = m .before .before .before .before .before .before .before in
+    file-done _ (hashOf (st .args .kind)) (width st) _ _ _ _ _ _ _ _ (measured m) _ (free f) (r .if2 .left) (v .before .if3 .left) _ (v .version-for .ensures) _ _ _ (l .put-body .ensures) _ _
     (s .append-checksum .ensures)
+
+add-long : tie.Need-add-long
+add-long c = search needs
 
 pub write-spec : {M : Type 1} → statement M
 write-spec =
@@ -120,9 +142,9 @@ write-spec =
     is-barred-requires
     same-length
     returns
+    add-long
     same-length-2
     returns-2
-    add-if3
     same-length-3
     returns-3
     version-for-requires

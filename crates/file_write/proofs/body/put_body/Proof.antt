@@ -22,8 +22,8 @@ put-edited-requires : tie.Need-put-edited-requires
 put-edited-requires c κs =
     let h = c .before .before .before .before in
     let st = h .before .before .before .before .before .before .before in
-    let p = st .pre in
-    (p .room, p .reach, p .stage, p .short, omega (arith, header-end h), (p .records .entries, _, p .has .entries))
+    let p = st .pre .0 in
+    (p .room, p .reach, p .stage, p .short, omega (arith, header-end h), (p .records .entries, _, p .has .entries), st .pre .2)
 
 is-change-requires : tie.Need-is-change-requires
 is-change-requires c κs = search needs
@@ -33,8 +33,8 @@ put-cache-tree-requires c κs =
     let e = c .before .before .before .before .before .before in
     let h = e .before .before .before .before .before in
     let st = h .before .before .before .before .before .before .before in
-    let p = st .pre in
-    (p .room .most, omega (arith, e .put-edited .ensures .bounds .near, header-end h, p .few), (p .records .cacheTree, p .has .tree, p .has .differ))
+    let p = st .pre .0 in
+    (p .room .most, omega (arith, e .put-edited .ensures .bounds .near, header-end h, p .few), (p .records .cacheTree, p .has .tree, p .has .differ), st .pre .1)
 
 put-resolve-undo-requires : tie.Need-put-resolve-undo-requires
 put-resolve-undo-requires c κs =
@@ -42,7 +42,7 @@ put-resolve-undo-requires c κs =
     let e = t .before .before .before .before .before .before .before in
     let h = e .before .before .before .before .before in
     let st = h .before .before .before .before .before .before .before in
-    let p = st .pre in
+    let p = st .pre .0 in
     (p .room .most, omega (arith, t .put-cache-tree .ensures .1, e .put-edited .ensures .bounds .near, header-end h, p .few), (p .records .resolveUndo, p .has .undo))
 
 same-length : tie.Need-same-length
@@ -59,15 +59,15 @@ returns c =
     let h = e .before .before .before .before .before in
     let st = h .before .before .before .before .before .before .before in
     let a = st .args in
-    let p = st .pre in
-    let x = entryWith (a .fields) (a .name .now) in
+    let p = st .pre .0 in
+    let x = entryWith (a .w) (a .fields) (a .name .now) in
     record {
       wrote = λ r has there.
           let count = count-is x (a .edit) (a .parts) r (has .counted) (p .reach) (h .before .count-after .result) (h .before .count-after .ensures) in
-          body-wrote (a .version) (a .edit) x r _ _ _ _ _ _ _ _ _ _ count (h .put-header .ensures) (e .put-edited .ensures .edited-is _ _ (has .entries) there .wrote)
+          body-wrote (a .w) (a .version) (a .edit) x r _ _ _ _ _ _ _ _ _ _ count (h .put-header .ensures) (e .put-edited .ensures .edited-is _ _ (has .entries) there .wrote)
           (rw (t .before .before .is-change .ensures) at (t .put-cache-tree .ensures .0 _ (has .tree) (has .differ)))
           (u .put-resolve-undo .ensures .0 _ (has .undo));
-      extended = λ r has there. e .put-edited .ensures .edited-is _ _ (has .entries) there .extended ∙ ap anyWord (sym (changed-entries (a .edit) x r));
+      extended = λ r has there. e .put-edited .ensures .edited-is _ _ (has .entries) there .extended ∙ ap anyWord (sym (changed-entries (a .w) (a .edit) x r));
       near = omega (arith, u .put-resolve-undo .ensures .1, t .put-cache-tree .ensures .1, e .put-edited .ensures .bounds .near, header-end h, p .few);
       frame = e .put-edited .ensures .bounds .frame;
       out-long = u .put-resolve-undo .ensures .2 ∙ t .put-cache-tree .ensures .2 ∙ e .put-edited .ensures .bounds .out-long ∙ h .put-header .ensures .long;

@@ -12,7 +12,7 @@ use Rattle.file_write.proofs.body.put_cache_tree.Tie as tie
 inside : (c : tie.Then1) → let a = c .before .before .before .before .args in Within (a .b .now) (a .tree .at) (a .tree .end)
 inside c =
     let st = c .before .before .before .before in
-    tree-within (st .args .b .now) (st .args .name .now) (st .args .tree) (st .pre .2 .0) (st .pre .2 .1) (c .if1 .taken)
+    tree-within (st .args .w) (st .args .b .now) (st .args .name .now) (st .args .tree) (st .pre .2 .0) (st .pre .2 .1) (c .if1 .taken)
 
 -- what is written of them
 grown : (c : tie.After-put-tree) → c .before .before .before .before .before .before .before .args .at + 8 ≤ c .put-tree .result
@@ -20,7 +20,7 @@ grown c =
     let t = c .before .before .before in
     let st = t .before .before .before .before in
     let a = st .args in
-    tree-grown (a .b .now) (a .name .now) (a .tree) (a .touched) _ _ _ _ (st .pre .2 .0) (st .pre .2 .1) (st .pre .2 .2) (t .if1 .taken)
+    tree-grown (a .w) (a .b .now) (a .name .now) (a .tree) (a .touched) _ _ _ _ (st .pre .2 .0) (st .pre .2 .1) (st .pre .2 .2) (t .if1 .taken)
     (c .put-tree .ensures .wrote) .0
 
 add-content : tie.Need-add-content
@@ -38,8 +38,9 @@ part-put-tree-end c = inside c .inside
 put-tree-requires : tie.Need-put-tree-requires
 put-tree-requires c κs =
     let h = inside (c .before .before) in
-    let a = c .before .before .before .before .before .before .args in
-    (omega (arith, part-length (a .b .now) (a .tree .at) (a .tree .end) (h .inside)), omega arith)
+    let st = c .before .before .before .before .before .before in
+    let a = st .args in
+    (omega (arith, part-length (a .b .now) (a .tree .at) (a .tree .end) (h .inside)), omega arith, st .pre .3)
 
 slice-aggregate-put-head : tie.Need-slice-aggregate-put-head
 slice-aggregate-put-head c = search needs
@@ -71,17 +72,17 @@ returns c =
     let a = st .args in
     let h = inside t in
     let l = part-length (a .b .now) (a .tree .at) (a .tree .end) (h .inside) in (
-      λ o is d. tree-wrote (a .b .now) (a .name .now) (a .tree) (a .touched) _ _ _ (a .at) _ _ o is d (t .if1 .taken) (p .put-tree .ensures .wrote) (q .put-head .ensures),
+      λ o is d. tree-wrote (a .w) (a .b .now) (a .name .now) (a .tree) (a .touched) _ _ _ (a .at) _ _ o is d (t .if1 .taken) (p .put-tree .ensures .wrote) (q .put-head .ensures),
       omega (arith, p .put-tree .ensures .short),
       q .put-head .ensures .long
-          ∙ tree-grown (a .b .now) (a .name .now) (a .tree) (a .touched) _ _ _ _ (st .pre .2 .0) (st .pre .2 .1) (st .pre .2 .2) (t .if1 .taken)
+          ∙ tree-grown (a .w) (a .b .now) (a .name .now) (a .tree) (a .touched) _ _ _ _ (st .pre .2 .0) (st .pre .2 .1) (st .pre .2 .2) (t .if1 .taken)
           (p .put-tree .ensures .wrote) .1,
     )
 
 returns-2 : tie.Need-returns-2
 returns-2 c =
     let a = c .before .before .before .before .args in
-    (λ o is d. no-tree-wrote (a .b .now) (a .name .now) (a .tree) (a .touched) _ (a .at) o is (c .if1 .left), omega arith, refl)
+    (λ o is d. no-tree-wrote (a .w) (a .b .now) (a .name .now) (a .tree) (a .touched) _ (a .at) o is (c .if1 .left), omega arith, refl)
 
 pub put-cache-tree-spec : {M : Type 1} → statement M
 put-cache-tree-spec =

@@ -11,7 +11,7 @@ use Rattle.file_write.proofs.body.put_resolve_undo.Tie as tie
 
 -- where the data are
 inside : (c : tie.Then1) → let a = c .before .before .before .args in Within (a .b .now) (a .undo .at) (a .undo .end)
-inside c = let st = c .before .before .before in undo-within (st .args .b .now) (st .args .undo) (st .pre .2 .0) (st .pre .2 .1) (c .if1 .taken)
+inside c = let st = c .before .before .before in undo-within (st .args .w) (st .args .b .now) (st .args .undo) (st .pre .2 .0) (st .pre .2 .1) (c .if1 .taken)
 
 headed : (c : tie.After-put-head) → c .put-head .result ≡ c .before .before .before .before .before .before .args .at + 8
 headed c = c .put-head .ensures .end ∙ rw (head-length REUC _ refl)
@@ -45,7 +45,7 @@ returns c =
     let a = t .before .before .before .args in
     let h = inside t in
     let l = part-length (a .b .now) (a .undo .at) (a .undo .end) (h .inside) in (
-      λ o is. undo-wrote (a .b .now) (a .undo) _ _ _ (a .at) _ _ o is (t .if1 .taken) (p .put-head .ensures) (q .put-part .ensures),
+      λ o is. undo-wrote (a .w) (a .b .now) (a .undo) _ _ _ (a .at) _ _ o is (t .if1 .taken) (p .put-head .ensures) (q .put-part .ensures),
       omega (arith, q .put-part .ensures .end, headed p),
       q .put-part .ensures .long ∙ p .put-head .ensures .long,
     )
@@ -53,7 +53,7 @@ returns c =
 returns-2 : tie.Need-returns-2
 returns-2 c =
     let a = c .before .before .before .args in
-    (λ o is. no-undo-wrote (a .b .now) (a .undo) _ (a .at) o is (c .if1 .left), omega arith, refl)
+    (λ o is. no-undo-wrote (a .w) (a .b .now) (a .undo) _ (a .at) o is (c .if1 .left), omega arith, refl)
 
 pub put-resolve-undo-spec : {M : Type 1} → statement M
 put-resolve-undo-spec =
