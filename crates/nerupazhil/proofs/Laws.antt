@@ -1,10 +1,10 @@
 -- Laws of replies: their parts, and what the calls leave behind, from what the calls below promise.
-use mathlib.Core.Path.{_≡_, refl, ap, _∙_}
+use mathlib.Core.Path.{_≡_, refl, sym, ap, _∙_}
 use mathlib.Core.List.{List, [], _∷_, _++_}
-use mathlib.Core.Bool.{false}
-use Prim.Native.Nat.{ℕ, _+_}
+use Prim.Native.Nat.{ℕ, _+_, _-_, _≤_}
 use native.Mathlib.Omega.{arith}
-use lib.ListN.{length, take, drop, getD, replicate}
+use lib.ListN.{length, take, drop, getD, replicate, length-append, length-replicate}
+use lib.Seq.{length-take-le, drop-at}
 use Rattle.format.specs.Records as F
 use Rattle.format.specs.Reading.{Read}
 use Rattle.answers.specs.declared.Shown.{Shown}
@@ -13,12 +13,14 @@ use Rattle.answers.specs.declared.EntryAnswer.{EntryAnswer}
 use Rattle.answers.specs.declared.NodeAnswer.{NodeAnswer}
 use Rattle.answers.specs.declared.UndoAnswer.{UndoAnswer}
 use Rattle.answers.specs.declared.Written.{Written}
-use Rattle.answers.specs.Answers.{View, Inside}
+use Rattle.format_laws.proofs.Lists.{drop-zeros}
+use Rattle.entries.specs.Record.{wideObject}
+use Rattle.answers.specs.Answers.{View, refused, inFile, inWorkspace, Inside, entrySaid, nodeSaid, undoSaid, entryShown, nodeShown, undoShown}
 use Rattle.index.specs.Calls.{EntryShows, NodeShows, UndoShows}
 use Rattle.index_write.specs.Calls.{Saves}
 use Rattle.walk.specs.declared.Place.{Place}
 use Rattle.walk.specs.Walks.{StepShows}
-use Rattle.nerupazhil.specs.Replies.{shownReply, wideObject, fieldNumbers, nodeReply, undoReply, stepReply, writeReply, bufferIn, NameInside, Told, StageZeros, EntryReplies, NodeReplies, UndoReplies, StepReplies, WriteReplies}
+use Rattle.nerupazhil.specs.Replies.{shownReply, fieldNumbers, nodeReply, undoReply, stepReply, writeReply, bufferIn, NameInside, EntryReplies, NodeReplies, UndoReplies, StepReplies, WriteReplies}
 
 -- ---- parts
 
@@ -36,15 +38,41 @@ shown-alone (S.Refused n p) = refl
 shown-alone (S.InFile at n) = refl
 shown-alone (S.InWorkspace n) = refl
 
--- an object name over 32 zeros
-pub widened : (o : List ℕ) → length o ≡ 20 → take 0 (replicate 32 0) ++ (o ++ drop (0 + length o) (replicate 32 0)) ≡ wideObject o
-widened o long = rw long refl
+-- ---- the zeros after an object name: of the 32 bytes the first w make the name that is shown, so it has w bytes
 
-zeros-told : (o object : List ℕ) → Told o object → o ≡ replicate 20 0 → object ≡ replicate 32 0
-zeros-told o object told e = told .whole ∙ rw e refl
+unused-of : (w : ℕ) (o : List ℕ) → w ≤ 32 → take w (wideObject o) ≡ o → drop w (wideObject o) ≡ replicate (32 - w) 0
+unused-of w o narrow e =
+    let all : length (wideObject o) ≡ length o + (32 - length o) = length-append o (replicate (32 - length o) 0) ∙ rw (length-replicate {A = ℕ} (32 - length o) 0) refl in
+    let long : length o ≡ w = sym (ap length e) ∙ length-take-le w (wideObject o) (omega (arith, all)) in
+    drop-at o (replicate (32 - length o) 0) w long ∙ rw long refl
 
-stage-told : (mode : ℕ) (o object : List ℕ) → (mode ≡ 0 → o ≡ replicate 20 0) → Told o object → StageZeros mode object
-stage-told mode o object zeros told e = zeros-told o object told (zeros e)
+-- an object name of the item that a view shows
+inView : {A : Type 0} → (A → List ℕ) → View A → List ℕ
+inView object (refused n p) = []
+inView object (inFile a) = object a
+inView object (inWorkspace a) = object a
+
+module _ (w at : ℕ) (narrow : w ≤ 32) (f work : List ℕ) where
+  entry-unused : (v : View F.Entry) → entrySaid w (entryShown at v) f work ≡ v → drop w (entryShown at v .fields .object) ≡ replicate (32 - w) 0
+  unfolding entrySaid
+  entry-unused (refused n p) e = drop-zeros w 32
+  entry-unused (inFile x) e = unused-of w (x .object) narrow (ap (inView (λ y. y .object)) e)
+  entry-unused (inWorkspace x) e = unused-of w (x .object) narrow (ap (inView (λ y. y .object)) e)
+
+  node-unused : (v : View F.Item) → nodeSaid w (nodeShown at v) f work ≡ v → drop w (nodeShown at v .object) ≡ replicate (32 - w) 0
+  unfolding nodeSaid
+  node-unused (refused n p) e = drop-zeros w 32
+  node-unused (inFile x) e = unused-of w (x .node .object) narrow (ap (inView (λ y. y .node .object)) e)
+  node-unused (inWorkspace x) e = unused-of w (x .node .object) narrow (ap (inView (λ y. y .node .object)) e)
+
+  undo-unused : (v : View F.Undo) → undoSaid w (undoShown at v) f work ≡ v
+      → (drop w (undoShown at v .first) ≡ replicate (32 - w) 0) × (drop w (undoShown at v .second) ≡ replicate (32 - w) 0) × (drop w (undoShown at v .third) ≡ replicate (32 - w) 0)
+  unfolding undoSaid
+  undo-unused (refused n p) e = (drop-zeros w 32, drop-zeros w 32, drop-zeros w 32)
+  undo-unused (inFile x) e =
+      (unused-of w _ narrow (ap (inView (λ y. y .first .object)) e), unused-of w _ narrow (ap (inView (λ y. y .second .object)) e), unused-of w _ narrow (ap (inView (λ y. y .third .object)) e))
+  undo-unused (inWorkspace x) e =
+      (unused-of w _ narrow (ap (inView (λ y. y .first .object)) e), unused-of w _ narrow (ap (inView (λ y. y .second .object)) e), unused-of w _ narrow (ap (inView (λ y. y .third .object)) e))
 
 -- a name that lies in its buffer
 pub name-inside : (s : Shown) (more f work : List ℕ) → Inside s f work → NameInside (shownReply s ++ more) f work
@@ -55,63 +83,67 @@ name-inside (S.InWorkspace n) more f work h = omega arith
 
 -- ---- what the calls that show leave behind
 
-module _ (at : ℕ) (f reply : List ℕ) where
-  module _ (numbers object : List ℕ) (a : EntryAnswer) (n : numbers ≡ fieldNumbers (a .fields)) (o : Told (a .fields .object) object) where
-    pub entry-replies : (v : View F.Entry) (work work′ : List ℕ) → EntryShows at v f work work′ a → reply ≡ shownReply (a .shown)
-        → EntryReplies at v f work work′ reply numbers object
+module _ (w at : ℕ) (narrow : w ≤ 32) (f reply : List ℕ) where
+  module _ (numbers : List ℕ) (a : EntryAnswer) (n : numbers ≡ fieldNumbers (a .fields)) where
+    pub entry-replies : (v : View F.Entry) (work work′ : List ℕ) → EntryShows w at v f work work′ a → reply ≡ shownReply (a .shown)
+        → EntryReplies w at v f work work′ reply numbers (a .fields .object)
     entry-replies v work work′ h e =
-        let w = h .shows .whole in
+        let is = h .shows .whole in
         record {
-          whole = e ∙ ap (λ (x : EntryAnswer). shownReply (x .shown)) w;
-          fields = n ∙ ap (λ (x : EntryAnswer). fieldNumbers (x .fields)) w;
-          object-is = rw w at o;
-          said = rw w at (h .shows .said);
+          whole = e ∙ ap (λ (x : EntryAnswer). shownReply (x .shown)) is;
+          fields = n ∙ ap (λ (x : EntryAnswer). fieldNumbers (x .fields)) is;
+          object-is = record { same = ap (λ (x : EntryAnswer). x .fields .object) is; unused = rw (← is) at (entry-unused w at narrow f work′ v (rw is at (h .shows .said))) };
+          said = rw is at (h .shows .said);
           inside = rw (e ∙ shown-alone (a .shown)) (name-inside (a .shown) [] f work′ (h .shows .inside));
           after = h .after;
         }
 
-    pub step-replies : (v : View F.Entry) (next : Place) → StepShows at v f a → reply ≡ stepReply (a .shown) next
-        → StepReplies at v next f reply numbers object
+    pub step-replies : (v : View F.Entry) (next : Place) → StepShows w at v f a → reply ≡ stepReply (a .shown) next
+        → StepReplies w at v next f reply numbers (a .fields .object)
     step-replies v next h e =
-        let w = h .shows [] .whole in
+        let is = h .shows [] .whole in
         record {
-          whole = e ∙ ap (λ (x : EntryAnswer). stepReply (x .shown) next) w;
-          fields = n ∙ ap (λ (x : EntryAnswer). fieldNumbers (x .fields)) w;
-          object-is = rw w at o;
-          said = λ work. rw w at (h .shows work .said);
+          whole = e ∙ ap (λ (x : EntryAnswer). stepReply (x .shown) next) is;
+          fields = n ∙ ap (λ (x : EntryAnswer). fieldNumbers (x .fields)) is;
+          object-is = record { same = ap (λ (x : EntryAnswer). x .fields .object) is; unused = rw (← is) at (entry-unused w at narrow f [] v (rw is at (h .shows [] .said))) };
+          said = λ work. rw is at (h .shows work .said);
           inside = λ work. rw e (name-inside (a .shown) _ f work (h .shows work .inside));
         }
 
-  pub node-replies : (v : View F.Item) (object : List ℕ) (a : NodeAnswer) → NodeShows at v f a → reply ≡ nodeReply a → Told (a .object) object
-      → NodeReplies at v f reply object
-  node-replies v object a h e o =
-      let w = h .shows [] .whole in
-      let zeros : a .valid ≡ false → object ≡ replicate 32 0 = λ t. zeros-told (a .object) object o (h .zeros t) in
+  pub node-replies : (v : View F.Item) (a : NodeAnswer) → NodeShows w at v f a → reply ≡ nodeReply a → NodeReplies w at v f reply (a .object)
+  node-replies v a h e =
+      let is = h .shows [] .whole in
       record {
-        whole = e ∙ ap nodeReply w;
-        object-is = rw w at o;
-        said = λ work. rw w at (h .shows work .said);
+        whole = e ∙ ap nodeReply is;
+        object-is = record { same = ap (λ (x : NodeAnswer). x .object) is; unused = rw (← is) at (node-unused w at narrow f [] v (rw is at (h .shows [] .said))) };
+        said = λ work. rw is at (h .shows work .said);
         inside = λ work. rw e (name-inside (a .shown) _ f work (h .shows work .inside));
-        zeros = rw w at zeros;
+        zeros = λ t. h .zeros (ap (λ (x : NodeAnswer). x .valid) is ∙ t);
       }
 
-  pub undo-replies : (v : View F.Undo) (first second third : List ℕ) (a : UndoAnswer) → UndoShows at v f a → reply ≡ undoReply a
-      → Told (a .first) first → Told (a .second) second → Told (a .third) third → UndoReplies at v f reply first second third
-  undo-replies v first second third a h e p q r =
-      let w = h .shows [] .whole in
+  pub undo-replies : (v : View F.Undo) (a : UndoAnswer) → UndoShows w at v f a → reply ≡ undoReply a → UndoReplies w at v f reply (a .first) (a .second) (a .third)
+  undo-replies v a h e =
+      let is = h .shows [] .whole in
       let (x, y, z) = h .zeros in
-      let zeros : StageZeros (a .«first_mode») first × StageZeros (a .«second_mode») second × StageZeros (a .«third_mode») third =
-      (stage-told _ _ _ x p, stage-told _ _ _ y q, stage-told _ _ _ z r) in
+      let unused = rw (← is) at (undo-unused w at narrow f [] v (rw is at (h .shows [] .said))) in
       record {
-        whole = e ∙ ap undoReply w;
-        objects = (rw w at p, rw w at q, rw w at r);
-        said = λ work. rw w at (h .shows work .said);
+        whole = e ∙ ap undoReply is;
+        objects = (
+          record { same = ap (λ (u : UndoAnswer). u .first) is; unused = unused .0 },
+          record { same = ap (λ (u : UndoAnswer). u .second) is; unused = unused .1 },
+          record { same = ap (λ (u : UndoAnswer). u .third) is; unused = unused .2 },
+        );
+        said = λ work. rw is at (h .shows work .said);
         inside = λ work. rw e (name-inside (a .shown) _ f work (h .shows work .inside));
-        zeros = rw w at zeros;
+        zeros = (
+          λ t. x (ap (λ (u : UndoAnswer). u .«first_mode») is ∙ t),
+          λ t. y (ap (λ (u : UndoAnswer). u .«second_mode») is ∙ t),
+          λ t. z (ap (λ (u : UndoAnswer). u .«third_mode») is ∙ t),
+        );
       }
 
 -- what a call that writes leaves behind
-pub write-replies : (f : List ℕ) (asked : ℕ) (change : F.Records → F.Records) (x : Read (List ℕ)) (out work out′ work′ reply : List ℕ) (a : Written)
-    → Saves f asked change x out work out′ work′ a → reply ≡ writeReply a → WriteReplies f asked change x out work out′ work′ reply
-write-replies f asked change x out work out′ work′ reply a h e =
+pub write-replies : (kind : ℕ) (f : List ℕ) (asked : ℕ) (change : F.Records → F.Records) (x : Read (List ℕ)) (out work out′ work′ reply : List ℕ) (a : Written)
+    → Saves kind f asked change x out work out′ work′ a → reply ≡ writeReply a → WriteReplies kind f asked change x out work out′ work′ reply
+write-replies kind f asked change x out work out′ work′ reply a h e =
     record { said = e ∙ ap writeReply (h .writes .said); filled = h .writes .filled; after = h .writes .after; back = h .back }

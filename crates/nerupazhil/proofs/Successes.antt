@@ -12,7 +12,7 @@ use Rattle.format.specs.Bytes.{be32}
 use Rattle.format.specs.Records.{Entry, Key, Records, start}
 use Rattle.format.specs.Reading.{Read, bad, good, need}
 use Rattle.format.specs.Reader.{Contents, readEntry, readFile}
-use Rattle.hash.specs.Sha1.{sha1}
+use Rattle.kinds.specs.Kinds.{okKind, widthOf, hashOf, ofKind, readKind}
 use Rattle.answers.specs.declared.Summary.{Summary}
 use Rattle.answers.specs.declared.Checked.{Checked}
 use Rattle.answers.specs.declared.Checked.the-variants as K
@@ -22,20 +22,19 @@ use Rattle.walk.specs.declared.Started.{Started}
 use Rattle.walk.specs.declared.Started.the-variants as T
 use Rattle.format.specs.Places.{bodyIn}
 use Rattle.walk.specs.declared.Place.{Place}
-use Rattle.walk.specs.Walks.{or18, viewIn, walkRead, startedOf, startAnswer}
-use Rattle.nerupazhil.specs.Kinds.{ofKind, stepAnswer}
+use Rattle.walk.specs.Walks.{or18, viewIn, walkRead, stepRead, walkAnswer, startedOf, startAnswer}
 use Rattle.nerupazhil.specs.Replies.{checkReply, startReply, refusalIn, StepReplies, WriteReplies}
 use Rattle.nerupazhil.proofs.Numbers.{Numbered, numbered-bad, numbered-good, numbered-need, file-numbered, rewrite-numbered, put-numbered, remove-numbered}
 use Rattle.nerupazhil.proofs.Reading.{Tells}
 
 -- the reading of a file with a workspace has a number from 1 on where it refuses
-room-numbered : (kind : ℕ) (work f : List ℕ) → Numbered (inRoom work (ofKind kind (readFile 20 sha1 f)))
-unfolding inRoom ofKind
+room-numbered : (kind : ℕ) (work f : List ℕ) → Numbered (inRoom work (readKind kind f))
+unfolding inRoom readKind ofKind
 room-numbered kind work f = by (tooSmall work)
   where
-    by : (t : Bool) → Numbered (cond t (bad 19 0) (need (eqb kind 1) 29 0 (readFile 20 sha1 f)))
+    by : (t : Bool) → Numbered (cond t (bad 19 0) (need (okKind kind) 29 0 (readFile (widthOf kind) (hashOf kind) f)))
     by true = numbered-bad 19 0 (omega arith)
-    by false = numbered-need _ _ _ _ (omega arith) (file-numbered 20 sha1 f)
+    by false = numbered-need _ _ _ _ (omega arith) (file-numbered (widthOf kind) (hashOf kind) f)
 
 -- ---- what is shown
 
@@ -69,22 +68,22 @@ module _ {A : Type 0} where
   shown-success (inWorkspace y) refusal place x h t e = inr (ap inWorkspace (sym (t .workspace y refl .1)))
 
 module _ (kind : ℕ) (work f : List ℕ) (k : ℕ) where
-  pub positive-entry : Positive (entryAnswer work k (ofKind kind (readFile 20 sha1 f)))
+  pub positive-entry : Positive (entryAnswer work k (readKind kind f))
   unfolding entryAnswer
   positive-entry = positive-answer _ (entryOf k) (room-numbered kind work f) (λ n p. refl) (λ c m. positive-pick (eqb (c .version) 4) (getElem? (c .records .entries) k))
 
-  pub positive-node : Positive (nodeAnswer work k (ofKind kind (readFile 20 sha1 f)))
+  pub positive-node : Positive (nodeAnswer work k (readKind kind f))
   unfolding nodeAnswer
   positive-node = positive-answer _ (nodeOf k) (room-numbered kind work f) (λ n p. refl) (λ c m. positive-listed (itemsOf (c .records .cacheTree)) k)
 
-  pub positive-undo : Positive (undoAnswer work k (ofKind kind (readFile 20 sha1 f)))
+  pub positive-undo : Positive (undoAnswer work k (readKind kind f))
   unfolding undoAnswer
   positive-undo = positive-answer _ (undoOf k) (room-numbered kind work f) (λ n p. refl) (λ c m. positive-listed (c .records .resolveUndo) k)
 
-pub positive-step : (kind : ℕ) (f : List ℕ) (at left : ℕ) → Positive (stepAnswer kind f at left)
-unfolding stepAnswer ofKind walkRead
+pub positive-step : (kind : ℕ) (f : List ℕ) (at left : ℕ) → Positive (walkAnswer kind f at left)
+unfolding walkAnswer stepRead ofKind walkRead
 positive-step kind f at left =
-    view _ (numbered-need _ _ _ _ (omega arith) (numbered-need _ _ _ _ (omega arith) (eighteen (readEntry 20 (be32 f 4) start at (drop at (bodyIn 20 f))))))
+    view _ (numbered-need _ _ _ _ (omega arith) (numbered-need _ _ _ _ (omega arith) (eighteen (readEntry (widthOf kind) (be32 f 4) start at (drop at (bodyIn (widthOf kind) f))))))
   where
     eighteen : (x : Read Entry) → Numbered (or18 x)
     eighteen (bad n p) = numbered-bad 18 0 (omega arith)
@@ -95,20 +94,20 @@ positive-step kind f at left =
     view (good e m) h = record { number = λ i j q. let z : _≡_ {A = ℕ} 0 1 = cc in absurd (omega arith) }
 
 -- where a step is a success, its reply has the place after it
-pub step-next : (at : ℕ) (v : View Entry) (next : Place) (f reply numbers object : List ℕ) → Positive v → StepReplies at v next f reply numbers object
+pub step-next : (w at : ℕ) (v : View Entry) (next : Place) (f reply numbers object : List ℕ) → Positive v → StepReplies w at v next f reply numbers object
     → refusalIn reply ≡ 0 → (getD reply 5 0 ≡ next .at) × (getD reply 6 0 ≡ next .left)
-step-next at (refused n p) next f reply numbers object h r e =
+step-next w at (refused n p) next f reply numbers object h r e =
     let z : 0 < n = h .number n p refl in
     let q : refusalIn reply ≡ n = ap refusalIn (r .whole) in absurd (omega arith)
-step-next at (inFile y) next f reply numbers object h r e = rw (r .whole) (refl, refl)
-step-next at (inWorkspace y) next f reply numbers object h r e = rw (r .whole) (refl, refl)
+step-next w at (inFile y) next f reply numbers object h r e = rw (r .whole) (refl, refl)
+step-next w at (inWorkspace y) next f reply numbers object h r e = rw (r .whole) (refl, refl)
 
 -- ---- check, the start of a walk
 
 module _ (kind : ℕ) (work f : List ℕ) where
-  pub check-positive : (n p : ℕ) → checkAnswer work (ofKind kind (readFile 20 sha1 f)) ≡ K.Refused n p → 0 < n
+  pub check-positive : (n p : ℕ) → checkAnswer work (readKind kind f) ≡ K.Refused n p → 0 < n
   unfolding checkAnswer
-  check-positive = by (inRoom work (ofKind kind (readFile 20 sha1 f))) (room-numbered kind work f)
+  check-positive = by (inRoom work (readKind kind f)) (room-numbered kind work f)
     where
       number : (i q n p : ℕ) → 0 < i → K.Refused i q ≡ K.Refused n p → 0 < n
       number i q n p h e = let same : i ≡ n = cc in omega arith
@@ -117,9 +116,9 @@ module _ (kind : ℕ) (work f : List ℕ) where
       by (bad i q) h n p e = number i q n p (h .positive i q refl) e
       by (good c m) h n p e = let z : _≡_ {A = ℕ} 0 1 = cc in absurd (omega arith)
 
-  pub start-positive : (n p : ℕ) → startAnswer work (ofKind kind (readFile 20 sha1 f)) ≡ T.Refused n p → 0 < n
+  pub start-positive : (n p : ℕ) → startAnswer work (readKind kind f) ≡ T.Refused n p → 0 < n
   unfolding startAnswer
-  start-positive = by (inRoom work (ofKind kind (readFile 20 sha1 f))) (room-numbered kind work f)
+  start-positive = by (inRoom work (readKind kind f)) (room-numbered kind work f)
     where
       number : (i q n p : ℕ) → 0 < i → T.Refused i q ≡ T.Refused n p → 0 < n
       number i q n p h e = let same : i ≡ n = cc in omega arith
@@ -132,15 +131,15 @@ module _ (kind : ℕ) (work f : List ℕ) where
       by (bad i q) h n p e = number i q n p (h .positive i q refl) e
       by (good c m) h n p e = ready (eqb (c .version) 4) (length (c .records .entries)) n p e
 
-  pub check-success : refusalIn (checkReply (checkAnswer work (ofKind kind (readFile 20 sha1 f)))) ≡ 0 → (s : Summary) × (checkAnswer work (ofKind kind (readFile 20 sha1 f)) ≡ K.Accepted s)
-  check-success = by (checkAnswer work (ofKind kind (readFile 20 sha1 f))) check-positive
+  pub check-success : refusalIn (checkReply (checkAnswer work (readKind kind f))) ≡ 0 → (s : Summary) × (checkAnswer work (readKind kind f) ≡ K.Accepted s)
+  check-success = by (checkAnswer work (readKind kind f)) check-positive
     where
       by : (x : Checked) → ((n p : ℕ) → x ≡ K.Refused n p → 0 < n) → refusalIn (checkReply x) ≡ 0 → (s : Summary) × (x ≡ K.Accepted s)
       by (K.Refused n p) h e = let z : 0 < n = h n p refl in absurd (omega arith)
       by (K.Accepted s) h e = (s, refl)
 
-  pub start-success : refusalIn (startReply (startAnswer work (ofKind kind (readFile 20 sha1 f)))) ≡ 0 → (n : ℕ) × (startAnswer work (ofKind kind (readFile 20 sha1 f)) ≡ T.Ready n)
-  start-success = by (startAnswer work (ofKind kind (readFile 20 sha1 f))) start-positive
+  pub start-success : refusalIn (startReply (startAnswer work (readKind kind f))) ≡ 0 → (n : ℕ) × (startAnswer work (readKind kind f) ≡ T.Ready n)
+  start-success = by (startAnswer work (readKind kind f)) start-positive
     where
       by : (x : Started) → ((n p : ℕ) → x ≡ T.Refused n p → 0 < n) → refusalIn (startReply x) ≡ 0 → (n : ℕ) × (x ≡ T.Ready n)
       by (T.Refused n p) h e = let z : 0 < n = h n p refl in absurd (omega arith)
@@ -149,30 +148,30 @@ module _ (kind : ℕ) (work f : List ℕ) where
 -- ---- the calls that write
 
 module _ (kind : ℕ) (work f : List ℕ) (asked room : ℕ) where
-  numbered-answer : (ask : Records → Read (List ℕ)) → ((r : Records) → Numbered (ask r)) → Numbered (requested (inRoom work (ofKind kind (readFile 20 sha1 f))) ask)
-  numbered-answer ask h = by (inRoom work (ofKind kind (readFile 20 sha1 f))) (room-numbered kind work f)
+  numbered-answer : (ask : Records → Read (List ℕ)) → ((r : Records) → Numbered (ask r)) → Numbered (requested (inRoom work (readKind kind f)) ask)
+  numbered-answer ask h = by (inRoom work (readKind kind f)) (room-numbered kind work f)
     where
       by : (x : Read Contents) → Numbered x → Numbered (requested x ask)
       by (bad n p) q = numbered-bad n p (q .positive n p refl)
       by (good c m) q = h (c .records)
 
-  pub numbered-rewrite : Numbered (rewriteAnswer 20 sha1 work asked room (ofKind kind (readFile 20 sha1 f)))
+  pub numbered-rewrite : Numbered (rewriteAnswer (widthOf kind) (hashOf kind) work asked room (readKind kind f))
   unfolding rewriteAnswer
-  numbered-rewrite = numbered-answer _ (rewrite-numbered 20 sha1 asked room)
+  numbered-rewrite = numbered-answer _ (rewrite-numbered (widthOf kind) (hashOf kind) asked room)
 
-  pub numbered-put : (e : Entry) → Numbered (putAnswer 20 sha1 work asked e room (ofKind kind (readFile 20 sha1 f)))
+  pub numbered-put : (e : Entry) → Numbered (putAnswer (widthOf kind) (hashOf kind) work asked e room (readKind kind f))
   unfolding putAnswer
-  numbered-put e = numbered-answer _ (put-numbered 20 sha1 asked e room)
+  numbered-put e = numbered-answer _ (put-numbered (widthOf kind) (hashOf kind) asked e room)
 
-  pub numbered-remove : (k : Key) → Numbered (removeAnswer 20 sha1 work asked k room (ofKind kind (readFile 20 sha1 f)))
+  pub numbered-remove : (k : Key) → Numbered (removeAnswer (widthOf kind) (hashOf kind) work asked k room (readKind kind f))
   unfolding removeAnswer
-  numbered-remove k = numbered-answer _ (remove-numbered 20 sha1 asked k room)
+  numbered-remove k = numbered-answer _ (remove-numbered (widthOf kind) (hashOf kind) asked k room)
 
-pub write-success : (f : List ℕ) (asked : ℕ) (change : Records → Records) (x : Read (List ℕ)) (out work out′ work′ reply : List ℕ)
-    → WriteReplies f asked change x out work out′ work′ reply → Numbered x → refusalIn reply ≡ 0
+pub write-success : (kind : ℕ) (f : List ℕ) (asked : ℕ) (change : Records → Records) (x : Read (List ℕ)) (out work out′ work′ reply : List ℕ)
+    → WriteReplies kind f asked change x out work out′ work′ reply → Numbered x → refusalIn reply ≡ 0
     → (bytes : List ℕ) × (x ≡ good bytes (getD reply 2 0))
-write-success f asked change (bad n p) out work out′ work′ reply w h e =
+write-success kind f asked change (bad n p) out work out′ work′ reply w h e =
     let z : 0 < n = h .positive n p refl in
     let q : refusalIn reply ≡ n = ap refusalIn (w .said) in absurd (omega arith)
-write-success f asked change (good bytes n) out work out′ work′ reply w h e =
+write-success kind f asked change (good bytes n) out work out′ work′ reply w h e =
     (bytes, ap (good bytes) (sym (ap (λ (r : List ℕ). getD r 2 0) (w .said))))

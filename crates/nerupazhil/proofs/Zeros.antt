@@ -1,16 +1,14 @@
 -- All that does not apply in a reply is 0, of a refusal and of a success: for every number and every byte of every reply.
-use mathlib.Core.Path.{_≡_, refl, ap, _∙_}
+use mathlib.Core.Path.{_≡_, refl, _∙_}
 use mathlib.Core.List.{List, [], _∷_, _++_}
 use mathlib.Core.Bool.{Bool, true, false}
-use Prim.Native.Nat.{ℕ, suc, _<_}
+use Prim.Native.Nat.{ℕ, suc, _-_, _<_}
 use native.Mathlib.Omega.{arith}
-use lib.ListN.{length, drop, getD, replicate}
-use lib.Seq.{drop-at}
+use lib.ListN.{drop, getD, replicate}
 use Rattle.format.specs.Records as F
 use Rattle.format.specs.Layout.{bit, isValid}
 use Rattle.format.specs.Reading.{Read, bad, good}
-use Rattle.format.specs.Reader.{readFile}
-use Rattle.hash.specs.Sha1.{sha1}
+use Rattle.kinds.specs.Kinds.{readKind}
 use Rattle.answers.specs.declared.Count.{Count}
 use Rattle.answers.specs.declared.Count.the-variants.{Absent, Present}
 use Rattle.answers.specs.declared.Checked.{Checked}
@@ -26,8 +24,7 @@ use Rattle.walk.specs.declared.Place.{Place}
 use Rattle.walk.specs.declared.Started.{Started}
 use Rattle.walk.specs.declared.Started.the-variants as T
 use Rattle.walk.specs.Walks.{startAnswer}
-use Rattle.nerupazhil.specs.Kinds.{ofKind}
-use Rattle.nerupazhil.specs.Replies.{isPresent, numberOf, shownReply, wideObject, fieldNumbers, checkReply, nodeReply, undoReply, nextNumbers, writeReply, startReply, refusalIn, placeIn, Told, StageZeros, EntryReplies, NodeReplies, UndoReplies, StepReplies, WriteReplies}
+use Rattle.nerupazhil.specs.Replies.{isPresent, numberOf, shownReply, fieldNumbers, checkReply, nodeReply, undoReply, nextNumbers, writeReply, startReply, refusalIn, placeIn, Told, StageZeros, EntryReplies, NodeReplies, UndoReplies, StepReplies, WriteReplies}
 use Rattle.nerupazhil.proofs.Laws.{shown-alone}
 use Rattle.nerupazhil.proofs.Numbers.{Numbered}
 use Rattle.nerupazhil.proofs.Reading.{after-shown, after-path}
@@ -45,9 +42,9 @@ pub record NameZeros (reply : List ℕ) : Type 0 where
   pub none : getD reply 2 0 ≡ 0 → (getD reply 3 0 ≡ 0) × (getD reply 4 0 ≡ 0)
   pub workspace : getD reply 2 0 ≡ 2 → getD reply 3 0 ≡ 0
 
--- an object name has zeros after its 20 bytes, and nothing else on a refusal
-pub record ObjectZeros (reply object : List ℕ) : Type 0 where
-  pub unused : drop 20 object ≡ replicate 12 0
+-- an object name has zeros after its w bytes, and nothing else on a refusal
+pub record ObjectZeros (w : ℕ) (reply object : List ℕ) : Type 0 where
+  pub unused : drop w object ≡ replicate (32 - w) 0
   pub refused : 0 < refusalIn reply → object ≡ replicate 32 0
 
 -- check: a count is 0 without its extension, and so are the last seven numbers
@@ -58,25 +55,25 @@ pub record CheckZeros (reply : List ℕ) : Type 0 where
   pub later : drop 9 reply ≡ replicate 7 0
 
 -- an entry, or a step of a walk, with n numbers after the place
-pub record EntryZeros (n : ℕ) (reply numbers object : List ℕ) : Type 0 where
+pub record EntryZeros (w n : ℕ) (reply numbers object : List ℕ) : Type 0 where
   pub zeros : Zeros n reply
   pub name : NameZeros reply
   pub numbers-of : 0 < refusalIn reply → numbers ≡ replicate 14 0
-  pub object-of : ObjectZeros reply object
+  pub object-of : ObjectZeros w reply object
 
 -- an invalid node has no count and no object name
-pub record NodeZeros (reply object : List ℕ) : Type 0 where
+pub record NodeZeros (w : ℕ) (reply object : List ℕ) : Type 0 where
   pub zeros : Zeros 7 reply
   pub name : NameZeros reply
   pub count : getD reply 6 0 ≡ 0 → getD reply 7 0 ≡ 0
-  pub object-of : ObjectZeros reply object
+  pub object-of : ObjectZeros w reply object
   pub invalid : getD reply 6 0 ≡ 0 → object ≡ replicate 32 0
 
 -- a missing stage has no object name
-pub record UndoZeros (reply first second third : List ℕ) : Type 0 where
+pub record UndoZeros (w : ℕ) (reply first second third : List ℕ) : Type 0 where
   pub zeros : Zeros 6 reply
   pub path : NameZeros reply
-  pub objects : ObjectZeros reply first × ObjectZeros reply second × ObjectZeros reply third
+  pub objects : ObjectZeros w reply first × ObjectZeros w reply second × ObjectZeros w reply third
   pub stages : StageZeros (getD reply 5 0) first × StageZeros (getD reply 6 0) second × StageZeros (getD reply 7 0) third
 
 -- ---- the proofs
@@ -93,11 +90,8 @@ name-zeros (S.Refused n p) more = record { none = λ e. (refl, refl); workspace 
 name-zeros (S.InFile at n) more = record { none = λ e. absurd (omega arith); workspace = λ e. absurd (omega arith) }
 name-zeros (S.InWorkspace n) more = record { none = λ e. absurd (omega arith); workspace = λ e. refl }
 
-object-zeros : (reply o object : List ℕ) → Told o object → (0 < refusalIn reply → o ≡ replicate 20 0) → ObjectZeros reply object
-object-zeros reply o object told none = record {
-  unused = rw (told .whole) (drop-at o (replicate 12 0) 20 (told .width));
-  refused = λ some. told .whole ∙ ap wideObject (none some);
-}
+object-zeros : (w : ℕ) (reply o object : List ℕ) → Told w o object → (0 < refusalIn reply → o ≡ replicate 32 0) → ObjectZeros w reply object
+object-zeros w reply o object told none = record { unused = told .unused; refused = λ some. told .same ∙ none some }
 
 -- a count that is absent, and one that is invalid
 number-zero : (c : Count) → isPresent c ≡ 0 → numberOf c ≡ 0
@@ -127,8 +121,8 @@ write-by (good bytes n) h = done 1 _
 no-refusal {ℓ} : {X : Type ℓ} (reply : List ℕ) → refusalIn reply ≡ 0 → 0 < refusalIn reply → X
 no-refusal reply e some = absurd (omega arith)
 
-object-shown : (reply o object : List ℕ) → Told o object → refusalIn reply ≡ 0 → ObjectZeros reply object
-object-shown reply o object told e = object-zeros reply o object told (no-refusal reply e)
+object-shown : (w : ℕ) (reply o object : List ℕ) → Told w o object → refusalIn reply ≡ 0 → ObjectZeros w reply object
+object-shown w reply o object told e = object-zeros w reply o object told (no-refusal reply e)
 
 succeeded : (n : ℕ) (reply : List ℕ) → (refusalIn reply ≡ 0) × (placeIn reply ≡ 0) → Zeros n reply
 succeeded n reply (number, place) = record { success = λ _. place; refused = no-refusal reply number }
@@ -145,20 +139,20 @@ module _ {A R : Type 0} (deny : ℕ → ℕ → R) (show : Shown → A → R) (n
 -- ---- every call
 
 module _ (kind : ℕ) (work f reply : List ℕ) where
-  pub check-zeros : reply ≡ checkReply (checkAnswer work (ofKind kind (readFile 20 sha1 f))) → CheckZeros reply
-  check-zeros e = rw e (check-by (checkAnswer work (ofKind kind (readFile 20 sha1 f))) (check-positive kind work f))
+  pub check-zeros : reply ≡ checkReply (checkAnswer work (readKind kind f)) → CheckZeros reply
+  check-zeros e = rw e (check-by (checkAnswer work (readKind kind f)) (check-positive kind work f))
 
-  pub start-zeros : reply ≡ startReply (startAnswer work (ofKind kind (readFile 20 sha1 f))) → Zeros 2 reply
-  start-zeros e = rw e (start-by (startAnswer work (ofKind kind (readFile 20 sha1 f))) (start-positive kind work f))
+  pub start-zeros : reply ≡ startReply (startAnswer work (readKind kind f)) → Zeros 2 reply
+  start-zeros e = rw e (start-by (startAnswer work (readKind kind f)) (start-positive kind work f))
 
 -- of a reply that shows a view whose number is not 0 where it is refused: positive-entry, positive-node, positive-undo and positive-step say so
 -- of every one
 
 -- an entry, and a step of a walk, which tells more: k numbers, zeros on a refusal
-module _ (k : ℕ) (more : Shown → List ℕ) (none : (n p : ℕ) → more (S.Refused n p) ≡ replicate k 0) where
+module _ (w k : ℕ) (more : Shown → List ℕ) (none : (n p : ℕ) → more (S.Refused n p) ≡ replicate k 0) where
   record EntryHolds (a : EntryAnswer) : Type 0 where
     holds : (reply numbers object : List ℕ) → reply ≡ shownReply (a .shown) ++ more (a .shown) → numbers ≡ fieldNumbers (a .fields)
-        → Told (a .fields .object) object → EntryZeros (suc (suc (suc k))) reply numbers object
+        → Told w (a .fields .object) object → EntryZeros w (suc (suc (suc k))) reply numbers object
 
   entry-by : (at : ℕ) (v : View F.Entry) → Positive v → EntryHolds (entryShown at v)
   entry-by at v some =
@@ -168,7 +162,7 @@ module _ (k : ℕ) (more : Shown → List ℕ) (none : (n p : ℕ) → more (S.R
           zeros = denied _ n p pos;
           name = name-zeros (S.Refused n p) _;
           numbers-of = λ _. f;
-          object-of = object-zeros _ _ _ t (λ _. refl);
+          object-of = object-zeros w _ _ _ t (λ _. refl);
         });
       })
       (λ s x free. record {
@@ -176,33 +170,33 @@ module _ (k : ℕ) (more : Shown → List ℕ) (none : (n p : ℕ) → more (S.R
           zeros = succeeded _ _ (free _);
           name = name-zeros s _;
           numbers-of = no-refusal (shownReply s ++ more s) (free (more s) .0);
-          object-of = object-shown _ _ _ t (free (more s) .0);
+          object-of = object-shown w _ _ _ t (free (more s) .0);
         });
       })
 
-pub entry-zeros : (at : ℕ) (v : View F.Entry) → Positive v → (f work work′ reply numbers object : List ℕ) → EntryReplies at v f work work′ reply numbers object
-    → EntryZeros 3 reply numbers object
-entry-zeros at v some f work work′ reply numbers object h =
-    entry-by 0 (λ _. []) (λ n p. refl) at v some .holds reply numbers object (h .whole ∙ shown-alone (entryShown at v .shown)) (h .fields) (h .object-is)
+pub entry-zeros : (w at : ℕ) (v : View F.Entry) → Positive v → (f work work′ reply numbers object : List ℕ) → EntryReplies w at v f work work′ reply numbers object
+    → EntryZeros w 3 reply numbers object
+entry-zeros w at v some f work work′ reply numbers object h =
+    entry-by w 0 (λ _. []) (λ n p. refl) at v some .holds reply numbers object (h .whole ∙ shown-alone (entryShown at v .shown)) (h .fields) (h .object-is)
 
-pub step-zeros : (at : ℕ) (v : View F.Entry) → Positive v → (next : Place) (f reply numbers object : List ℕ) → StepReplies at v next f reply numbers object
-    → EntryZeros 5 reply numbers object
-step-zeros at v some next f reply numbers object h =
-    entry-by 2 (λ s. nextNumbers s next) (λ n p. refl) at v some .holds reply numbers object (h .whole) (h .fields) (h .object-is)
+pub step-zeros : (w at : ℕ) (v : View F.Entry) → Positive v → (next : Place) (f reply numbers object : List ℕ) → StepReplies w at v next f reply numbers object
+    → EntryZeros w 5 reply numbers object
+step-zeros w at v some next f reply numbers object h =
+    entry-by w 2 (λ s. nextNumbers s next) (λ n p. refl) at v some .holds reply numbers object (h .whole) (h .fields) (h .object-is)
 
 -- a node
-record NodeHolds (a : NodeAnswer) : Type 0 where
-  holds : (reply object : List ℕ) → reply ≡ nodeReply a → Told (a .object) object → (a .valid ≡ false → object ≡ replicate 32 0) → NodeZeros reply object
+record NodeHolds (w : ℕ) (a : NodeAnswer) : Type 0 where
+  holds : (reply object : List ℕ) → reply ≡ nodeReply a → Told w (a .object) object → (a .valid ≡ false → object ≡ replicate 32 0) → NodeZeros w reply object
 
-pub node-zeros : (at : ℕ) (v : View F.Item) → Positive v → (f reply object : List ℕ) → NodeReplies at v f reply object → NodeZeros reply object
-node-zeros at v some f reply object h =
-    by-view refusedNode nodeAs (λ i. i .node .name) at NodeHolds v some
+pub node-zeros : (w at : ℕ) (v : View F.Item) → Positive v → (f reply object : List ℕ) → NodeReplies w at v f reply object → NodeZeros w reply object
+node-zeros w at v some f reply object h =
+    by-view refusedNode nodeAs (λ i. i .node .name) at (NodeHolds w) v some
     (λ n p pos. record {
       holds = λ reply object e t z. rw e (record {
         zeros = denied 7 n p pos;
         name = name-zeros (S.Refused n p) _;
         count = λ _. refl;
-        object-of = object-zeros _ _ _ t (λ _. refl);
+        object-of = object-zeros w _ _ _ t (λ _. refl);
         invalid = λ _. z refl;
       });
     })
@@ -213,25 +207,25 @@ node-zeros at v some f reply object h =
             zeros = succeeded _ _ (free _);
             name = name-zeros s _;
             count = rw (valid, count) (count-zero (i .node .count));
-            object-of = object-shown _ _ _ t (free _ .0);
+            object-of = object-shown w _ _ _ t (free _ .0);
             invalid = rw valid (λ q. z (bit-zero _ q));
           });
     }) .holds reply object (h .whole) (h .object-is) (h .zeros)
 
 -- a resolve-undo record
-record UndoHolds (a : UndoAnswer) : Type 0 where
-  holds : (reply first second third : List ℕ) → reply ≡ undoReply a → Told (a .first) first × Told (a .second) second × Told (a .third) third
-      → StageZeros (a .«first_mode») first × StageZeros (a .«second_mode») second × StageZeros (a .«third_mode») third → UndoZeros reply first second third
+record UndoHolds (w : ℕ) (a : UndoAnswer) : Type 0 where
+  holds : (reply first second third : List ℕ) → reply ≡ undoReply a → Told w (a .first) first × Told w (a .second) second × Told w (a .third) third
+      → StageZeros (a .«first_mode») first × StageZeros (a .«second_mode») second × StageZeros (a .«third_mode») third → UndoZeros w reply first second third
 
-pub undo-zeros : (at : ℕ) (v : View F.Undo) → Positive v → (f reply first second third : List ℕ) → UndoReplies at v f reply first second third
-    → UndoZeros reply first second third
-undo-zeros at v some f reply first second third h =
-    by-view refusedUndo undoAs (λ u. u .path) at UndoHolds v some
+pub undo-zeros : (w at : ℕ) (v : View F.Undo) → Positive v → (f reply first second third : List ℕ) → UndoReplies w at v f reply first second third
+    → UndoZeros w reply first second third
+undo-zeros w at v some f reply first second third h =
+    by-view refusedUndo undoAs (λ u. u .path) at (UndoHolds w) v some
     (λ n p pos. record {
       holds = λ reply first second third e t z. rw e (record {
         zeros = denied 6 n p pos;
         path = name-zeros (S.Refused n p) _;
-        objects = (object-zeros _ _ _ (t .0) (λ _. refl), object-zeros _ _ _ (t .1) (λ _. refl), object-zeros _ _ _ (t .2) (λ _. refl));
+        objects = (object-zeros w _ _ _ (t .0) (λ _. refl), object-zeros w _ _ _ (t .1) (λ _. refl), object-zeros w _ _ _ (t .2) (λ _. refl));
         stages = z;
       });
     })
@@ -241,12 +235,12 @@ undo-zeros at v some f reply first second third h =
           rw e (record {
             zeros = succeeded _ _ (free _);
             path = name-zeros s _;
-            objects = (object-shown _ _ _ (t .0) (free _ .0), object-shown _ _ _ (t .1) (free _ .0), object-shown _ _ _ (t .2) (free _ .0));
+            objects = (object-shown w _ _ _ (t .0) (free _ .0), object-shown w _ _ _ (t .1) (free _ .0), object-shown w _ _ _ (t .2) (free _ .0));
             stages = rw (a, b, c) z;
           });
     }) .holds reply first second third (h .whole) (h .objects) (h .zeros)
 
 -- of rewrite, put and remove: numbered-rewrite, numbered-put and numbered-remove say that their answers are numbered
-pub write-zeros : (f : List ℕ) (asked : ℕ) (change : F.Records → F.Records) (x : Read (List ℕ)) (out work out′ work′ reply : List ℕ)
-    → WriteReplies f asked change x out work out′ work′ reply → Numbered x → Zeros 1 reply
-write-zeros f asked change x out work out′ work′ reply h numbered = rw (h .said) (write-by x numbered)
+pub write-zeros : (kind : ℕ) (f : List ℕ) (asked : ℕ) (change : F.Records → F.Records) (x : Read (List ℕ)) (out work out′ work′ reply : List ℕ)
+    → WriteReplies kind f asked change x out work out′ work′ reply → Numbered x → Zeros 1 reply
+write-zeros kind f asked change x out work out′ work′ reply h numbered = rw (h .said) (write-by x numbered)

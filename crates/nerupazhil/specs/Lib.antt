@@ -1,3 +1,2 @@
--- The kinds of object names, and the answers as lists of numbers.
-pub mod Kinds
+-- The answers as lists of numbers.
 pub mod Replies

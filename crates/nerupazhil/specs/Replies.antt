@@ -4,7 +4,7 @@ use mathlib.Core.Path.{_≡_}
 use mathlib.Core.List.{List, [], _∷_, _++_}
 use mathlib.Core.Bool.{false, cond, not}
 use Prim.Native.Nat.{ℕ, _+_, _-_, _≤_}
-use lib.ListN.{length, take, getD, replicate}
+use lib.ListN.{length, take, drop, getD, replicate}
 use lib.Dec.{eqb}
 use Rattle.format.specs.Records as F
 use Rattle.format.specs.Layout.{bit}
@@ -22,7 +22,7 @@ use Rattle.answers.specs.declared.Written.{Written}
 use Rattle.answers.specs.declared.Written.the-variants as W
 use Rattle.answers.specs.Answers.{View, cleared, workAfter, partIn, entrySaid, nodeSaid, undoSaid, entryShown, nodeShown, undoShown}
 use Rattle.answers.specs.Writing.{writtenOf, outputAfter}
-use Rattle.hash.specs.Sha1.{sha1}
+use Rattle.kinds.specs.Kinds.{widthOf, hashOf}
 use Rattle.writing.specs.OneFile.{WritesBack}
 use Rattle.walk.specs.declared.Started.{Started}
 use Rattle.walk.specs.declared.Started.the-variants as T
@@ -53,10 +53,6 @@ abbrev pub shownReply : Shown → List ℕ
 shownReply (S.Refused n p) = n ∷ p ∷ 0 ∷ 0 ∷ 0 ∷ []
 shownReply (S.InFile at n) = 0 ∷ 0 ∷ 1 ∷ at ∷ n ∷ []
 shownReply (S.InWorkspace n) = 0 ∷ 0 ∷ 2 ∷ 0 ∷ n ∷ []
-
--- an object name in 32 bytes, zeros after it
-abbrev pub wideObject : List ℕ → List ℕ
-wideObject o = o ++ replicate 12 0
 
 -- the fields of an entry but its object name and its name
 abbrev pub fieldNumbers : Fields → List ℕ
@@ -101,9 +97,9 @@ bytesIn reply file work = partIn (getD reply 3 0) (getD reply 4 0) (bufferIn rep
 abbrev pub NameInside : List ℕ → (file work : List ℕ) → Type 0
 NameInside reply file work = getD reply 3 0 + getD reply 4 0 ≤ length (bufferIn reply file work)
 
--- an object name: the first 20 of 32 bytes
-abbrev pub objectIn : List ℕ → List ℕ
-objectIn object = take 20 object
+-- an object name: the first w of 32 bytes
+abbrev pub objectIn : ℕ → List ℕ → List ℕ
+objectIn w object = take w object
 
 -- the fields of an entry: as a call shows them, and as a caller gives them to put
 abbrev pub givenFields : (numbers object : List ℕ) → Fields
@@ -118,7 +114,7 @@ givenFields numbers object = record {
   uid = getD numbers 7 0;
   gid = getD numbers 8 0;
   size = getD numbers 9 0;
-  object = objectIn object;
+  object = object;
   «assume_valid» = not (eqb (getD numbers 10 0) 0);
   stage = getD numbers 11 0;
   «skip_worktree» = not (eqb (getD numbers 12 0) 0);
@@ -126,25 +122,25 @@ givenFields numbers object = record {
 }
 
 -- ---- what the calls that show leave behind: the reply, whole, for the view v; the name that it points at, where it has one, is that of the
--- item, and it lies in its buffer. A name in the file is at the place at. Object names have 20 bytes, zeros after them
+-- item, and it lies in its buffer. A name in the file is at the place at. w is the width of an object name
 
--- an object name that is told in 32 bytes
-pub record Told (o object : List ℕ) : Type 0 where
-  pub whole : object ≡ wideObject o
-  pub width : length o ≡ 20
+-- an object name that is told in 32 bytes, those of the answer; zeros follow its w bytes
+pub record Told (w : ℕ) (o object : List ℕ) : Type 0 where
+  pub same : object ≡ o
+  pub unused : drop w object ≡ replicate (32 - w) 0
 
-pub record EntryReplies (at : ℕ) (v : View F.Entry) (f work work′ reply numbers object : List ℕ) : Type 0 where
+pub record EntryReplies (w at : ℕ) (v : View F.Entry) (f work work′ reply numbers object : List ℕ) : Type 0 where
   pub whole : reply ≡ shownReply (entryShown at v .shown)
   pub fields : numbers ≡ fieldNumbers (entryShown at v .fields)
-  pub object-is : Told (entryShown at v .fields .object) object
-  pub said : entrySaid (entryShown at v) f work′ ≡ v
+  pub object-is : Told w (entryShown at v .fields .object) object
+  pub said : entrySaid w (entryShown at v) f work′ ≡ v
   pub inside : NameInside reply f work′
   pub after : work′ ≡ workAfter v work
 
-pub record NodeReplies (at : ℕ) (v : View F.Item) (f reply object : List ℕ) : Type 0 where
+pub record NodeReplies (w at : ℕ) (v : View F.Item) (f reply object : List ℕ) : Type 0 where
   pub whole : reply ≡ nodeReply (nodeShown at v)
-  pub object-is : Told (nodeShown at v .object) object
-  pub said : (work : List ℕ) → nodeSaid (nodeShown at v) f work ≡ v
+  pub object-is : Told w (nodeShown at v .object) object
+  pub said : (work : List ℕ) → nodeSaid w (nodeShown at v) f work ≡ v
   pub inside : (work : List ℕ) → NameInside reply f work
   -- of an invalid node
   pub zeros : nodeShown at v .valid ≡ false → object ≡ replicate 32 0
@@ -153,19 +149,19 @@ pub record NodeReplies (at : ℕ) (v : View F.Item) (f reply object : List ℕ) 
 abbrev pub StageZeros : ℕ → List ℕ → Type 0
 StageZeros mode object = mode ≡ 0 → object ≡ replicate 32 0
 
-pub record UndoReplies (at : ℕ) (v : View F.Undo) (f reply first second third : List ℕ) : Type 0 where
+pub record UndoReplies (w at : ℕ) (v : View F.Undo) (f reply first second third : List ℕ) : Type 0 where
   pub whole : reply ≡ undoReply (undoShown at v)
-  pub objects : Told (undoShown at v .first) first × Told (undoShown at v .second) second × Told (undoShown at v .third) third
-  pub said : (work : List ℕ) → undoSaid (undoShown at v) f work ≡ v
+  pub objects : Told w (undoShown at v .first) first × Told w (undoShown at v .second) second × Told w (undoShown at v .third) third
+  pub said : (work : List ℕ) → undoSaid w (undoShown at v) f work ≡ v
   pub inside : (work : List ℕ) → NameInside reply f work
   pub zeros :
       StageZeros (undoShown at v .«first_mode») first × StageZeros (undoShown at v .«second_mode») second × StageZeros (undoShown at v .«third_mode») third
 
-pub record StepReplies (at : ℕ) (v : View F.Entry) (next : Place) (f reply numbers object : List ℕ) : Type 0 where
+pub record StepReplies (w at : ℕ) (v : View F.Entry) (next : Place) (f reply numbers object : List ℕ) : Type 0 where
   pub whole : reply ≡ stepReply (entryShown at v .shown) next
   pub fields : numbers ≡ fieldNumbers (entryShown at v .fields)
-  pub object-is : Told (entryShown at v .fields .object) object
-  pub said : (work : List ℕ) → entrySaid (entryShown at v) f work ≡ v
+  pub object-is : Told w (entryShown at v .fields .object) object
+  pub said : (work : List ℕ) → entrySaid w (entryShown at v) f work ≡ v
   pub inside : (work : List ℕ) → NameInside reply f work
 
 -- ---- the calls that write, the start of a walk
@@ -176,11 +172,11 @@ writeReply (W.Done n) = 0 ∷ 0 ∷ n ∷ []
 
 -- the answer x; the output and the workspace after it; what was written is, of the file f and in the version asked for, the one file of its
 -- records with a change
-pub record WriteReplies (f : List ℕ) (asked : ℕ) (change : F.Records → F.Records) (x : Read (List ℕ)) (out work out′ work′ reply : List ℕ) : Type 0 where
+pub record WriteReplies (kind : ℕ) (f : List ℕ) (asked : ℕ) (change : F.Records → F.Records) (x : Read (List ℕ)) (out work out′ work′ reply : List ℕ) : Type 0 where
   pub said : reply ≡ writeReply (writtenOf x)
   pub filled : out′ ≡ outputAfter x out
   pub after : work′ ≡ cleared work
-  pub back : WritesBack 20 sha1 f asked change x
+  pub back : WritesBack (widthOf kind) (hashOf kind) f asked change x
 
 abbrev pub startReply : Started → List ℕ
 startReply (T.Refused n p) = n ∷ p ∷ 0 ∷ 0 ∷ []

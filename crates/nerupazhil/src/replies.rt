@@ -2,7 +2,7 @@
 ghost use mathlib.Core.Path.{_≡_};
 ghost use lib.ListN.{length};
 ghost use Rattle.format.specs.Layout.{bit};
-ghost use Rattle.nerupazhil.specs.Replies.{isPresent, numberOf, checkReply, shownReply, fieldNumbers, wideObject, givenFields, nodeReply, undoReply, stepReply, writeReply, startReply};
+ghost use Rattle.nerupazhil.specs.Replies.{isPresent, numberOf, checkReply, shownReply, fieldNumbers, givenFields, nodeReply, undoReply, stepReply, writeReply, startReply};
 use answers::Checked;
 use answers::Count;
 use answers::NodeAnswer;
@@ -45,16 +45,6 @@ fn number_of(c: Count) -> u32
     }
 }
 
-// ---- object names: 20 bytes of 32, zeros after them
-
-pub fn wide_object(object: [u8; 20]) -> [u8; 32]
-    ensures { λ r. ⌜ (r ≡ wideObject object) × (length object ≡ 20) ⌝ }
-{
-    let mut wide = [0u8; 32];
-    fields::copy_to(&mut wide, 0, &object);
-    wide
-}
-
 // ---- the fields of an entry
 
 pub fn field_numbers(f: Fields) -> [u32; 14]
@@ -78,7 +68,7 @@ pub fn field_numbers(f: Fields) -> [u32; 14]
     ]
 }
 
-// The fields that a caller gives; of the object name only the first 20 bytes are read.
+// The fields that a caller gives.
 pub fn given_fields(numbers: &[u32; 14], object: &[u8; 32]) -> Fields
     ensures { λ r. ⌜ r ≡ givenFields (now (numbers .entry)) (now (object .entry)) ⌝ }
 {
@@ -93,7 +83,7 @@ pub fn given_fields(numbers: &[u32; 14], object: &[u8; 32]) -> Fields
         uid: numbers[7],
         gid: numbers[8],
         size: numbers[9],
-        object: entries::record::object_at(object, 0),
+        object: *object,
         assume_valid: numbers[10] != 0,
         stage: numbers[11],
         skip_worktree: numbers[12] != 0,

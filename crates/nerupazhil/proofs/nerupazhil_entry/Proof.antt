@@ -1,5 +1,6 @@
 -- The proof that `nerupazhil_entry` meets its contract.
 use Rattle.nerupazhil.proofs.Laws.{entry-replies}
+use Rattle.kinds.proofs.Laws.{width-most}
 use borrow.Author.Needs.{needs}
 use Rattle.nerupazhil.proofs.nerupazhil_entry.Statement.{statement}
 use Rattle.nerupazhil.proofs.nerupazhil_entry.Tie as tie
@@ -21,7 +22,7 @@ same-length c = search needs
 
 returns : tie.Need-returns
 returns c =
-    entry-replies _ _ _ _ _ _ (c .before .field-numbers .ensures) (record { whole = c .wide-object .ensures .0; width = c .wide-object .ensures .1 }) _ _ _ (c .before .before .before .before .before .before .before .entry .ensures) (c .before .before .shown-reply .ensures)
+    entry-replies _ _ (width-most _) _ _ _ _ (c .field-numbers .ensures) _ _ _ (c .before .before .before .before .before .before .entry .ensures) (c .before .shown-reply .ensures)
 
 pub nerupazhil-entry-spec : {M : Type 1} → statement M
 nerupazhil-entry-spec =

@@ -22,7 +22,7 @@ same-length-2 c = search needs
 returns : tie.Need-returns
 returns c =
     let q = c .before .before .before .before .before in
-    rw (q .before .before .before .given-fields .ensures) at (write-replies _ _ _ _ _ _ _ _ _ _ (q .put .ensures) (c .write-reply .ensures))
+    rw (q .before .before .before .given-fields .ensures) at (write-replies _ _ _ _ _ _ _ _ _ _ _ (q .put .ensures) (c .write-reply .ensures))
 
 pub nerupazhil-put-spec : {M : Type 1} → statement M
 nerupazhil-put-spec =

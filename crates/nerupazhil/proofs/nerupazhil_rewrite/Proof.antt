@@ -17,7 +17,7 @@ same-length-2 : tie.Need-same-length-2
 same-length-2 c = search needs
 
 returns : tie.Need-returns
-returns c = write-replies _ _ _ _ _ _ _ _ _ _ (c .before .before .before .before .before .rewrite .ensures) (c .write-reply .ensures)
+returns c = write-replies _ _ _ _ _ _ _ _ _ _ _ (c .before .before .before .before .before .rewrite .ensures) (c .write-reply .ensures)
 
 pub nerupazhil-rewrite-spec : {M : Type 1} → statement M
 nerupazhil-rewrite-spec =

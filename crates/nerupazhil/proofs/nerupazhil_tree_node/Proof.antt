@@ -1,5 +1,6 @@
 -- The proof that `nerupazhil_tree_node` meets its contract.
 use Rattle.nerupazhil.proofs.Laws.{node-replies}
+use Rattle.kinds.proofs.Laws.{width-most}
 use borrow.Author.Needs.{needs}
 use Rattle.nerupazhil.proofs.nerupazhil_tree_node.Statement.{statement}
 use Rattle.nerupazhil.proofs.nerupazhil_tree_node.Tie as tie
@@ -18,8 +19,8 @@ same-length c = search needs
 
 returns : tie.Need-returns
 returns c =
-    let q = c .before .before .before .before .before .tree-node .ensures in
-    (node-replies _ _ _ _ _ _ (q .0) (c .before .node-reply .ensures) (record { whole = c .wide-object .ensures .0; width = c .wide-object .ensures .1 }), q .1)
+    let q = c .before .before .before .before .tree-node .ensures in
+    (node-replies _ _ (width-most _) _ _ _ _ (q .0) (c .node-reply .ensures), q .1)
 
 pub nerupazhil-tree-node-spec : {M : Type 1} → statement M
 nerupazhil-tree-node-spec =

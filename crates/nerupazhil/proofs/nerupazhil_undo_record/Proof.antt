@@ -1,5 +1,6 @@
 -- The proof that `nerupazhil_undo_record` meets its contract.
 use Rattle.nerupazhil.proofs.Laws.{undo-replies}
+use Rattle.kinds.proofs.Laws.{width-most}
 use borrow.Author.Needs.{needs}
 use Rattle.nerupazhil.proofs.nerupazhil_undo_record.Statement.{statement}
 use Rattle.nerupazhil.proofs.nerupazhil_undo_record.Tie as tie
@@ -24,9 +25,8 @@ same-length c = search needs
 
 returns : tie.Need-returns
 returns c =
-    let b = c .before .before in
-    let q = b .before .before .before .before .before .before .before .undo-record .ensures in
-    (undo-replies _ _ _ _ _ _ _ _ (q .0) (b .before .undo-reply .ensures) (record { whole = b .wide-object .ensures .0; width = b .wide-object .ensures .1 }) (record { whole = c .before .wide-object2 .ensures .0; width = c .before .wide-object2 .ensures .1 }) (record { whole = c .wide-object3 .ensures .0; width = c .wide-object3 .ensures .1 }), q .1)
+    let q = c .before .before .before .before .before .before .undo-record .ensures in
+    (undo-replies _ _ (width-most _) _ _ _ _ (q .0) (c .undo-reply .ensures), q .1)
 
 pub nerupazhil-undo-record-spec : {M : Type 1} → statement M
 nerupazhil-undo-record-spec =
