@@ -12,11 +12,12 @@ use Rattle.format.specs.Names.{okName}
 use Rattle.format.specs.Records.{modeOf, Key, Records}
 use Rattle.format.specs.Layout.{okMode}
 use Rattle.format.specs.Reading.{Read, bad, good, need}
-use Rattle.format.specs.Reader.{Contents, readFile}
+use Rattle.format.specs.Reader.{Contents}
+use Rattle.format.specs.Places.{bodyIn}
 use Rattle.format.specs.Requests.{okAsked, putRecord, removeRecord, holds, writing, rewriteRequest, putRequest, removeRequest}
 use Rattle.format_laws.proofs.Tests.{and-inv, by-test}
 use Rattle.format_laws.proofs.Readings.{bad-good, good-inv}
-use Rattle.hash.specs.Sha1.{sha1}
+use Rattle.kinds.specs.Kinds.{widthOf, hashOf, readKind}
 use Rattle.fields.specs.Workspace.{Frame}
 use Rattle.entries.specs.declared.record.Fields.{Fields}
 use Rattle.answers.specs.declared.Written.{Written}
@@ -26,7 +27,7 @@ use Rattle.entries.specs.Record.{entryWith}
 use Rattle.answers.specs.Writing.{requested}
 use Rattle.answers.proofs.Laws.{cleared-frame, cleared-same}
 use Rattle.file_read.specs.declared.Parts.{Parts}
-use Rattle.file_read.specs.Contents.{bodyOf, Contains}
+use Rattle.file_read.specs.Contents.{Contains}
 use Rattle.file_read.proofs.Room.{room-of, in-room, cleared-by}
 use Rattle.entries_edit.specs.declared.Edit.{Edit}
 use Rattle.file_write.specs.Bodies.{changed, WriteReady}
@@ -53,25 +54,25 @@ writes-as x y out work work₁ out′ work′ r e same h = record { said = rw e 
 
 -- ---- what is asked of the records that were read
 
-module _ (x : Read Contents) (c : Contents) (m : ℕ) (read : x ≡ good c m) (asked room : ℕ) where
+module _ (kind : ℕ) (x : Read Contents) (c : Contents) (m : ℕ) (read : x ≡ good c m) (asked room : ℕ) where
   pub asked-refused : (ask : Records → Read (List ℕ)) → okAsked asked ≡ false → requested x (λ r. need (okAsked asked) 4 0 (ask r)) ≡ bad 4 0
   unfolding need
   asked-refused ask refused = rw (read, refused)
 
-  pub rewrite-refused : okAsked asked ≡ false → requested x (rewriteRequest 20 sha1 asked room) ≡ bad 4 0
+  pub rewrite-refused : okAsked asked ≡ false → requested x (rewriteRequest (widthOf kind) (hashOf kind) asked room) ≡ bad 4 0
   unfolding rewriteRequest
   rewrite-refused refused = asked-refused _ refused
 
-  pub rewrite-is : okAsked asked ≡ true → requested x (rewriteRequest 20 sha1 asked room) ≡ writing 20 sha1 asked room (c .records)
+  pub rewrite-is : okAsked asked ≡ true → requested x (rewriteRequest (widthOf kind) (hashOf kind) asked room) ≡ writing (widthOf kind) (hashOf kind) asked room (c .records)
   unfolding rewriteRequest need
   rewrite-is ok = rw (read, ok)
 
   module _ (fields : Fields) (name : List ℕ) where
-    pub put-refused : okAsked asked ≡ false → requested x (putRequest 20 sha1 asked (entryWith fields name) room) ≡ bad 4 0
+    pub put-refused : okAsked asked ≡ false → requested x (putRequest (widthOf kind) (hashOf kind) asked (entryWith (widthOf kind) fields name) room) ≡ bad 4 0
     unfolding putRequest
     put-refused refused = asked-refused _ refused
 
-    pub put-unsound : okAsked asked ≡ true → 0 < recordNumber fields name → requested x (putRequest 20 sha1 asked (entryWith fields name) room) ≡ bad (recordNumber fields name) 0
+    pub put-unsound : okAsked asked ≡ true → 0 < recordNumber fields name → requested x (putRequest (widthOf kind) (hashOf kind) asked (entryWith (widthOf kind) fields name) room) ≡ bad (recordNumber fields name) 0
     unfolding putRequest need recordNumber modeOf
     put-unsound ok h =
         by-test (okMode (fields .mode))
@@ -82,7 +83,7 @@ module _ (x : Read Contents) (c : Contents) (m : ℕ) (read : x ≡ good c m) (a
         (λ mode. rw (read, ok, mode))
 
     pub put-is : okAsked asked ≡ true → recordNumber fields name ≡ 0
-        → requested x (putRequest 20 sha1 asked (entryWith fields name) room) ≡ writing 20 sha1 asked room (putRecord 20 (entryWith fields name) (c .records))
+        → requested x (putRequest (widthOf kind) (hashOf kind) asked (entryWith (widthOf kind) fields name) room) ≡ writing (widthOf kind) (hashOf kind) asked room (putRecord (widthOf kind) (entryWith (widthOf kind) fields name) (c .records))
     unfolding putRequest need recordNumber modeOf
     put-is ok h =
         by-test (okMode (fields .mode))
@@ -93,16 +94,16 @@ module _ (x : Read Contents) (c : Contents) (m : ℕ) (read : x ≡ good c m) (a
         (λ mode. absurd (let z : _≡_ {A = ℕ} 7 0 = rw mode at h in omega arith))
 
   module _ (k : Key) where
-    pub remove-refused : okAsked asked ≡ false → requested x (removeRequest 20 sha1 asked k room) ≡ bad 4 0
+    pub remove-refused : okAsked asked ≡ false → requested x (removeRequest (widthOf kind) (hashOf kind) asked k room) ≡ bad 4 0
     unfolding removeRequest
     remove-refused refused = asked-refused _ refused
 
-    pub remove-absent : okAsked asked ≡ true → holds k (c .records .entries) ≡ false → requested x (removeRequest 20 sha1 asked k room) ≡ bad 18 0
+    pub remove-absent : okAsked asked ≡ true → holds k (c .records .entries) ≡ false → requested x (removeRequest (widthOf kind) (hashOf kind) asked k room) ≡ bad 18 0
     unfolding removeRequest need
     remove-absent ok absent = rw (read, ok, absent)
 
     pub remove-is : okAsked asked ≡ true → holds k (c .records .entries) ≡ true
-        → requested x (removeRequest 20 sha1 asked k room) ≡ writing 20 sha1 asked room (removeRecord 20 k (c .records))
+        → requested x (removeRequest (widthOf kind) (hashOf kind) asked k room) ≡ writing (widthOf kind) (hashOf kind) asked room (removeRecord (widthOf kind) k (c .records))
     unfolding removeRequest need
     remove-is ok there = rw (read, ok, there)
 
@@ -120,52 +121,52 @@ sound-record fields name h =
 
 -- ---- what the calls leave behind, from what their second part does
 
-module _ (f work work₁ : List ℕ) (clear : work₁ ≡ cleared work) where
+module _ (kind : ℕ) (f work work₁ : List ℕ) (clear : work₁ ≡ cleared work) where
   -- the file is refused
-  pub call-refused : (ask : Records → Read (List ℕ)) (n p : ℕ) (out : List ℕ) → inRoom work (readFile 20 sha1 f) ≡ bad n p
-      → Writes (requested (inRoom work (readFile 20 sha1 f)) ask) out work out work₁ (W.Refused n p)
+  pub call-refused : (ask : Records → Read (List ℕ)) (n p : ℕ) (out : List ℕ) → inRoom work (readKind kind f) ≡ bad n p
+      → Writes (requested (inRoom work (readKind kind f)) ask) out work out work₁ (W.Refused n p)
   call-refused ask n p out e = writes-bad _ n p out work work₁ (rw e) clear
 
   -- it is accepted
-  module _ (parts : Parts) (h : Contains (inRoom work (readFile 20 sha1 f)) (bodyOf f) parts) where
+  module _ (parts : Parts) (h : Contains (widthOf kind) (inRoom work (readKind kind f)) (bodyIn (widthOf kind) f) parts) where
     room : 8192 ≤ length work
-    room = room-of work (readFile 20 sha1 f) (h .contents) (h .taken) (h .read)
+    room = room-of work (readKind kind f) (h .contents) (h .taken) (h .read)
 
     same : cleared work₁ ≡ cleared work
     same = rw clear (cleared-same work (cleared work) room (cleared-frame work room))
 
-    pub call-opened : Opened f work₁ parts × (work₁ ≡ cleared work₁)
+    pub call-opened : Opened kind f work₁ parts × (work₁ ≡ cleared work₁)
     call-opened =
         let frame : Frame work work₁ = rw clear (cleared-frame work room) in
-        (record { room = omega (arith, frame, room); contains = rw (in-room work (readFile 20 sha1 f) room) at h }, clear ∙ sym same)
+        (record { room = omega (arith, frame, room); contains = rw (in-room work (readKind kind f) room) at h }, clear ∙ sym same)
 
     pub call-answered : (ask : Records → Read (List ℕ)) (out out′ work′ : List ℕ) (r : Written)
-        → Writes (requested (readFile 20 sha1 f) ask) out work₁ out′ work′ r → Writes (requested (inRoom work (readFile 20 sha1 f)) ask) out work out′ work′ r
-    call-answered ask out out′ work′ r w =
-        writes-as _ _ out work work₁ out′ work′ r (ap (λ (x : Read Contents). requested x ask) (in-room work (readFile 20 sha1 f) room)) same w
+        → Writes (requested (readKind kind f) ask) out work₁ out′ work′ r → Writes (requested (inRoom work (readKind kind f)) ask) out work out′ work′ r
+    call-answered ask out out′ work′ r written =
+        writes-as _ _ out work work₁ out′ work′ r (ap (λ (x : Read Contents). requested x ask) (in-room work (readKind kind f) room)) same written
 
 -- ---- an edit, written
 
-module _ (f work : List ℕ) (bytes : Bytes f) (parts : Parts) (edit : Edit) (fields : Fields) (name : List ℕ) (p : Planned f work parts edit fields name) where
-  pub edit-ready : WriteReady (bodyOf f) work parts edit fields name
+module _ (kind : ℕ) (f work : List ℕ) (bytes : Bytes f) (parts : Parts) (edit : Edit) (fields : Fields) (name : List ℕ) (p : Planned kind f work parts edit fields name) where
+  pub edit-ready : WriteReady (widthOf kind) (bodyIn (widthOf kind) f) work parts edit fields name
   edit-ready =
       let h = p .opened .contains in
       record {
         room = record { least = h .least; most = h .most; room = p .opened .room };
-        few = count-few f bytes parts h;
+        few = count-few kind f bytes parts h;
         reach = p .reach;
         stage = p .stage;
         short = p .short;
         records = h .contents .records;
-        has = has-of f bytes parts h;
+        has = has-of kind f bytes parts h;
         there = p .there;
       }
 
-  pub edit-writes : (asked : ℕ) (out work₁ out′ work₂ : List ℕ) (r : Written) → FileWritten (bodyOf f) parts work asked edit (entryWith fields name) out work₁ out′ r
-      → work₂ ≡ replicate 8192 0 ++ drop 8192 work₁ → (c : Contents) (m : ℕ) → readFile 20 sha1 f ≡ good c m
-      → Writes (writing 20 sha1 asked (length out) (changed edit (entryWith fields name) (c .records))) out work out′ work₂ r
-  edit-writes asked out work₁ out′ work₂ r w clear c m read =
+  pub edit-writes : (asked : ℕ) (out work₁ out′ work₂ : List ℕ) (r : Written) → FileWritten (widthOf kind) (hashOf kind) (bodyIn (widthOf kind) f) parts work asked edit (entryWith (widthOf kind) fields name) out work₁ out′ r
+      → work₂ ≡ replicate 8192 0 ++ drop 8192 work₁ → (c : Contents) (m : ℕ) → readKind kind f ≡ good c m
+      → Writes (writing (widthOf kind) (hashOf kind) asked (length out) (changed (widthOf kind) edit (entryWith (widthOf kind) fields name) (c .records))) out work out′ work₂ r
+  edit-writes asked out work₁ out′ work₂ r written clear c m read =
       let h = p .opened .contains in
       good-inv _ _ _ _ (sym (h .read) ∙ read) λ is taken.
-      let a = w .answers (h .contents .records) (has-of f bytes parts h) (p .there) in
-      rw (← is) (record { said = a .said; filled = a .filled; after = cleared-by work work₁ work₂ (p .opened .room) (w .frame) clear })
+      let a = written .answers (h .contents .records) (has-of kind f bytes parts h) (p .there) in
+      rw (← is) (record { said = a .said; filled = a .filled; after = cleared-by work work₁ work₂ (p .opened .room) (written .frame) clear })

@@ -16,22 +16,22 @@ use Rattle.entries_edit.specs.Edits.{Replaces}
 use Rattle.file_write.specs.Bodies.{treeAfter, changed}
 
 -- nothing is changed
-pub keep-changed : (e : Entry) (r : Records) → changed E.Keep e r ≡ r
+pub keep-changed : (w : ℕ) (e : Entry) (r : Records) → changed w E.Keep e r ≡ r
 unfolding changed treeAfter
-keep-changed e r = refl
+keep-changed w e r = refl
 
-module _ (v : ℕ) (b work : List ℕ) (count : ℕ) (k : Key) (work′ : List ℕ) (p : Place) (h : PlaceFound v b work count k work′ p) (r : Records) (m : ℕ)
-    (q : EntriesRead v count b (r .entries) m) where
-  pub put-changed : (e : Entry) → keyOf e ≡ k → putRecord 20 e r ≡ changed (E.Put (p .before) (p .there)) e r
+module _ (w v : ℕ) (b work : List ℕ) (count : ℕ) (k : Key) (work′ : List ℕ) (p : Place) (h : PlaceFound w v b work count k work′ p) (r : Records) (m : ℕ)
+    (q : EntriesRead w v count b (r .entries) m) where
+  pub put-changed : (e : Entry) → keyOf e ≡ k → putRecord w e r ≡ changed w (E.Put (p .before) (p .there)) e r
   unfolding putRecord changed treeAfter
-  put-changed e is = rw (put-at v b work count k work′ p h (r .entries) m q e is)
+  put-changed e is = rw (put-at w v b work count k work′ p h (r .entries) m q e is)
 
-  pub remove-changed : (e : Entry) → e .name ≡ k .name → p .there ≡ true → removeRecord 20 k r ≡ changed (E.Remove (p .before)) e r
+  pub remove-changed : (e : Entry) → e .name ≡ k .name → p .there ≡ true → removeRecord w k r ≡ changed w (E.Remove (p .before)) e r
   unfolding removeRecord changed treeAfter
-  remove-changed e is found = rw (remove-at v b work count k work′ p h (r .entries) m q found, is)
+  remove-changed e is found = rw (remove-at w v b work count k work′ p h (r .entries) m q found, is)
 
   pub holds-there : holds k (r .entries) ≡ p .there
-  holds-there = holds-at v b work count k work′ p h (r .entries) m q
+  holds-there = holds-at w v b work count k work′ p h (r .entries) m q
 
   -- where an entry is there, it has the name
   pub named-there : p .there ≡ true → (x : Entry) → getElem? (r .entries) (p .before) ≡ some x → x .name ≡ k .name

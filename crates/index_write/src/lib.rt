@@ -1,4 +1,5 @@
-// The calls that write an index: rewrite it in a version, put one record, remove one name and stage.
+// The calls that write an index: rewrite it in a version, put one record, remove one name and stage. kind says which object names it has:
+// 1 is SHA-1, 2 is SHA-256, any other is refused with 29.
 ghost use mathlib.Core.Path.{_≡_};
 ghost use mathlib.Core.List.{[], _∷_};
 ghost use mathlib.Core.Bool.{true};
@@ -6,9 +7,9 @@ ghost use Prim.Native.Nat.{ℕ, _≤_};
 ghost use lib.ListN.{length};
 ghost use Rattle.format.specs.Bytes.{fit32};
 ghost use Rattle.format.specs.Reading.{good};
-ghost use Rattle.format.specs.Reader.{Contents, readFile};
+ghost use Rattle.format.specs.Reader.{Contents};
 ghost use Rattle.format.specs.Requests.{putRecord, removeRecord, okAsked, writing, rewriteRequest, putRequest, removeRequest};
-ghost use Rattle.hash.specs.Sha1.{sha1};
+ghost use Rattle.kinds.specs.Kinds.{widthOf, hashOf, readKind};
 ghost use Rattle.answers.specs.Answers.{inRoom, cleared};
 ghost use Rattle.entries.specs.Record.{entryWith};
 ghost use Rattle.answers.specs.Writing.{requested, rewriteAnswer, putAnswer, removeAnswer};
@@ -58,10 +59,10 @@ fn five_typed(a: u32, b: u32, c: u32, d: u32, e: u32)
     ensures { λ _. ⌜ fit32 (a ∷ b ∷ c ∷ d ∷ e ∷ []) ≡ true ⌝ }
 {}
 
-// An object name.
+// The field for an object name.
 fn object_typed(object: &[u8])
-    requires { ⌜ length (now object) ≡ 20 ⌝ }
-    ensures { λ _. ⌜ length (now (object .entry)) ≡ 20 ⌝ }
+    requires { ⌜ length (now object) ≡ 32 ⌝ }
+    ensures { λ _. ⌜ length (now (object .entry)) ≡ 32 ⌝ }
 {}
 
 // What its type says of a record. Nothing is done: it is said for the proof that a record that was put is read back.
@@ -100,6 +101,7 @@ fn record_number(fields: Fields, name: &[u8]) -> u32
 
 // The file with an edit, written; the workspace is cleared.
 fn write_edited(
+    kind: u32,
     file: &[u8],
     parts: Parts,
     work: &mut [u8],
@@ -109,10 +111,11 @@ fn write_edited(
     fields: Fields,
     name: &[u8],
 ) -> Written
-    requires { ⌜ Planned (now file) (now work) parts edit fields (now name) ⌝ }
-    ensures { λ r. ⌜ ((c : Contents) (m : ℕ) → readFile 20 sha1 (now (file .entry)) ≡ good c m → Writes (writing 20 sha1 asked (length (now (out .entry))) (changed edit (entryWith fields (now (name .entry))) (c .records))) (now (out .entry)) (now (work .entry)) (now (out .exit)) (now (work .exit)) r) ⌝ }
+    requires { ⌜ Planned kind (now file) (now work) parts edit fields (now name) ⌝ }
+    ensures { λ r. ⌜ ((c : Contents) (m : ℕ) → readKind kind (now (file .entry)) ≡ good c m → Writes (writing (widthOf kind) (hashOf kind) asked (length (now (out .entry))) (changed (widthOf kind) edit (entryWith (widthOf kind) fields (now (name .entry))) (c .records))) (now (out .entry)) (now (work .entry)) (now (out .exit)) (now (work .exit)) r) ⌝ }
 {
-    let n = file.len() - 20;
+    let w = kinds::width_of(kind);
+    let n = file.len() - w;
     let written = file_write::write(
         &file[..n],
         parts,
@@ -122,21 +125,31 @@ fn write_edited(
         fields,
         name,
         out,
+        kind,
+        w,
     );
     fields::clear(work);
     written
 }
 
 // What a sound record needs to be put: the place of its name and stage.
-fn plan_put(file: &[u8], parts: Parts, work: &mut [u8], name: &[u8], fields: Fields) -> Plan
-    requires { ⌜ Opened (now file) (now work) parts ⌝ }
-    ensures { λ r. ⌜ PlanFor (now (file .entry)) (now (work .entry)) parts Q.Put (now (name .entry)) fields (now (work .exit)) r ⌝ }
+fn plan_put(
+    kind: u32,
+    file: &[u8],
+    parts: Parts,
+    work: &mut [u8],
+    name: &[u8],
+    fields: Fields,
+) -> Plan
+    requires { ⌜ Opened kind (now file) (now work) parts ⌝ }
+    ensures { λ r. ⌜ PlanFor kind (now (file .entry)) (now (work .entry)) parts Q.Put (now (name .entry)) fields (now (work .exit)) r ⌝ }
 {
     let refusal = record_number(fields, name);
     if 0 < refusal {
         return Plan::Refused(refusal);
     }
-    let n = file.len() - 20;
+    let w = kinds::width_of(kind);
+    let n = file.len() - w;
     let place = find_place(
         &file[..n],
         parts.version,
@@ -144,17 +157,26 @@ fn plan_put(file: &[u8], parts: Parts, work: &mut [u8], name: &[u8], fields: Fie
         parts.count,
         name,
         fields.stage,
+        w,
     );
     Plan::Change(Edit::Put(place.before, place.there))
 }
 
 // The place of the entry that is to be removed; 18 where there is none.
-fn plan_remove(file: &[u8], parts: Parts, work: &mut [u8], name: &[u8], stage: u32) -> Plan
-    requires { ⌜ Opened (now file) (now work) parts ⌝ }
-    ensures { λ r. ⌜ ((fields : Fields) → fields .stage ≤ 3 → PlanFor (now (file .entry)) (now (work .entry)) parts (Q.Remove stage) (now (name .entry)) fields (now (work .exit)) r) ⌝ }
+fn plan_remove(
+    kind: u32,
+    file: &[u8],
+    parts: Parts,
+    work: &mut [u8],
+    name: &[u8],
+    stage: u32,
+) -> Plan
+    requires { ⌜ Opened kind (now file) (now work) parts ⌝ }
+    ensures { λ r. ⌜ ((fields : Fields) → fields .stage ≤ 3 → PlanFor kind (now (file .entry)) (now (work .entry)) parts (Q.Remove stage) (now (name .entry)) fields (now (work .exit)) r) ⌝ }
 {
-    let n = file.len() - 20;
-    let place = find_place(&file[..n], parts.version, work, parts.count, name, stage);
+    let w = kinds::width_of(kind);
+    let n = file.len() - w;
+    let place = find_place(&file[..n], parts.version, work, parts.count, name, stage, w);
     if place.there {
         return Plan::Change(Edit::Remove(place.before));
     }
@@ -163,6 +185,7 @@ fn plan_remove(file: &[u8], parts: Parts, work: &mut [u8], name: &[u8], stage: u
 
 // What a request changes in a file that was read, or why not.
 fn plan_for(
+    kind: u32,
     file: &[u8],
     parts: Parts,
     work: &mut [u8],
@@ -170,18 +193,19 @@ fn plan_for(
     name: &[u8],
     fields: Fields,
 ) -> Plan
-    requires { ⌜ Opened (now file) (now work) parts × RequestFits request (now name) fields ⌝ }
-    ensures { λ r. ⌜ PlanFor (now (file .entry)) (now (work .entry)) parts request (now (name .entry)) fields (now (work .exit)) r ⌝ }
+    requires { ⌜ Opened kind (now file) (now work) parts × RequestFits request (now name) fields ⌝ }
+    ensures { λ r. ⌜ PlanFor kind (now (file .entry)) (now (work .entry)) parts request (now (name .entry)) fields (now (work .exit)) r ⌝ }
 {
     match request {
         Request::Rewrite => Plan::Change(Edit::Keep),
-        Request::Put => plan_put(file, parts, work, name, fields),
-        Request::Remove(stage) => plan_remove(file, parts, work, name, stage),
+        Request::Put => plan_put(kind, file, parts, work, name, fields),
+        Request::Remove(stage) => plan_remove(kind, file, parts, work, name, stage),
     }
 }
 
 // A request on a file that was read. The workspace is cleared.
 fn save_read(
+    kind: u32,
     file: &[u8],
     parts: Parts,
     work: &mut [u8],
@@ -191,18 +215,18 @@ fn save_read(
     name: &[u8],
     fields: Fields,
 ) -> Written
-    requires { ⌜ Opened (now file) (now work) parts × (now work ≡ cleared (now work)) × RequestFits request (now name) fields ⌝ }
-    ensures { λ r. ⌜ Writes (requested (readFile 20 sha1 (now (file .entry))) (requestOf request (now (name .entry)) fields asked (length (now (out .entry))))) (now (out .entry)) (now (work .entry)) (now (out .exit)) (now (work .exit)) r ⌝ }
+    requires { ⌜ Opened kind (now file) (now work) parts × (now work ≡ cleared (now work)) × RequestFits request (now name) fields ⌝ }
+    ensures { λ r. ⌜ Writes (requested (readKind kind (now (file .entry))) (requestOf kind request (now (name .entry)) fields asked (length (now (out .entry))))) (now (out .entry)) (now (work .entry)) (now (out .exit)) (now (work .exit)) r ⌝ }
 {
     if asked_ok(asked) {
-        let plan = plan_for(file, parts, &mut *work, request, name, fields);
+        let plan = plan_for(kind, file, parts, &mut *work, request, name, fields);
         match plan {
             Plan::Refused(n) => {
                 fields::clear(work);
                 return Written::Refused(n, 0);
             }
             Plan::Change(edit) => {
-                return write_edited(file, parts, work, out, asked, edit, fields, name);
+                return write_edited(kind, file, parts, work, out, asked, edit, fields, name);
             }
         }
     }
@@ -211,6 +235,7 @@ fn save_read(
 
 // A request on a file: what rewrite, put and remove have in common.
 fn save(
+    kind: u32,
     file: &[u8],
     work: &mut [u8],
     out: &mut [u8],
@@ -220,26 +245,36 @@ fn save(
     fields: Fields,
 ) -> Written
     requires { ⌜ RequestFits request (now name) fields ⌝ }
-    ensures { λ r. ⌜ Writes (requested (inRoom (now (work .entry)) (readFile 20 sha1 (now (file .entry)))) (requestOf request (now (name .entry)) fields asked (length (now (out .entry))))) (now (out .entry)) (now (work .entry)) (now (out .exit)) (now (work .exit)) r ⌝ }
+    ensures { λ r. ⌜ Writes (requested (inRoom (now (work .entry)) (readKind kind (now (file .entry)))) (requestOf kind request (now (name .entry)) fields asked (length (now (out .entry))))) (now (out .entry)) (now (work .entry)) (now (out .exit)) (now (work .exit)) r ⌝ }
 {
-    let whole = read_cleared(file, &mut *work);
+    let whole = read_cleared(file, &mut *work, kind);
     match whole {
         Whole::Bad(n, p) => Written::Refused(n, p),
-        Whole::Good(parts) => save_read(file, parts, work, out, asked, request, name, fields),
+        Whole::Good(parts) => save_read(kind, file, parts, work, out, asked, request, name, fields),
     }
 }
 
 // ---- the calls
 
 // The same records in a version: 2, 3, 4, or 0 for 2 where no record needs the extended word, else 3.
-pub fn rewrite(file: &[u8], work: &mut [u8], out: &mut [u8], asked: u32) -> Written
-    ensures { λ r. ⌜ Saves (now (file .entry)) asked (λ q. q) (rewriteAnswer 20 sha1 (now (work .entry)) asked (length (now (out .entry))) (readFile 20 sha1 (now (file .entry)))) (now (out .entry)) (now (work .entry)) (now (out .exit)) (now (work .exit)) r ⌝ }
+pub fn rewrite(kind: u32, file: &[u8], work: &mut [u8], out: &mut [u8], asked: u32) -> Written
+    ensures { λ r. ⌜ Saves kind (now (file .entry)) asked (λ q. q) (rewriteAnswer (widthOf kind) (hashOf kind) (now (work .entry)) asked (length (now (out .entry))) (readKind kind (now (file .entry)))) (now (out .entry)) (now (work .entry)) (now (out .exit)) (now (work .exit)) r ⌝ }
 {
-    save(file, work, out, asked, Request::Rewrite, b"", no_fields())
+    save(
+        kind,
+        file,
+        work,
+        out,
+        asked,
+        Request::Rewrite,
+        b"",
+        no_fields(),
+    )
 }
 
 // The records with this one in place of the entry of its name and stage, or inserted.
 pub fn put(
+    kind: u32,
     file: &[u8],
     work: &mut [u8],
     out: &mut [u8],
@@ -247,14 +282,15 @@ pub fn put(
     name: &[u8],
     fields: Fields,
 ) -> Written
-    ensures { λ r. ⌜ Saves (now (file .entry)) asked (putRecord 20 (entryWith fields (now (name .entry)))) (putAnswer 20 sha1 (now (work .entry)) asked (entryWith fields (now (name .entry))) (length (now (out .entry))) (readFile 20 sha1 (now (file .entry)))) (now (out .entry)) (now (work .entry)) (now (out .exit)) (now (work .exit)) r ⌝ }
+    ensures { λ r. ⌜ Saves kind (now (file .entry)) asked (putRecord (widthOf kind) (entryWith (widthOf kind) fields (now (name .entry)))) (putAnswer (widthOf kind) (hashOf kind) (now (work .entry)) asked (entryWith (widthOf kind) fields (now (name .entry))) (length (now (out .entry))) (readKind kind (now (file .entry)))) (now (out .entry)) (now (work .entry)) (now (out .exit)) (now (work .exit)) r ⌝ }
 {
     typed(fields);
-    save(file, work, out, asked, Request::Put, name, fields)
+    save(kind, file, work, out, asked, Request::Put, name, fields)
 }
 
 // The records without the entry of this name and stage.
 pub fn remove(
+    kind: u32,
     file: &[u8],
     work: &mut [u8],
     out: &mut [u8],
@@ -262,9 +298,10 @@ pub fn remove(
     name: &[u8],
     stage: u32,
 ) -> Written
-    ensures { λ r. ⌜ Saves (now (file .entry)) asked (removeRecord 20 (record { name = now (name .entry); stage = stage })) (removeAnswer 20 sha1 (now (work .entry)) asked (record { name = now (name .entry); stage = stage }) (length (now (out .entry))) (readFile 20 sha1 (now (file .entry)))) (now (out .entry)) (now (work .entry)) (now (out .exit)) (now (work .exit)) r ⌝ }
+    ensures { λ r. ⌜ Saves kind (now (file .entry)) asked (removeRecord (widthOf kind) (record { name = now (name .entry); stage = stage })) (removeAnswer (widthOf kind) (hashOf kind) (now (work .entry)) asked (record { name = now (name .entry); stage = stage }) (length (now (out .entry))) (readKind kind (now (file .entry)))) (now (out .entry)) (now (work .entry)) (now (out .exit)) (now (work .exit)) r ⌝ }
 {
     save(
+        kind,
         file,
         work,
         out,

@@ -24,7 +24,7 @@ returns : tie.Need-returns
 returns c =
     let st = c .before .before .before .before .before in
     let fits = rw (c .enum-told .given .1) at (st .pre .1) in
-    rw (c .enum-told .given .1) (record { frame = frame-same _; is = plan-keep _ _ _ (st .pre .0) _ _ (fits .0) (fits .1) })
+    rw (c .enum-told .given .1) (record { frame = frame-same _; is = plan-keep _ _ _ _ (st .pre .0) _ _ (fits .0) (fits .1) })
 
 same-length : tie.Need-same-length
 same-length c = search needs

@@ -1,8 +1,9 @@
 -- The proof that `put` meets its contract.
 use mathlib.Core.Path.{refl}
 use native.Mathlib.Omega.{arith}
-use Rattle.hash.specs.Sha1.{sha1}
-use Rattle.hash.proofs.Bytes.{length-sha1}
+use lib.Seq.{length-take-le}
+use Rattle.kinds.specs.Kinds.{widthOf}
+use Rattle.kinds.proofs.Laws.{width-most}
 use Rattle.entries.specs.Record.{entryWith}
 use Rattle.answers.specs.Writing.{putAnswer}
 use Rattle.demands.proofs.Written.{put-in}
@@ -32,8 +33,8 @@ returns c =
     record {
       writes = r .save .ensures;
       back =
-          put-in 20 sha1 (a .work .now) length-sha1 (a .file .now) (a .asked) _ (λ i. omega (arith, k .shared-slice-known .given i)) (entryWith (a .fields) (a .name .now)) refl (t .typed .ensures .numbers)
-          (t .typed .ensures .object);
+          put-in (a .kind) (a .work .now) (a .file .now) (a .asked) _ (λ i. omega (arith, k .shared-slice-known .given i)) (entryWith (widthOf (a .kind)) (a .fields) (a .name .now)) refl (t .typed .ensures .numbers)
+          (length-take-le (widthOf (a .kind)) (a .fields .object) (omega (arith, width-most (a .kind), t .typed .ensures .object)));
     }
 
 pub put-spec : {M : Type 1} → statement M

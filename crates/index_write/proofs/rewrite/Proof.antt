@@ -1,7 +1,5 @@
 -- The proof that `rewrite` meets its contract.
 use native.Mathlib.Omega.{arith}
-use Rattle.hash.specs.Sha1.{sha1}
-use Rattle.hash.proofs.Bytes.{length-sha1}
 use Rattle.answers.specs.Writing.{rewriteAnswer}
 use Rattle.demands.proofs.Written.{rewritten}
 use borrow.Author.Needs.{needs}
@@ -29,7 +27,7 @@ returns c =
     let r = c .before .before .before .before in
     let k = r .before .before .before .before .before .before .before in
     let a = k .before .args in
-    record { writes = r .save .ensures; back = rewritten 20 sha1 (a .work .now) length-sha1 (a .file .now) (a .asked) _ (λ i. omega (arith, k .shared-slice-known .given i)) }
+    record { writes = r .save .ensures; back = rewritten (a .kind) (a .work .now) (a .file .now) (a .asked) _ (λ i. omega (arith, k .shared-slice-known .given i)) }
 
 pub rewrite-spec : {M : Type 1} → statement M
 rewrite-spec =

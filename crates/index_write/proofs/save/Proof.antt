@@ -1,8 +1,8 @@
 -- The proof that `save` meets its contract.
-use Rattle.format.specs.Reader.{readFile}
-use Rattle.hash.specs.Sha1.{sha1}
+use Rattle.format.specs.Places.{bodyIn}
+use Rattle.kinds.specs.Kinds.{widthOf, readKind}
 use Rattle.answers.specs.Answers.{inRoom}
-use Rattle.file_read.specs.Contents.{bodyOf, Contains}
+use Rattle.file_read.specs.Contents.{Contains}
 use Rattle.index_write.proofs.Answers.{call-refused, call-opened, call-answered}
 use borrow.Author.Needs.{needs}
 use Rattle.index_write.proofs.save.Statement.{statement}
@@ -12,7 +12,7 @@ use Rattle.index_write.proofs.save.Tie as tie
 accepted :
     (c : tie.After-whole2) →
     let a = c .before .before .before .before .before .before .before .before .before .before .args in
-    Contains (inRoom (a .work .now) (readFile 20 sha1 (a .file .now))) (bodyOf (a .file .now)) (c .whole2 .given .0 .0)
+    Contains (widthOf (a .kind)) (inRoom (a .work .now) (readKind (a .kind) (a .file .now))) (bodyIn (widthOf (a .kind)) (a .file .now)) (c .whole2 .given .0 .0)
 accepted c = rw (c .whole2 .given .1) at (c .before .before .before .before .read-cleared .ensures .0)
 
 read-cleared-requires : tie.Need-read-cleared-requires
@@ -28,7 +28,7 @@ save-read-requires : tie.Need-save-read-requires
 save-read-requires c κs =
     let w = c .before .before .before in
     let q = w .before .before .before .before in
-    let o = call-opened _ _ _ (q .read-cleared .ensures .1) _ (accepted w) in
+    let o = call-opened _ _ _ _ (q .read-cleared .ensures .1) _ (accepted w) in
     (o .0, o .1, q .before .before .before .before .before .before .pre)
 
 same-length : tie.Need-same-length
@@ -37,7 +37,7 @@ same-length c = search needs
 returns : tie.Need-returns
 returns c =
     let q = c .before .before .before .before .before in
-    call-refused _ _ _ (q .read-cleared .ensures .1) _ _ _ _ (rw (c .before .whole .given .1) at (q .read-cleared .ensures .0))
+    call-refused _ _ _ _ (q .read-cleared .ensures .1) _ _ _ _ (rw (c .before .whole .given .1) at (q .read-cleared .ensures .0))
 
 same-length-2 : tie.Need-same-length-2
 same-length-2 c = search needs
@@ -50,7 +50,7 @@ returns-2 c =
     let r = c .before .before .before .before in
     let w = r .before .before .before .before in
     let q = w .before .before .before .before in
-    call-answered _ _ _ (q .read-cleared .ensures .1) _ (accepted w) _ _ _ _ _ (r .save-read .ensures)
+    call-answered _ _ _ _ (q .read-cleared .ensures .1) _ (accepted w) _ _ _ _ _ (r .save-read .ensures)
 
 pub save-spec : {M : Type 1} → statement M
 save-spec =

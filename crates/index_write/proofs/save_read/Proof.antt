@@ -1,7 +1,6 @@
 -- The proof that `save_read` meets its contract.
 use mathlib.Core.Path.{sym, _∙_}
-use Rattle.format.specs.Reader.{readFile}
-use Rattle.hash.specs.Sha1.{sha1}
+use Rattle.kinds.specs.Kinds.{readKind}
 use Rattle.answers.proofs.Laws.{cleared-same}
 use Rattle.file_read.proofs.Room.{cleared-by}
 use Rattle.index_write.proofs.Answers.{writes-bad, writes-as}
@@ -68,7 +67,7 @@ returns-3 : tie.Need-returns-3
 returns-3 c =
     let st = c .before .before .before .before .before .before in
     let h = st .pre .0 .contains in
-    writes-bad _ 4 0 _ _ _ (request-refused (st .args .request) (readFile 20 sha1 (st .args .file .now)) (h .contents) (h .taken) (h .read) _ _ _ _ (sym (c .before .asked-ok .ensures) ∙ c .if1 .left)) (st .pre .1)
+    writes-bad _ 4 0 _ _ _ (request-refused (st .args .kind) (st .args .request) (readKind (st .args .kind) (st .args .file .now)) (h .contents) (h .taken) (h .read) _ _ _ _ (sym (c .before .asked-ok .ensures) ∙ c .if1 .left)) (st .pre .1)
 
 pub save-read-spec : {M : Type 1} → statement M
 save-read-spec =
