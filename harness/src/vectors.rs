@@ -1,6 +1,6 @@
 //! The vectors of `tests/vectors`, and folders like it: files that are made and answered by other programs.
 
-use crate::ffi::CheckReply;
+use crate::replies::CheckReply;
 use std::fs;
 use std::path::{Path, PathBuf};
 

@@ -7,6 +7,7 @@
 #![deny(warnings)]
 
 use harness::deepest;
+use harness::kind::Kind;
 use std::path::Path;
 use std::process::exit;
 use std::{env, fs, io};
@@ -14,7 +15,7 @@ use std::{env, fs, io};
 fn write(folder: &Path) -> io::Result<()> {
     fs::create_dir_all(folder)?;
     let mut rows = String::new();
-    for (number, file) in deepest::files().iter().enumerate() {
+    for (number, file) in deepest::files(Kind::Sha1).iter().enumerate() {
         let name = format!("{number:03}.index");
         fs::write(folder.join(&name), &file.case.bytes)?;
         rows += &format!("{}\t{name}\t{}\n", file.levels, file.case.name);
