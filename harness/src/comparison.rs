@@ -7,7 +7,7 @@ use crate::inputs::requests::Call;
 use crate::kind::{Kind, Object};
 use crate::lent::{Edge, Lent, Place};
 use crate::opponent;
-use crate::replies::{CheckReply, EntryReply, NodeReply, StartReply, StepReply};
+use crate::replies::{CheckReply, EntryReply, Name, NodeReply, StartReply, StepReply};
 use crate::replies::{UndoReply, WriteReply, WORKSPACE};
 
 /// The refusal after which a workspace is as it was.
@@ -160,20 +160,24 @@ impl Comparison {
         Ok(())
     }
 
-    /// The output of the last call, which wrote the given number of bytes.
+    /// The output of the last call, which wrote the given number of bytes: that of both, where both were called.
     pub fn written(&self, length: usize) -> &[u8] {
-        &self.ours.out.bytes()[..length]
+        &self.theirs.out.bytes()[..length]
+    }
+
+    /// A name that the last call showed, likewise.
+    pub fn shown(&self, name: Name) -> &[u8] {
+        let buffer = match name.buffer {
+            2 => self.theirs.work.bytes(),
+            _ => self.file.bytes(),
+        };
+        &buffer[name.offset..name.offset + name.length]
     }
 
     /// Makes a call of the independent library alone, with a workspace and an output of these lengths.
     pub fn independent(&mut self, kind: u32, call: &Call, work: usize, room: usize) -> Reply {
         self.blank(work, room);
         self.theirs_of(kind, call)
-    }
-
-    /// What the independent library then has in its output.
-    pub fn their_output(&self, length: usize) -> &[u8] {
-        &self.theirs.out.bytes()[..length]
     }
 
     /// Makes a call to both, with workspaces and outputs of these lengths, and compares all.

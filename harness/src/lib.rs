@@ -13,6 +13,7 @@ pub mod index_file;
 pub mod inputs;
 pub mod kind;
 pub mod lent;
+pub mod listing;
 pub mod opponent;
 pub mod plain;
 pub mod random;
