@@ -45,7 +45,9 @@ fn main() {
     let run = match Run::new(&env::args().skip(1).collect::<Vec<_>>()) {
         Some(run) => run,
         None => {
-            eprintln!("usage: compare [--heap] [SEED [COUNT [FIRST]]], or compare --files FOLDER [KIND]");
+            eprintln!(
+                "usage: compare [--heap] [SEED [COUNT [FIRST]]], or compare --files FOLDER [KIND]"
+            );
             exit(2);
         }
     };
@@ -411,10 +413,7 @@ impl Counts {
     }
 
     fn print(&self) {
-        println!(
-            "{:>16}  {:>9}  {:>9}  kind",
-            "shape", "inputs", "accepted"
-        );
+        println!("{:>16}  {:>9}  {:>9}  kind", "shape", "inputs", "accepted");
         for ((kind, shape), (inputs, accepted)) in &self.inputs {
             let (shape, kind) = (format!("{shape:?}"), kind.name());
             println!("{shape:>16}  {inputs:>9}  {accepted:>9}  {kind}");

@@ -257,7 +257,8 @@ pub fn extensions(kind: Kind) -> Vec<Case> {
         for undo in undos.clone() {
             let with_tree = [Some(tree.clone()), undo.clone()];
             for known in [with_tree, [None, undo]] {
-                cases.extend(kept_and_dropped(kind, 
+                cases.extend(kept_and_dropped(
+                    kind,
                     version,
                     known.into_iter().flatten().collect(),
                 ));

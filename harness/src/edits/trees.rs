@@ -94,7 +94,11 @@ pub fn parts(kind: Kind) -> Vec<Case> {
         removing_on(&before, b"a/d/e", 0, &[b""]),
     ];
     let mut cases = in_versions("part of a tree", &before, &changes, &ASKED);
-    cases.extend([1, 2, 127, 128].into_iter().flat_map(|count| levels(kind, count)));
+    cases.extend(
+        [1, 2, 127, 128]
+            .into_iter()
+            .flat_map(|count| levels(kind, count)),
+    );
     cases
 }
 

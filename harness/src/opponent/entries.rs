@@ -150,12 +150,7 @@ impl<'a> Before<'a> {
 }
 
 /// The entry of version 2 or 3 at a place and the place after it.
-pub fn entry_at(
-    kind: Kind,
-    body: &[u8],
-    version: u32,
-    at: usize,
-) -> Result<(Item, usize), u32> {
+pub fn entry_at(kind: Kind, body: &[u8], version: u32, at: usize) -> Result<(Item, usize), u32> {
     let (start, flags) = head(kind, body, version, at)?;
     plain(body, at, start, flags)
 }

@@ -175,7 +175,8 @@ fn edit(
     asked: u32,
     change: Option<Change>,
 ) -> WriteReply {
-    let written = open(kind, file, work).and_then(|contents| write::edit(contents, out, asked, change));
+    let opened = open(kind, file, work);
+    let written = opened.and_then(|contents| write::edit(contents, out, asked, change));
     match written {
         Ok(length) => WriteReply {
             length,
@@ -234,12 +235,7 @@ fn show_record(file: &[u8], contents: &Contents, k: u32) -> Result<UndoReply, Re
 }
 
 /// The entry at a place of a file of version 2 or 3, with the place after it.
-fn step(
-    kind: u32,
-    file: &[u8],
-    at: usize,
-    left: u32,
-) -> Result<(Name, Fields, usize), Refusal> {
+fn step(kind: u32, file: &[u8], at: usize, left: u32) -> Result<(Name, Fields, usize), Refusal> {
     let kind = kind_of(kind)?;
     let absent = |_| Refusal::absent();
     let (version, _) = whole::header(kind, file).map_err(absent)?;

@@ -3,8 +3,7 @@
 use std::cmp::Ordering;
 
 use super::entries::{
-    padded, ASSUME_VALID, EXTENDED, HEADER, INTENT_TO_ADD, LONG, MODES, SKIP_WORKTREE,
-    STAGE_SHIFT,
+    padded, ASSUME_VALID, EXTENDED, HEADER, INTENT_TO_ADD, LONG, MODES, SKIP_WORKTREE, STAGE_SHIFT,
 };
 use super::names::{common, sound};
 use super::refusal::{self, Refusal};

@@ -55,7 +55,9 @@ impl Request {
 pub type Call = (&'static str, fn(&mut Request) -> usize);
 
 pub const CALLS: [Call; 10] = [
-    ("check", |r| depth(|| ffi::check(r.kind.number(), &r.file, &mut r.work))),
+    ("check", |r| {
+        depth(|| ffi::check(r.kind.number(), &r.file, &mut r.work))
+    }),
     ("entry", |r| {
         let k = r.counts.entries.saturating_sub(1);
         depth(|| ffi::entry(r.kind.number(), &r.file, &mut r.work, k))
@@ -85,7 +87,17 @@ pub const CALLS: [Call; 10] = [
         })
     }),
     ("remove", |r| {
-        depth(|| ffi::remove(r.kind.number(), &r.file, &mut r.work, &mut r.out, r.asked, &r.old, 0))
+        depth(|| {
+            ffi::remove(
+                r.kind.number(),
+                &r.file,
+                &mut r.work,
+                &mut r.out,
+                r.asked,
+                &r.old,
+                0,
+            )
+        })
     }),
     ("walk_start", |r| {
         depth(|| ffi::walk_start(r.kind.number(), &r.file, &mut r.work))

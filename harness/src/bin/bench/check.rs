@@ -91,10 +91,7 @@ fn measure(hash: &Hash, version: u32, most_bytes: usize) -> Result<Vec<Row>, Str
                 most_bytes,
             }
             .lay_out();
-            let name = format!(
-                "{}, version {version}, {shape}, {order_name}",
-                kind.name()
-            );
+            let name = format!("{}, version {version}, {shape}, {order_name}", kind.name());
             progress("check", &format!("{name}, {:.0} MiB", mib(file.len())));
             let [ours, simple, our_hash, plain_hash] = medians(hash, &file)?;
             rows.push(Row {

@@ -60,7 +60,9 @@ fn any_entry(file: &[u8], names: &[Vec<u8>]) -> Result<[f64; 4], String> {
     };
     timing::alternate(
         [
-            &mut || accepted.set(ffi::check(KIND.number(), file, &mut work.borrow_mut()).refusal == 0),
+            &mut || {
+                accepted.set(ffi::check(KIND.number(), file, &mut work.borrow_mut()).refusal == 0)
+            },
             &mut || entry(0),
             &mut || entry(ENTRIES / 2),
             &mut || entry(ENTRIES - 1),

@@ -56,7 +56,14 @@ fn medians(hash: &Hash, length: usize, messages: usize) -> Result<[f64; 2], Stri
     let times = timing::alternate(
         [
             &mut || ours.set(chain(|m| hash.digest(m), width, &mut our_message, messages)),
-            &mut || plain.set(chain(|m| hash.kind.hash(m), width, &mut plain_message, messages)),
+            &mut || {
+                plain.set(chain(
+                    |m| hash.kind.hash(m),
+                    width,
+                    &mut plain_message,
+                    messages,
+                ))
+            },
         ],
         || timing::same("digests", ours.get(), plain.get()),
     )?;

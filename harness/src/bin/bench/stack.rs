@@ -46,7 +46,9 @@ type Deepest = Vec<(usize, String)>;
 fn deepest() -> Result<(Deepest, Deepest), String> {
     let mut any = vec![(0, String::new()); CALLS.len()];
     let mut shallow = any.clone();
-    let files = KINDS.iter().flat_map(|&kind| files(kind).into_iter().map(move |file| (kind, file)));
+    let files = KINDS
+        .iter()
+        .flat_map(|&kind| files(kind).into_iter().map(move |file| (kind, file)));
     for (kind, file) in files {
         let name = named(kind, &file.case.name);
         progress("stack", &name);
