@@ -107,7 +107,7 @@ def hand_written(report: Report) -> None:
     file = with_checksum(bytes.fromhex("44495243 00000002 00000000") + b"REUC\0\0\0\x3d" + undo)
     expected = index_reader.Undo(b"plan", (0o100644, 0, 0o100644), (b"\x44" * 20, bytes(20), b"\x66" * 20))
     report.same("resolve undo", [expected], index_reader.undo(file))
-    report.same("resolve undo, as made", file, listed["document/resolve-undo-of-61-bytes"])
+    report.same("resolve undo, as made", file, listed["document/resolve-undo"])
 
     tree = b"\x003 1\n" + b"\x33" * 20 + b"a\x002 0\n" + b"\x34" * 20
     report.same("cache tree: length", 51, len(tree))
