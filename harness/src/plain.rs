@@ -144,21 +144,17 @@ const K: [u32; 64] = [
 /// The hash value after one more block (6.2.2).
 fn compress_256(state: [u32; 8], block: &[u8]) -> [u32; 8] {
     let w = schedule_256(block);
-    let mut s = state;
-    for (&k, word) in K.iter().zip(w) {
-        s = round_256(s, k, word);
+    let [mut a, mut b, mut c, mut d, mut e, mut f, mut g, mut h] = state;
+    for t in 0..64 {
+        let sum = e.rotate_right(6) ^ e.rotate_right(11) ^ e.rotate_right(25);
+        let t1 = h.wrapping_add(sum).wrapping_add(ch(e, f, g));
+        let t1 = t1.wrapping_add(K[t]).wrapping_add(w[t]);
+        let sum = a.rotate_right(2) ^ a.rotate_right(13) ^ a.rotate_right(22);
+        let t2 = sum.wrapping_add(maj(a, b, c));
+        (h, g, f, e) = (g, f, e, d.wrapping_add(t1));
+        (d, c, b, a) = (c, b, a, t1.wrapping_add(t2));
     }
-    sums(s, state)
-}
-
-/// One round (6.2.2, step 3) with its constant.
-fn round_256([a, b, c, d, e, f, g, h]: [u32; 8], k: u32, word: u32) -> [u32; 8] {
-    let sum = e.rotate_right(6) ^ e.rotate_right(11) ^ e.rotate_right(25);
-    let t1 = h.wrapping_add(sum).wrapping_add(ch(e, f, g));
-    let t1 = t1.wrapping_add(k).wrapping_add(word);
-    let sum = a.rotate_right(2) ^ a.rotate_right(13) ^ a.rotate_right(22);
-    let t2 = sum.wrapping_add(maj(a, b, c));
-    [t1.wrapping_add(t2), a, b, c, d.wrapping_add(t1), e, f, g]
+    sums([a, b, c, d, e, f, g, h], state)
 }
 
 fn schedule_256(block: &[u8]) -> [u32; 64] {
