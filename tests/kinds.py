@@ -24,4 +24,7 @@ PROVED = (SHA1,)
 
 def by_number(text: str) -> Kind:
     """The kind of a number that is given as an argument."""
-    return next(kind for kind in ALL if kind.number == int(text))
+    for kind in ALL:
+        if kind.number == int(text):
+            return kind
+    raise ValueError(f"{text} is no kind")

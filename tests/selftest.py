@@ -53,6 +53,10 @@ def vectors(report: Report) -> None:
         report.same(f"{case.name}: check", case.answer, index_reader.check(case.data))
         wrong = run_listing.problem(case, index_reader.listing)
         report.test(f"{case.name}: listing", wrong is None, *(wrong or ()))
+    for line in run_listing.load("sha256", "expected.tsv").decode().splitlines():
+        name, answer = line.split("\t")
+        data = run_listing.load("sha256", name)
+        report.same(f"sha256/{name}: check", run_listing.parse_answer(answer), index_reader.check(data, kind=SHA256))
 
 
 def made_files(report: Report) -> None:

@@ -208,8 +208,8 @@ impl Comparison {
         Ok(reply)
     }
 
-    /// Makes a call of the proved library with a kind that it does not take, and sees that it is refused with 29, or with 19
-    /// where it takes a workspace and this is too short. Answers the refusal, none where the call takes no kind.
+    /// Makes a call of the proved library with a kind that it does not take, and sees that it is refused with 29, or with
+    /// 19 where it takes a workspace and this is too short. Answers the refusal, none where the call takes no kind.
     pub fn unknown_kind(
         &mut self,
         kind: u32,

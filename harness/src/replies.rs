@@ -1,5 +1,5 @@
-//! The replies of both libraries as values. They have room for the object names of any kind. `refusal` is 0 of a success;
-//! all that does not apply is 0 or false: on a refusal, all but its number and its place.
+//! The replies of both libraries as values, with room for the object names of any kind. `refusal` is 0 of a success; all
+//! that does not apply is 0 or false: on a refusal, all but its number and its place.
 
 use crate::kind::Object;
 

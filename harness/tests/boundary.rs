@@ -28,8 +28,10 @@ answers!(by_harness, ffi);
 
 /// The vectors and some drawn inputs, each with calls of every sort.
 fn questions() -> impl Iterator<Item = (Input, Vec<Call>)> {
-    let stored = vectors::all().into_iter();
-    let stored = stored.map(|vector| inputs::stored(Kind::Sha1, &vector.file));
+    let stored = KINDS.iter().flat_map(|&kind| {
+        let vectors = vectors::all(kind).into_iter();
+        vectors.map(move |vector| inputs::stored(kind, &vector.file))
+    });
     let drawn = (0..DRAWN).map(|number| inputs::input(11, number));
     stored.chain(drawn).zip(0..).map(|(input, number)| {
         let checked = opponent::check(input.kind.number(), &input.bytes, &mut vec![0; WORKSPACE]);

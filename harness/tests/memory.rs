@@ -5,10 +5,10 @@
 use harness::boundary::Boundary;
 use harness::ffi::HASHES;
 use harness::inputs::requests::Call;
-use harness::kind::Kind;
+use harness::kind::{Kind, KINDS};
 use harness::lent::{Edge, Lent, Place};
 use harness::replies::{Fields, WORKSPACE};
-use harness::{inputs, vectors};
+use harness::vectors;
 use nerupazhil::raw::{self, SHA1};
 use std::env;
 use std::os::unix::process::ExitStatusExt;
@@ -21,9 +21,6 @@ const CHILD: &str = "NERUPAZHIL_STEP_OUTSIDE";
 const SIGSEGV: i32 = 11;
 /// More bytes than a vector has or is written with.
 const ROOM: usize = 1 << 20;
-/// How many inputs are drawn, and below how many bytes they are short.
-const DRAWN: u64 = 500;
-const SHORT: usize = 2000;
 
 // ---- the calls
 
@@ -123,20 +120,11 @@ impl Lending {
     }
 }
 
-/// The vectors, and short drawn files of other kinds.
-fn files() -> impl Iterator<Item = (Kind, Vec<u8>)> {
-    let stored = vectors::all().into_iter();
-    let stored = stored.map(|vector| (Kind::Sha1, vector.file));
-    let drawn = (0..DRAWN).map(|number| inputs::input(13, number));
-    let drawn = drawn.map(|input| (input.kind, input.bytes));
-    let others = drawn.filter(|(kind, file)| *kind != Kind::Sha1 && file.len() < SHORT);
-    stored.chain(others)
-}
-
 #[track_caller]
 fn every_call_stays_within(edge: Edge) {
     let mut lending = Lending::new(edge);
-    for (kind, file) in files() {
+    let vectors = |&kind| vectors::all(kind).into_iter().map(move |v| (kind, v.file));
+    for (kind, file) in KINDS.iter().flat_map(vectors) {
         lending.kind = kind;
         lending.file.read_only(&file, edge);
         lending.calls_that_read();

@@ -8,7 +8,7 @@ use harness::kind::Kind;
 use harness::listing::{self, refused};
 use harness::opponent;
 use harness::replies::{Fields, Name, StepReply, WORKSPACE};
-use harness::vectors::words;
+use harness::vectors::{self, words};
 
 mod cases;
 mod comparison;
@@ -108,15 +108,13 @@ fn listing(kind: Kind, file: &[u8]) -> String {
 
 #[test]
 fn stored_files_are_answered_as_stored() {
-    let table = fs::read_to_string(format!("{VECTORS}/expected.tsv")).unwrap();
-    for row in table.lines() {
-        let (name, expected) = row.split_once('\t').unwrap();
-        let file = fs::read(format!("{VECTORS}/{name}")).unwrap();
-        assert_eq!(check(Kind::Sha1, &file), expected, "{name}");
-        assert!(
-            check(Kind::Sha256, &file).starts_with("refused"),
-            "{name} as SHA-256"
-        );
+    for (kind, other) in [(Kind::Sha1, Kind::Sha256), (Kind::Sha256, Kind::Sha1)] {
+        for vector in vectors::all(kind) {
+            let (name, file) = (vector.name, vector.file);
+            assert_eq!(check(kind, &file), vector.expected, "{name}");
+            let otherwise = check(other, &file);
+            assert!(otherwise.starts_with("refused"), "{name}: {otherwise}");
+        }
     }
 }
 

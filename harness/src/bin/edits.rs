@@ -4,8 +4,9 @@
 //!
 //!     edits [DRAWN [FIRST]]
 //!
-//! takes the cases without chance, those on large files, and those of DRAWN drawn files from number FIRST on, all of each
-//! kind of object names: 200 and 0 where they are not told. The last line is 'N passed, M failed', and the exit status is 0 only where M is 0.
+//! takes the cases without chance, those on large files, and those of DRAWN drawn files from number FIRST on: 200 and 0
+//! where they are not told. Each kind of object names has all of them. The last line is 'N passed, M failed', and the exit
+//! status is 0 only where M is 0.
 
 #![deny(warnings)]
 

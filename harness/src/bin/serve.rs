@@ -1,6 +1,6 @@
 //! Answers requests to list, rewrite and edit index files; `tests/edit_requests.py` says how they are spelled. Each is
-//! answered by the proved library and by the independent one: the program ends with status 1 where these differ or a call
-//! did more than it may.
+//! answered by the proved library and by the independent one: the program ends with status 1 where these differ or a
+//! call did more than it may.
 //!
 //!     serve [--independent]
 //!

@@ -2,8 +2,8 @@
 //!
 //!     stack_files FOLDER
 //!
-//! The folder's files.tsv has a line for each file: how many levels its tree has at most, the file, the number of its kind
-//! of object names, what it is.
+//! The folder's files.tsv has a line for each file: how many levels its tree has at most, the file, the number of its
+//! kind of object names, what it is.
 
 #![deny(warnings)]
 

@@ -1,14 +1,13 @@
 //! A first comparison of the plain library with the proved one: every call, and all that it may write.
 
 use std::fmt::Debug;
-use std::fs;
 
 use harness::index_file::{letters, list_entry, node, object, File, LARGEST};
 use harness::kind::{Kind, KINDS};
 use harness::replies::{Fields, StepReply, WORKSPACE};
-use harness::{ffi, opponent};
+use harness::{ffi, opponent, vectors};
 
-use super::{cases, extend, index, put, workspace, VECTORS};
+use super::{cases, extend, index, put, workspace};
 
 /// Makes the same call of both libraries. `work` and `out` are what is lent, an output of the given number of bytes.
 macro_rules! both {
@@ -186,10 +185,10 @@ fn small_files() -> Vec<(Kind, Vec<u8>)> {
 
 #[test]
 fn stored_files() {
-    let table = fs::read_to_string(format!("{VECTORS}/expected.tsv")).unwrap();
-    for row in table.lines() {
-        let (name, _) = row.split_once('\t').unwrap();
-        all_calls(Kind::Sha1, &fs::read(format!("{VECTORS}/{name}")).unwrap());
+    for &kind in KINDS {
+        for vector in vectors::all(kind) {
+            all_calls(kind, &vector.file);
+        }
     }
 }
 
