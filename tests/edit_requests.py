@@ -7,10 +7,10 @@ A request is a line of words, then the bytes of the file, then those of the name
     put KIND FILE NAME ASKED ROOM STAGE NUMBERS OBJECT ASSUME SKIP INTENT
     remove KIND FILE NAME ASKED ROOM STAGE
 
-KIND is the number of the kind of object names, FILE and NAME are numbers of bytes, ASKED is the version asked for, ROOM the length of the output. NUMBERS are the
-entry's ten numbers in the file's order, OBJECT is in hex, the last three words are 0 or 1. Numbers are decimal and
-below 2^32. A listing has no name, and takes no version and no output. An answer is a line, after 'done' with N bytes
-behind it, which are the new file or the listing:
+KIND is the number of the kind of object names, FILE and NAME are numbers of bytes, ASKED is the version asked for, ROOM
+the length of the output. NUMBERS are the entry's ten numbers in the file's order, OBJECT is in hex, the last three words
+are 0 or 1. Numbers are decimal and below 2^32. A listing has no name, and takes no version and no output. An answer is a
+line, after 'done' with N bytes behind it, which are the new file or the listing:
 
     done N
     refused NUMBER PLACE
@@ -74,7 +74,8 @@ class Session:
 
     def __init__(self, path: str, *options: str):
         self.errors = tempfile.TemporaryFile()
-        self.child = subprocess.Popen([path, *options], stdin=subprocess.PIPE, stdout=subprocess.PIPE, stderr=self.errors)
+        command, pipe = [path, *options], subprocess.PIPE
+        self.child = subprocess.Popen(command, stdin=pipe, stdout=pipe, stderr=self.errors)
         self.failed = False
 
     def __call__(self, request: Request) -> tuple:

@@ -168,9 +168,10 @@ def hand_written_sha256(report: Report) -> None:
     report.same("SHA-256, empty index", ("accepted", 2, 0, 12, None, None), check(head))
     report.same("SHA-256, 43 bytes", ("refused", 1, 0), index_reader.check(bytes(43), kind=SHA256))
     report.same("SHA-256, wrong checksum", ("refused", 5, 12), index_reader.check(head + bytes(32), kind=SHA256))
-    for name, word, length in ((b"n" * 5, b"", 80), (b"n" * 6, b"", 88), (b"n" * 3, bytes(2), 80), (b"n" * 4, bytes(2), 88)):
-        flags = (0x4000 if word else 0) | len(name)
-        entry = bytes(24) + bytes.fromhex("000081a4") + bytes(12) + b"\x11" * 32 + flags.to_bytes(2, "big") + word + name
+    for count, word, length in ((5, b"", 80), (6, b"", 88), (3, bytes(2), 80), (4, bytes(2), 88)):
+        flags = (0x4000 if word else 0) | count
+        entry = bytes(24) + bytes.fromhex("000081a4") + bytes(12) + b"\x11" * 32
+        entry += flags.to_bytes(2, "big") + word + b"n" * count
         body = bytes.fromhex("44495243 00000003 00000001") + entry + bytes(length - len(entry))
         report.same(f"SHA-256, entry of {length}", ("accepted", 3, 1, 12 + length, None, None), check(body))
     undo = b"plan\x00100644\x000\x00100644\x00" + b"\x44" * 32 + b"\x66" * 32
