@@ -463,7 +463,7 @@ static void all_calls(uint64_t number)
 {
     struct nerupazhil_check_reply counts;
 
-    kind = NERUPAZHIL_SHA1;
+    kind = file_kind;
     work_length = NERUPAZHIL_WORKSPACE;
     put_text("file");
     put_number(number);

@@ -492,7 +492,7 @@ static void kind_and_request(void)
 
 static void kinds(void)
 {
-    const uint32_t others[] = {0, 2, UINT32_MAX};
+    const uint32_t others[] = {0, 3, UINT32_MAX};
 
     for (size_t k = 0; k < sizeof others / sizeof others[0]; k++) {
         other_kind = others[k];

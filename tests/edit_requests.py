@@ -1,14 +1,16 @@
-"""Requests to a program that rewrites and edits index files, and its answers: one process, many requests.
+"""Requests to a program that lists, rewrites and edits index files, and its answers: one process, many requests.
 
 A request is a line of words, then the bytes of the file, then those of the name:
 
-    rewrite FILE NAME ASKED ROOM
-    put FILE NAME ASKED ROOM STAGE NUMBERS OBJECT ASSUME SKIP INTENT
-    remove FILE NAME ASKED ROOM STAGE
+    list KIND FILE NAME ASKED ROOM
+    rewrite KIND FILE NAME ASKED ROOM
+    put KIND FILE NAME ASKED ROOM STAGE NUMBERS OBJECT ASSUME SKIP INTENT
+    remove KIND FILE NAME ASKED ROOM STAGE
 
-FILE and NAME are numbers of bytes, ASKED is the version asked for, ROOM the length of the output. NUMBERS are the
-entry's ten numbers in the file's order, OBJECT is in hex, the last three words are 0 or 1. Numbers are decimal and
-below 2^32. An answer is a line, after 'done' with N bytes behind it:
+KIND is the number of the kind of object names, FILE and NAME are numbers of bytes, ASKED is the version asked for, ROOM
+the length of the output. NUMBERS are the entry's ten numbers in the file's order, OBJECT is in hex, the last three words
+are 0 or 1. Numbers are decimal and below 2^32. A listing has no name, and takes no version and no output. An answer is a
+line, after 'done' with N bytes behind it, which are the new file or the listing:
 
     done N
     refused NUMBER PLACE
@@ -23,28 +25,30 @@ import tempfile
 from typing import BinaryIO, NamedTuple, Optional
 
 from index_reader import Entry
+from kinds import SHA1, Kind
 from report import SECONDS, ProgramFailed, Report
 
 
 class Request(NamedTuple):
-    call: str  # rewrite, put or remove
+    call: str  # list, rewrite, put or remove
     data: bytes
-    asked: int
-    room: int
+    asked: int = 0
+    room: int = 0
     entry: Optional[Entry] = None  # of a put
     name: bytes = b""  # of a remove, as is the stage
     stage: int = 0
+    kind: Kind = SHA1
 
 
 def encode(request: Request) -> bytes:
-    call, data, asked, room, entry, name, stage = request
+    call, data, asked, room, entry, name, stage, kind = request
     if call == "put":
         name = entry.name
         bits = (int(entry.assume_valid), int(entry.skip_worktree), int(entry.intent_to_add))
         more = (entry.stage, *entry[:10], entry.object.hex(), *bits)
     else:
         more = (stage,) if call == "remove" else ()
-    words = (call, len(data), len(name), asked, room, *more)
+    words = (call, kind.number, len(data), len(name), asked, room, *more)
     return " ".join(map(str, words)).encode() + b"\n" + data + name
 
 
@@ -68,9 +72,10 @@ def decode_answer(stream: BinaryIO) -> tuple:
 class Session:
     """The program under test, which gets one request after the other. Once it has failed, it is not asked again."""
 
-    def __init__(self, path: str):
+    def __init__(self, path: str, *options: str):
         self.errors = tempfile.TemporaryFile()
-        self.child = subprocess.Popen([path], stdin=subprocess.PIPE, stdout=subprocess.PIPE, stderr=self.errors)
+        command, pipe = [path, *options], subprocess.PIPE
+        self.child = subprocess.Popen(command, stdin=pipe, stdout=pipe, stderr=self.errors)
         self.failed = False
 
     def __call__(self, request: Request) -> tuple:

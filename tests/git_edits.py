@@ -1,8 +1,10 @@
-"""Has index files of the installed Git rewritten and edited by a program, and lets Git go on from the results.
+"""Has index files of the installed Git listed, rewritten and edited by a program, and lets Git go on from the results.
 
     git_edits.py PROGRAM [--only SCENE]
 
-PROGRAM answers the requests of edit_requests. The files are those of git_files, each with a copy of its repository:
+PROGRAM answers the requests of edit_requests. The files are those of git_files, of each kind of object names; for a kind
+that the proved library does not take (see kinds), PROGRAM is run with --independent. Each file is listed and held against
+Git as git_files does it. Then, with a copy of its repository:
 
     rewritten in its own version and without other extensions, the file has Git's bytes; rewritten in each version, Git
     sees the same entries, resolve undo and status, fsck complains of nothing new, and write-tree gives the same tree;
@@ -30,6 +32,7 @@ import index_reader
 from edit_requests import Request, Session
 from git_files import Repository, Snapshot
 from index_reader import Entry, Index
+from kinds import ALL, PROVED, Kind
 from report import Program, ProgramFailed, Report
 
 ROOM = 1 << 20  # more than any of these files takes
@@ -66,6 +69,11 @@ def written_by_git(repository: Repository, index: bytes) -> bytes:
     return repository.index()
 
 
+def read(repository: Repository, index: bytes) -> Index:
+    """An index of a repository, read by index_reader."""
+    return index_reader.read(index, kind=repository.kind)
+
+
 def node_table(index: Index) -> Optional[dict]:
     """Count and object name of each node, by its path."""
     if index.nodes is None:
@@ -90,7 +98,7 @@ def without(table: Optional[dict], name: bytes) -> Optional[dict]:
 def rewritten(snapshot: Snapshot, repository: Repository, call, report: Report) -> dict:
     """Rewrites the index in each version. Answers what Git sees of the index as it is."""
     expected = look(repository, snapshot.data)
-    index = index_reader.read(snapshot.data)
+    index = read(repository, snapshot.data)
     extended = any(entry.skip_worktree or entry.intent_to_add for entry in index.entries)
     done = set()
     for asked in (0, 2, 3, 4):
@@ -111,7 +119,7 @@ def rewritten(snapshot: Snapshot, repository: Repository, call, report: Report) 
         for what, output in expected.items():
             report.same(f"{name}, {what}", output, seen[what])
         again = written_by_git(repository, data)
-        theirs = index_reader.read(again)
+        theirs = read(repository, again)
         report.same(f"{name}, entries as Git writes them", index.entries, theirs.entries)
         report.same(f"{name}, nodes as Git writes them", index.nodes, theirs.nodes)
         report.same(f"{name}, resolve undo as Git writes it", index.undo or None, theirs.undo or None)
@@ -168,7 +176,7 @@ def remove(snapshot: Snapshot, repository: Repository, path: bytes, call, report
     name = f"{snapshot.name}: remove {path[:40]!r}"
     asked = 4 if snapshot.data[7] == 4 else 0
     data = snapshot.data
-    for entry in index_reader.read(snapshot.data).entries:
+    for entry in read(repository, snapshot.data).entries:
         if entry.name == path:
             answer = call(Request("remove", data, asked, ROOM, name=path, stage=entry.stage))
             if not report.test(f"{name} {entry.stage}", answer[0] == "done", answer[:3]):
@@ -183,7 +191,7 @@ def against_git(
     name: str, repository: Repository, ours: bytes, theirs: bytes, path: Optional[bytes], report: Report
 ) -> None:
     """Holds an edited index against Git's own. `path` is that of a put entry."""
-    our_index, their_index = index_reader.read(ours), index_reader.read(theirs)
+    our_index, their_index = read(repository, ours), read(repository, theirs)
     report.same(f"{name}, entries", their_index.entries, our_index.entries)
     our_nodes, their_nodes = node_table(our_index), node_table(their_index)
     if path is not None:
@@ -218,7 +226,15 @@ def goes_on(snapshot: Snapshot, repository: Repository, expected: dict, call, re
 # ---- the run
 
 
+def listing(data: bytes, call) -> bytes:
+    answer = call(Request("list", data))
+    if answer[0] != "done":
+        raise ProgramFailed(f"no listing: {answer}")
+    return answer[1]
+
+
 def compare(snapshot: Snapshot, root: str, call, report: Report) -> None:
+    git_files.compare(snapshot, lambda data: listing(data, call), report)
     if snapshot.refusal is not None:
         answer = call(Request("rewrite", snapshot.data, 0, ROOM))
         report.same(f"{snapshot.name}: refusal", ("refused", snapshot.refusal), answer[:2])
@@ -231,7 +247,7 @@ def compare(snapshot: Snapshot, root: str, call, report: Report) -> None:
         repository.git("config", "core.untrackedCache", "false")
         repository.git("config", "core.fsmonitor", "false")
         rng = random.Random(snapshot.name)
-        index = index_reader.read(snapshot.data)
+        index = read(repository, snapshot.data)
         object_name = bytes.fromhex(repository.blob().decode())
         expected = rewritten(snapshot, repository, call, report)
         for _ in range(2):
@@ -243,11 +259,16 @@ def compare(snapshot: Snapshot, root: str, call, report: Report) -> None:
         shutil.rmtree(repository.path)
 
 
-def run(call, report: Report, scenes: tuple) -> None:
-    """Makes the files and compares them, in a temporary folder that is removed. Version 3 is 2 to Git, where it may."""
+def run(session: Session, kind: Kind, report: Report, scenes: tuple) -> None:
+    """Makes the files of a kind and compares them, in a temporary folder that is removed. Version 3 is 2 to Git, where it
+    may."""
+
+    def call(request: Request) -> tuple:
+        return session(request._replace(kind=kind))
+
     root = os.path.realpath(tempfile.mkdtemp(prefix="git-edits-"))
     try:
-        for snapshot in git_files.snapshots(root, (2, 4), scenes):
+        for snapshot in git_files.snapshots(root, (2, 4), scenes, kind):
             compare(snapshot, root, call, report)
     except (RuntimeError, ProgramFailed, index_reader.Refused) as failure:
         report.test("Git and the program go through all files", False, failure)
@@ -266,9 +287,10 @@ def main() -> int:
     program = Program(options.program)
     if not program.usable(report):
         return report.finish()
-    session = Session(program.path)
-    run(session, report, (scenes[options.only],) if options.only else git_files.GIT_SCENES)
-    session.finish(report)
+    for kind in ALL:
+        session = Session(program.path, *(() if kind in PROVED else ("--independent",)))
+        run(session, kind, report, (scenes[options.only],) if options.only else git_files.GIT_SCENES)
+        session.finish(report)
     return report.finish()
 
 

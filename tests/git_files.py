@@ -4,8 +4,9 @@
 
 For a file that is accepted, the entry lines must be those of 'git ls-files --stage', byte for byte after the
 escapes are undone, and the counts those of index_reader; index_reader in turn is held against what Git tells
-of the other fields. For a file that is refused, the refusal is the one named here. The last line is
-'N passed, M failed', and the exit status is 0 only where M is 0.
+of the other fields. For a file that is refused, the refusal is the one named here. The files have SHA-1 names, as the
+program takes them; git_edits holds those of other kinds against Git. The last line is 'N passed, M failed', and the exit
+status is 0 only where M is 0.
 
 Git runs with a HOME of its own, no user configuration and fixed dates, in a folder below TMPDIR that is removed.
 """
@@ -21,7 +22,8 @@ import tempfile
 from typing import NamedTuple, Optional
 
 import index_reader
-from layout import Record, compose, with_checksum
+from kinds import SHA1, Kind
+from layout import Maker, Record
 from report import WIDTH, Program, ProgramFailed, Report, difference
 
 
@@ -44,9 +46,11 @@ class Snapshot(NamedTuple):
 class Repository:
     """A repository in a folder of its own."""
 
-    def __init__(self, root: str, name: str, version: int):
-        self.path = os.path.join(root, name)
-        self.name = name
+    def __init__(self, root: str, name: str, version: int, kind: Kind):
+        # A file of SHA-1 names has the name of its scene alone.
+        self.name = name if kind == SHA1 else f"{kind.name}-{name}"
+        self.path = os.path.join(root, self.name)
+        self.kind = kind
         os.makedirs(self.path)
         home = os.path.join(root, "home")
         os.makedirs(home, exist_ok=True)
@@ -66,7 +70,7 @@ class Repository:
             LC_ALL="C",
             TZ="UTC",
         )
-        self.git("init", "-q", "-b", "main")
+        self.git("init", "-q", "-b", "main", f"--object-format={kind.name}")
         self.git("config", "index.version", str(version))
         # One thread: else Git adds extensions by the number of processors.
         self.git("config", "index.threads", "1")
@@ -147,9 +151,9 @@ NAMES = (
 )
 
 
-def start(root: str, name: str, version: int) -> Repository:
+def start(root: str, name: str, version: int, kind: Kind) -> Repository:
     """A repository with files of several kinds in its working tree, nothing added."""
-    repository = Repository(root, name, version)
+    repository = Repository(root, name, version, kind)
     for file in NAMES:
         repository.write(file, f"content of {file}\n")
     repository.write("run", "#!/bin/sh\n", 0o755)
@@ -157,9 +161,9 @@ def start(root: str, name: str, version: int) -> Repository:
     return repository
 
 
-def everyday(root: str, version: int):
+def everyday(root: str, version: int, kind: Kind):
     """From an empty index over a commit to edits, removals and flags."""
-    repository = start(root, f"everyday-{version}", version)
+    repository = start(root, f"everyday-{version}", version, kind)
     repository.git("read-tree", "--empty")
     yield repository.snapshot("empty")
     repository.git("add", ".")
@@ -198,9 +202,9 @@ def everyday(root: str, version: int):
     yield repository.snapshot("empty-tree", extensions=(b"TREE",))
 
 
-def conflicts(root: str, version: int):
+def conflicts(root: str, version: int, kind: Kind):
     """A merge with conflicts of several kinds, their resolution, and back."""
-    repository = start(root, f"conflicts-{version}", version)
+    repository = start(root, f"conflicts-{version}", version, kind)
     repository.git("add", ".")
     repository.git("commit", "-q", "-m", "base")
     repository.git("checkout", "-q", "-b", "side")
@@ -236,9 +240,9 @@ def conflicts(root: str, version: int):
     yield repository.snapshot("three-unresolved", extensions=(b"TREE", b"REUC"))
 
 
-def stages(root: str, version: int):
+def stages(root: str, version: int, kind: Kind):
     """Every set of the stages 1 to 3, put straight into the index, then resolved."""
-    repository = Repository(root, f"stages-{version}", version)
+    repository = Repository(root, f"stages-{version}", version, kind)
     rows = []
     for bits in range(1, 8):
         for stage in (1, 2, 3):
@@ -257,9 +261,9 @@ def stages(root: str, version: int):
     yield repository.snapshot("all-resolved", extensions=(b"REUC",))
 
 
-def names(root: str, version: int):
+def names(root: str, version: int, kind: Kind):
     """Names with bytes that are escaped, near the forbidden ones, and long ones."""
-    repository = Repository(root, f"names-{version}", version)
+    repository = Repository(root, f"names-{version}", version, kind)
     single = [bytes([byte]) for byte in range(1, 256) if byte not in b"./"]
     odd = [b"back\\slash", b"new\nline", b"tab\t", b'quote"', b"caf\xc3\xa9/x", b"\xff\xfe", b" ", b" lead"]
     odd += [b"...", b"..a", b".gitx", b"a\\303b", b"-dash", b"~", b"\x7f/\x80", b"x/.gitignore", b"\x01\x02/\x1f"]
@@ -280,15 +284,15 @@ def names(root: str, version: int):
     yield repository.snapshot("8193", refusal=9)
 
 
-def links(root: str, version: int):
+def links(root: str, version: int, kind: Kind):
     """Symbolic links and submodules."""
-    repository = start(root, f"links-{version}", version)
-    inner = Repository(repository.path, "sub", version)
+    repository = start(root, f"links-{version}", version, kind)
+    inner = Repository(repository.path, "sub", version, kind)
     inner.write("inside", "inside\n")
     inner.git("add", ".")
     inner.git("commit", "-q", "-m", "inner")
     repository.git("-c", "advice.addEmbeddedRepo=false", "add", ".")
-    commit = "1234567890" * 4
+    commit = ("1234567890" * 7)[: 2 * kind.width]
     repository.git("update-index", "--add", "--cacheinfo", f"160000,{commit},other/module")
     repository.git("update-index", "--add", "--cacheinfo", f"120000,{repository.blob().decode()},other/link")
     yield repository.snapshot("added")
@@ -296,9 +300,9 @@ def links(root: str, version: int):
     yield repository.snapshot("tree", extensions=(b"TREE",))
 
 
-def trees(root: str, version: int):
+def trees(root: str, version: int, kind: Kind):
     """Cache trees: wide ones, nested ones up to the limit of levels, a directory that became a file."""
-    repository = Repository(root, f"trees-{version}", version)
+    repository = Repository(root, f"trees-{version}", version, kind)
     wide = [b"d%s%d/f%d" % (b"x" * (k % 5), k, j) for k in range(60) for j in range(k % 3 + 1)]
     repository.put([(0o100644, 0, name) for name in wide])
     repository.git("write-tree")
@@ -321,9 +325,9 @@ def trees(root: str, version: int):
     yield repository.snapshot("deep-part-invalid", refusal=15)
 
 
-def extensions(root: str, version: int):
+def extensions(root: str, version: int, kind: Kind):
     """Extensions that are passed over."""
-    repository = start(root, f"extensions-{version}", version)
+    repository = start(root, f"extensions-{version}", version, kind)
     repository.git("add", ".")
     repository.git("commit", "-q", "-m", "first")
     repository.git("config", "index.threads", "4")
@@ -349,9 +353,9 @@ def extensions(root: str, version: int):
     yield repository.snapshot("monitor", extensions=(b"FSMN", b"UNTR"))
 
 
-def refused_kinds(root: str, version: int):
+def refused_kinds(root: str, version: int, kind: Kind):
     """Split and sparse indexes, which the library refuses."""
-    repository = start(root, f"split-{version}", version)
+    repository = start(root, f"split-{version}", version, kind)
     repository.git("add", ".")
     repository.git("commit", "-q", "-m", "first")
     repository.git("update-index", "--split-index")
@@ -364,7 +368,7 @@ def refused_kinds(root: str, version: int):
     repository.git("add", "dir/one")
     yield repository.snapshot("split-and-replaced", refusal=9)
 
-    repository = start(root, f"sparse-{version}", version)
+    repository = start(root, f"sparse-{version}", version, kind)
     repository.git("add", ".")
     repository.git("commit", "-q", "-m", "first")
     repository.git("sparse-checkout", "set", "--cone", "--sparse-index", "dir")
@@ -373,9 +377,10 @@ def refused_kinds(root: str, version: int):
     yield repository.snapshot("sparse-checkout", extensions=(b"TREE",))
 
 
-def objections(root: str, version: int):
+def objections(root: str, version: int, kind: Kind):
     """Files that the library accepts and Git lists, and then objects to: the format's documents do not rule them out."""
-    repository = Repository(root, f"objections-{version}", version)
+    repository = Repository(root, f"objections-{version}", version, kind)
+    make = Maker(kind)
     blob = bytes.fromhex(repository.blob().decode())
     first = Record(b"a", object=blob)
     cases = (
@@ -383,17 +388,17 @@ def objections(root: str, version: int):
         ("stages-0-and-2", Record(b"a", 2, object=blob), "fsck", b"multiple stage entries"),
     )
     for name, second, command, words in cases:
-        repository.install(with_checksum(compose(version, [first, second]).body))
+        repository.install(make.with_checksum(make.compose(version, [first, second]).body))
         yield repository.snapshot(name)
         result = repository.run(command)
         if result.returncode == 0 or words not in result.stderr:
             raise RuntimeError(f"{name}: git {command} answers {result.returncode} {result.stderr}")
 
 
-def walks(root: str, version: int):
+def walks(root: str, version: int, kind: Kind):
     """A walk of random edits with trees written between them, by a fixed seed."""
     rng = random.Random(f"walk {version}")
-    repository = Repository(root, f"walk-{version}", version)
+    repository = Repository(root, f"walk-{version}", version, kind)
     components = (b"a", b"b", b"bb", b"c-", b"c")
     pool = [b"/".join(rng.choices(components, k=rng.randint(1, 5))) + b".f" for _ in range(80)]
     repository.put([(0o100644, 0, name) for name in pool[:30]])
@@ -415,10 +420,10 @@ GIT_SCENES = (everyday, conflicts, stages, names, links, trees, extensions, refu
 SCENES = GIT_SCENES + (objections,)
 
 
-def snapshots(root: str, versions: tuple = (2, 3, 4), scenes: tuple = SCENES):
+def snapshots(root: str, versions: tuple = (2, 3, 4), scenes: tuple = SCENES, kind: Kind = SHA1):
     for version in versions:
         for scene in scenes:
-            yield from scene(root, version)
+            yield from scene(root, version, kind)
 
 
 # ---- the comparison
@@ -495,20 +500,20 @@ def undo_of_reader(records: Optional[list]) -> list:
 
 def compare(snapshot: Snapshot, listing_of, report: Report) -> None:
     """Holds a listing against Git, and index_reader against Git."""
-    name, data = snapshot.name, snapshot.data
+    name, data, kind = snapshot.name, snapshot.data, snapshot.repository.kind
     try:
         listing = listing_of(data)
     except ProgramFailed as failure:
         report.test(f"{name}: listing", False, failure)
         return
-    answer = index_reader.check(data)
+    answer = index_reader.check(data, kind=kind)
     if snapshot.refusal is not None:
         report.same(f"{name}: refusal", ("refused", snapshot.refusal), answer[:2])
         report.same(f"{name}: listing", b"refused %d at %d\n" % (snapshot.refusal, answer[2]), listing)
         return
     if not report.test(f"{name}: accepted", answer[0] == "accepted", answer):
         return
-    index = index_reader.read(data)
+    index = index_reader.read(data, kind=kind)
     signatures = [signature for signature, _ in index.others]
     signatures += [b"TREE"] * (index.nodes is not None) + [b"REUC"] * (index.undo is not None)
     report.test(f"{name}: extensions", set(snapshot.extensions) <= set(signatures), snapshot.extensions, signatures)
@@ -520,18 +525,18 @@ def compare(snapshot: Snapshot, listing_of, report: Report) -> None:
     tree = b"cache tree none" if answer[4] is None else b"cache tree %d nodes" % answer[4]
     undo = b"resolve-undo none" if answer[5] is None else b"resolve-undo %d paths" % answer[5]
     report.same(f"{name}: other lines", [first, tree, undo, b""], lines[:1] + lines[-3:])
-    whole = index_reader.listing(data)
+    whole = index_reader.listing(data, kind=kind)
     report.test(f"{name}: listing", listing == whole, *difference(whole, listing))
 
     report.same(f"{name}: numbers and flags", debug_of_git(snapshot.debug), debug_of_reader(index.entries))
     report.same(f"{name}: resolve undo", rows_of_git(snapshot.undo), undo_of_reader(index.undo))
 
 
-def run(listing_of, report: Report) -> None:
-    """Makes all files and compares them, in a temporary folder that is removed."""
+def run(listing_of, report: Report, kind: Kind = SHA1) -> None:
+    """Makes all files of a kind and compares them, in a temporary folder that is removed."""
     root = tempfile.mkdtemp(prefix="git-files-")
     try:
-        for snapshot in snapshots(os.path.realpath(root)):
+        for snapshot in snapshots(os.path.realpath(root), kind=kind):
             compare(snapshot, listing_of, report)
     except RuntimeError as failure:
         report.test("Git makes the files", False, failure)

@@ -1,4 +1,4 @@
-"""An independent reading of a Git index, after the requirements of the index code (document 01).
+"""An independent reading of a Git index, after the requirements of the index code (documents 01 and 02).
 
 It shares nothing with the proved library: the tests hold the library's answers against it. It is written for
 clarity, one rule after the other in the order in which the rules are tested.
@@ -10,15 +10,17 @@ clarity, one rule after the other in the order in which the rules are tested.
     undo(data)     the resolve-undo records, a list of Undo, or None without the extension
     listing(data)  the bytes that the listing program prints
 
-entries, nodes and undo raise Refused for a file that check refuses.
+entries, nodes and undo raise Refused for a file that check refuses. All take the kind of object names, SHA-1 where it is
+not told.
 
-As a program it prints the listing of the named file, or of standard input.
+As a program it prints the listing of the named file, or of standard input, with SHA-1 names.
 """
 
 import bisect
-import hashlib
 import sys
 from typing import NamedTuple, Optional
+
+from kinds import SHA1, Kind
 
 FILE_LIMIT = 16_777_216
 LISTING_LIMIT = 65_536
@@ -26,14 +28,10 @@ NAME_LIMIT = 8_192
 LEVEL_LIMIT = 128
 
 HEADER = 12
-CHECKSUM = 20
-OBJECT = 20
-FIXED = 62  # an entry's bytes before the extended word and the name
+OBJECT_AT = 40  # where an entry's object name is: after ten numbers
 
 MODES = (0o100644, 0o100755, 0o120000, 0o160000)
 LENGTH_MAX = 4095  # the largest value of the length field: the name has this length or more
-
-ZERO_OBJECT = bytes(OBJECT)
 
 
 class Refused(Exception):
@@ -93,9 +91,9 @@ class Index(NamedTuple):
 # ---- the whole file
 
 
-def read(data: bytes, limit: int = FILE_LIMIT) -> Index:
+def read(data: bytes, limit: int = FILE_LIMIT, kind: Kind = SHA1) -> Index:
     """Reads a whole file, or raises Refused with the first rule that it breaks."""
-    if len(data) < HEADER + CHECKSUM:
+    if len(data) < HEADER + kind.width:
         raise Refused(1, 0)
     if len(data) > limit:
         raise Refused(2, 0)
@@ -105,12 +103,12 @@ def read(data: bytes, limit: int = FILE_LIMIT) -> Index:
     if version not in (2, 3, 4):
         raise Refused(4, 0)
     # The body is the file less the checksum. No rule below looks past it.
-    body = data[:-CHECKSUM]
-    if hashlib.sha1(body).digest() != data[-CHECKSUM:]:
+    body = data[: -kind.width]
+    if kind.hash(body) != data[-kind.width :]:
         raise Refused(5, len(body))
 
-    found, places, end = read_entries(body, version, number(body, 8, 4))
-    tree, undo_records, others = read_extensions(body, end, [entry.name for entry in found])
+    found, places, end = read_entries(body, kind, version, number(body, 8, 4))
+    tree, undo_records, others = read_extensions(body, kind, end, [entry.name for entry in found])
     return Index(version, found, places, end, tree, undo_records, others)
 
 
@@ -121,12 +119,12 @@ def number(data: bytes, at: int, width: int) -> int:
 # ---- entries
 
 
-def read_entries(body: bytes, version: int, count: int):
+def read_entries(body: bytes, kind: Kind, version: int, count: int):
     """Reads `count` entries. Answers them, the first byte of each, and the byte where they end."""
     found, places, at = [], [], HEADER
     while len(found) < count:
         previous = found[-1] if found else None
-        entry, after = read_entry(body, version, at, previous.name if previous else b"")
+        entry, after = read_entry(body, kind, version, at, previous.name if previous else b"")
         # Bytes compare as unsigned numbers, and a proper beginning comes first.
         if previous and (previous.name, previous.stage) >= (entry.name, entry.stage):
             raise Refused(11, at)
@@ -136,23 +134,24 @@ def read_entries(body: bytes, version: int, count: int):
     return found, places, at
 
 
-def read_entry(body: bytes, version: int, place: int, previous_name: bytes):
+def read_entry(body: bytes, kind: Kind, version: int, place: int, previous_name: bytes):
     """Reads the entry at `place`. Answers it and the byte after it."""
-    if place + FIXED > len(body):
+    flags_at = place + OBJECT_AT + kind.width
+    if flags_at + 2 > len(body):
         raise Refused(6, place)
     numbers = [number(body, place + 4 * i, 4) for i in range(10)]
     if numbers[6] not in MODES:
         raise Refused(7, place)
-    object_name = body[place + 40 : place + 60]
+    object_name = body[place + OBJECT_AT : flags_at]
 
-    flags = number(body, place + 60, 2)
+    flags = number(body, flags_at, 2)
     assume_valid = bool(flags & 0x8000)
     extended = bool(flags & 0x4000)
     stage = flags >> 12 & 3
     length_field = flags & 0x0FFF
     if extended and version == 2:
         raise Refused(8, place)
-    at = place + FIXED
+    at = flags_at + 2
     word = 0
     if extended:
         if at + 2 > len(body):
@@ -225,7 +224,7 @@ def name_is_good(name: bytes) -> bool:
 # ---- extensions
 
 
-def read_extensions(body: bytes, at: int, names: list):
+def read_extensions(body: bytes, kind: Kind, at: int, names: list):
     """Reads the extensions from `at` up to the end of the body."""
     tree = undo_records = None
     others = []
@@ -243,11 +242,11 @@ def read_extensions(body: bytes, at: int, names: list):
         if signature == b"TREE":
             if tree is not None:
                 raise Refused(14, place)
-            tree = read_tree(data, place, names)
+            tree = read_tree(data, kind, place, names)
         elif signature == b"REUC":
             if undo_records is not None:
                 raise Refused(14, place)
-            undo_records = read_undo(data, place)
+            undo_records = read_undo(data, kind, place)
         else:
             others.append((signature, place))
     return tree, undo_records, others
@@ -256,8 +255,9 @@ def read_extensions(body: bytes, at: int, names: list):
 class Cursor:
     """Reads the data of one extension from its start; what is missing is the given refusal."""
 
-    def __init__(self, data: bytes, refusal: Refused):
+    def __init__(self, data: bytes, kind: Kind, refusal: Refused):
         self.data = data
+        self.kind = kind
         self.at = 0
         self.refusal = refusal
 
@@ -276,6 +276,10 @@ class Cursor:
         self.at += length
         return self.data[self.at - length : self.at]
 
+    def object(self, present: bool) -> bytes:
+        """An object name; zeros where there is none."""
+        return self.take(self.kind.width) if present else bytes(self.kind.width)
+
     def finished(self) -> bool:
         return self.at == len(self.data)
 
@@ -283,9 +287,9 @@ class Cursor:
 # ---- the cache tree
 
 
-def read_tree(data: bytes, place: int, names: list) -> list:
+def read_tree(data: bytes, kind: Kind, place: int, names: list) -> list:
     """Reads the nodes (15), then tests their counts against the names of the entries (16)."""
-    cursor = Cursor(data, Refused(15, place))
+    cursor = Cursor(data, kind, Refused(15, place))
     found = []
     read_node(cursor, 1, found)
     if found[0].name != b"" or not cursor.finished():
@@ -303,10 +307,8 @@ def read_node(cursor: Cursor, level: int, found: list) -> bytes:
         raise cursor.refusal
     count = decimal(cursor.until(b" "), -(2**31), 2**31 - 1, cursor.refusal)
     subtrees = decimal(cursor.until(b"\n"), 0, 2**31 - 1, cursor.refusal)
-    if count < 0:
-        found.append(Node(name, level, None, subtrees, ZERO_OBJECT))
-    else:
-        found.append(Node(name, level, count, subtrees, cursor.take(OBJECT)))
+    valid = count >= 0
+    found.append(Node(name, level, count if valid else None, subtrees, cursor.object(valid)))
     siblings = set()
     for _ in range(subtrees):
         child = read_node(cursor, level + 1, found)
@@ -365,9 +367,9 @@ def names_below(names: list, prefix: bytes) -> list:
 # ---- resolve undo
 
 
-def read_undo(data: bytes, place: int) -> list:
+def read_undo(data: bytes, kind: Kind, place: int) -> list:
     refusal = Refused(17, place)
-    cursor = Cursor(data, refusal)
+    cursor = Cursor(data, kind, refusal)
     found = []
     while not cursor.finished():
         path = cursor.until(b"\0")
@@ -378,7 +380,7 @@ def read_undo(data: bytes, place: int) -> list:
         modes = tuple(undo_mode(cursor.until(b"\0"), refusal) for _ in range(3))
         if modes == (0, 0, 0):
             raise refusal
-        objects = tuple(cursor.take(OBJECT) if mode else ZERO_OBJECT for mode in modes)
+        objects = tuple(cursor.object(mode != 0) for mode in modes)
         found.append(Undo(path, modes, objects))
     return found
 
@@ -394,9 +396,9 @@ def undo_mode(text: bytes, refusal: Refused) -> int:
 # ---- the calls
 
 
-def check(data: bytes, limit: int = FILE_LIMIT) -> tuple:
+def check(data: bytes, limit: int = FILE_LIMIT, kind: Kind = SHA1) -> tuple:
     try:
-        index = read(data, limit)
+        index = read(data, limit, kind)
     except Refused as refusal:
         return ("refused", refusal.number, refusal.place)
     return (
@@ -409,16 +411,16 @@ def check(data: bytes, limit: int = FILE_LIMIT) -> tuple:
     )
 
 
-def entries(data: bytes) -> list:
-    return read(data).entries
+def entries(data: bytes, kind: Kind = SHA1) -> list:
+    return read(data, kind=kind).entries
 
 
-def nodes(data: bytes) -> Optional[list]:
-    return read(data).nodes
+def nodes(data: bytes, kind: Kind = SHA1) -> Optional[list]:
+    return read(data, kind=kind).nodes
 
 
-def undo(data: bytes) -> Optional[list]:
-    return read(data).undo
+def undo(data: bytes, kind: Kind = SHA1) -> Optional[list]:
+    return read(data, kind=kind).undo
 
 
 # ---- the listing program
@@ -431,9 +433,9 @@ def escape(name: bytes) -> bytes:
     )
 
 
-def listing(data: bytes, limit: int = LISTING_LIMIT) -> bytes:
+def listing(data: bytes, limit: int = LISTING_LIMIT, kind: Kind = SHA1) -> bytes:
     try:
-        index = read(data, limit)
+        index = read(data, limit, kind)
     except Refused as refusal:
         return b"refused %d at %d\n" % (refusal.number, refusal.place)
     lines = [b"version %d entries %d\n" % (index.version, len(index.entries))]

@@ -1,20 +1,24 @@
 """The parts of an index file, and how they are composed out: what the makers of test files stand on.
 
-Written from the requirements of the index code (document 01). It shares nothing with the proved library, nor
-with index_reader. The parts can be given faults: fields that stand for a wrong value.
+Written from the requirements of the index code (documents 01 and 02). It shares nothing with the proved library, nor
+with index_reader. The parts can be given faults: fields that stand for a wrong value. Object names are given with as many
+bytes as any kind has, and the first of them are written.
 """
 
 import hashlib
 import random
 import struct
 from dataclasses import dataclass, field
+from functools import partial
 from typing import NamedTuple, Optional
+
+from kinds import SHA1, Kind
 
 # what the makers of files take from here, each by "from layout import *"
 __all__ = [
     "COUNT_TEXTS", "EXECUTABLE", "GITLINK", "LINK", "LISTING_LIMIT", "MODES", "REGULAR", "SUBTREE_TEXTS",
     "UNDO_MODES", "WRONG_MODES",
-    "Extension", "Made", "Plan", "Record", "Tree", "Undo",
+    "Extension", "Made", "Maker", "Plan", "Record", "Tree", "Undo",
     "arrange", "bad_names", "end_of_entries", "git_order", "index_order", "compose", "compose_number", "compose_record",
     "compose_tree", "compose_undo", "refused", "with_checksum", "whole_tree",
 ]
@@ -47,7 +51,7 @@ class Record:
     name: bytes
     stage: int = 0
     mode: int = REGULAR
-    object: bytes = b"\x11" * 20
+    object: bytes = b"\x11" * 32
     numbers: tuple = (0,) * 9  # ctime, mtime (seconds, nanoseconds each), dev, ino, uid, gid, size
     assume_valid: bool = False
     skip_worktree: bool = False
@@ -70,7 +74,7 @@ class Tree:
     name: bytes
     count: int  # negative: invalid
     children: list = field(default_factory=list)
-    object: bytes = b"\x33" * 20
+    object: bytes = b"\x33" * 32
     count_text: Optional[bytes] = None
     subtrees_text: Optional[bytes] = None
 
@@ -85,7 +89,7 @@ class Tree:
 class Undo:
     path: bytes
     modes: tuple  # three; 0 is a missing stage
-    objects: tuple = (b"\x44" * 20, b"\x55" * 20, b"\x66" * 20)
+    objects: tuple = (b"\x44" * 32, b"\x55" * 32, b"\x66" * 32)
 
 
 @dataclass(frozen=True)
@@ -115,7 +119,7 @@ def common(a: bytes, b: bytes) -> int:
     return next((i for i, (x, y) in enumerate(zip(a, b)) if x != y), min(len(a), len(b)))
 
 
-def compose_record(version: int, record: Record, previous: bytes) -> bytes:
+def compose_record(version: int, record: Record, previous: bytes, kind: Kind = SHA1) -> bytes:
     word = record.word
     if word is None:
         word = record.skip_worktree << 14 | record.intent_to_add << 13
@@ -124,9 +128,8 @@ def compose_record(version: int, record: Record, previous: bytes) -> bytes:
         extended = version > 2 and (word != 0 or record.zero_word)
     length = min(len(record.name), 4095) if record.length is None else record.length
     flags = record.assume_valid << 15 | extended << 14 | record.stage << 12 | length
-    head = struct.pack(
-        ">10I20sH", *record.numbers[:6], record.mode, *record.numbers[6:], record.object, flags
-    )
+    head = struct.pack(">10I", *record.numbers[:6], record.mode, *record.numbers[6:])
+    head += record.object[: kind.width] + struct.pack(">H", flags)
     if extended and version > 2:
         head += struct.pack(">H", word)
     if version == 4:
@@ -138,27 +141,29 @@ def compose_record(version: int, record: Record, previous: bytes) -> bytes:
     return unpadded + padding
 
 
-def compose_tree(tree: Tree) -> bytes:
+def compose_tree(tree: Tree, kind: Kind = SHA1) -> bytes:
     count = b"%d" % tree.count if tree.count_text is None else tree.count_text
     subtrees = b"%d" % len(tree.children) if tree.subtrees_text is None else tree.subtrees_text
-    own = tree.name + b"\0" + count + b" " + subtrees + b"\n" + (tree.object if tree.count >= 0 else b"")
-    return own + b"".join(compose_tree(child) for child in tree.children)
+    own = tree.name + b"\0" + count + b" " + subtrees + b"\n" + (tree.object[: kind.width] if tree.count >= 0 else b"")
+    return own + b"".join(compose_tree(child, kind) for child in tree.children)
 
 
-def compose_undo(undo: list) -> bytes:
+def compose_undo(undo: list, kind: Kind = SHA1) -> bytes:
     data = b""
     for record in undo:
         data += record.path + b"\0" + b"".join(b"%o\0" % mode for mode in record.modes)
-        data += b"".join(name for mode, name in zip(record.modes, record.objects) if mode)
+        data += b"".join(name[: kind.width] for mode, name in zip(record.modes, record.objects) if mode)
     return data
 
 
-def compose(version: int, records: list, extensions: list = (), count: Optional[int] = None) -> Composed:
+def compose(
+    version: int, records: list, extensions: list = (), count: Optional[int] = None, kind: Kind = SHA1
+) -> Composed:
     body = b"DIRC" + struct.pack(">II", version, len(records) if count is None else count)
     places, extension_places, previous = [], [], b""
     for record in records:
         places.append(len(body))
-        body += compose_record(version, record, previous)
+        body += compose_record(version, record, previous, kind)
         previous = record.name
     end = len(body)
     for extension in extensions:
@@ -168,14 +173,14 @@ def compose(version: int, records: list, extensions: list = (), count: Optional[
     return Composed(body, places, end, extension_places)
 
 
-def with_checksum(body: bytes) -> bytes:
-    return body + hashlib.sha1(body).digest()
+def with_checksum(body: bytes, kind: Kind = SHA1) -> bytes:
+    return body + kind.hash(body)
 
 
-def end_of_entries(end: int, extensions: list) -> Extension:
+def end_of_entries(end: int, extensions: list, kind: Kind = SHA1) -> Extension:
     """A right EOIE extension, to be written after the given ones."""
     heads = b"".join(e.signature + struct.pack(">I", len(e.data)) for e in extensions)
-    return Extension(b"EOIE", struct.pack(">I", end) + hashlib.sha1(heads).digest())
+    return Extension(b"EOIE", struct.pack(">I", end) + kind.hash(heads))
 
 
 @dataclass
@@ -189,24 +194,26 @@ class Plan:
     others: tuple = ()  # (slot, extension): 0 before, 1 between, 2 after TREE and REUC
     undo_first: bool = False
     with_end: bool = False  # EOIE at the end
+    kind: Kind = SHA1
 
     def extensions(self) -> list:
         known = []
         if self.tree is not None:
-            known.append(Extension(b"TREE", compose_tree(self.tree)))
+            known.append(Extension(b"TREE", compose_tree(self.tree, self.kind)))
         if self.undo is not None:
-            known.append(Extension(b"REUC", compose_undo(self.undo)))
+            known.append(Extension(b"REUC", compose_undo(self.undo, self.kind)))
         if self.undo_first:
             known.reverse()
         row = [e for slot, e in self.others if slot == 0] + known[:1]
         row += [e for slot, e in self.others if slot == 1] + known[1:]
         row += [e for slot, e in self.others if slot == 2]
         if self.with_end:
-            row.append(end_of_entries(compose(self.version, self.records).end, row))
+            end = compose(self.version, self.records, kind=self.kind).end
+            row.append(end_of_entries(end, row, self.kind))
         return row
 
     def composed(self) -> Composed:
-        return compose(self.version, self.records, self.extensions())
+        return compose(self.version, self.records, self.extensions(), kind=self.kind)
 
     def answer(self) -> tuple:
         return (
@@ -219,12 +226,24 @@ class Plan:
         )
 
     def made(self, name: str) -> Made:
-        return Made(name, with_checksum(self.composed().body), self.answer())
+        return Made(name, with_checksum(self.composed().body, self.kind), self.answer())
 
 
-def refused(name: str, body: bytes, number: int, place: int) -> Made:
+def refused(name: str, body: bytes, number: int, place: int, kind: Kind = SHA1) -> Made:
     """A file with one fault and a right checksum."""
-    return Made(name, with_checksum(body), ("refused", number, place))
+    return Made(name, with_checksum(body, kind), ("refused", number, place))
+
+
+class Maker:
+    """The functions above for one kind of object names."""
+
+    def __init__(self, kind: Kind):
+        self.kind = kind
+        self.width = kind.width
+        self.fixed = 42 + kind.width  # an entry's bytes before the extended word and the name
+        self.plan = partial(Plan, kind=kind)
+        for function in (compose, compose_record, compose_tree, compose_undo, end_of_entries, refused, with_checksum):
+            setattr(self, function.__name__, partial(function, kind=kind))
 
 
 # ---- cache trees
@@ -240,7 +259,7 @@ def git_order(tree: Tree) -> tuple:
 
 def whole_tree(names: list, name: bytes = b"", prefix: bytes = b"") -> Tree:
     """The valid tree of these names, which are sorted and all begin with the prefix; siblings in index order."""
-    tree = Tree(name, len(names), object=hashlib.sha1(prefix).digest())
+    tree = Tree(name, len(names), object=(hashlib.sha1(prefix).digest() * 2)[:32])
     rests = [n[len(prefix) :] for n in names]
     for component in dict.fromkeys(rest.split(b"/")[0] for rest in rests if b"/" in rest):
         path = prefix + component + b"/"

@@ -10,6 +10,8 @@ import subprocess
 from typing import NamedTuple
 
 import build_c
+import kinds
+from kinds import Kind
 
 HERE = os.path.dirname(os.path.abspath(__file__))
 OURS, OTHER = PROCESSORS = ("x86_64", "aarch64")
@@ -23,11 +25,20 @@ class Done(NamedTuple):
     err: bytes
 
 
+class File(NamedTuple):
+    """A file with a name for people, and the kind of its object names."""
+
+    name: str
+    kind: Kind
+    data: bytes
+
+
 class StackFile(NamedTuple):
     """A file that takes much stack, and how many levels its cache tree has at most."""
 
     levels: int
     name: str
+    kind: Kind
     data: bytes
 
 
@@ -56,7 +67,7 @@ def run(command: list, *arguments: str, data: bytes = b"", folder=None) -> Done:
 
 def stream(files) -> bytes:
     """Files as answers.c and stack.c read them (stream.h)."""
-    return b"".join(struct.pack("<I", len(data)) + data for data in files)
+    return b"".join(struct.pack("<BI", file.kind.number, len(file.data)) + file.data for file in files)
 
 
 def stack_files(program: str, folder: str) -> list:
@@ -65,7 +76,7 @@ def stack_files(program: str, folder: str) -> list:
     with open(os.path.join(folder, "files.tsv"), encoding="utf-8") as rows:
         fields = [line.rstrip("\n").split("\t") for line in rows]
     files = []
-    for levels, path, name in fields:
+    for levels, path, kind, name in fields:
         with open(os.path.join(folder, path), "rb") as data:
-            files.append(StackFile(int(levels), name, data.read()))
+            files.append(StackFile(int(levels), name, kinds.by_number(kind), data.read()))
     return files

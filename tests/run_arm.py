@@ -28,7 +28,8 @@ import build_c
 import make_files
 import processors
 import run_listing
-from processors import OTHER, OURS, PROCESSORS, run, source, stream
+from kinds import PROVED, SHA1
+from processors import OTHER, OURS, PROCESSORS, File, run, source, stream
 from report import Program, Report
 
 ROOT = build_c.ROOT
@@ -249,11 +250,12 @@ def answers(report: Report, given: Given) -> None:
     commands = built(report, "answers", source("answers.c"))
     if commands is None:
         return
-    vectors = [(case.name, case.data) for case in run_listing.vectors()]
-    made = [(file.name, file.data) for file in make_files.every(make_files.seed_range("0-59"))]
+    vectors = [File(case.name, SHA1, case.data) for case in run_listing.vectors()]
+    seeds = make_files.seed_range("0-59")
+    made = [File(file.name, kind, file.data) for kind in PROVED for file in make_files.every(seeds, kind=kind)]
     # A search on each of many levels takes seconds a call under the emulator.
     slow = re.compile(r"searches on all levels to (64|128)")
-    deep = [(file.name, file.data) for file in given.deep if not slow.match(file.name)]
+    deep = [file for file in given.deep if not slow.match(file.name)]
     report.test("files of every kind", len(vectors) > 100 and len(made) > 5000 and len(deep) > 50)
     notice(report, commands, vectors)
     files = vectors + made
@@ -265,7 +267,7 @@ def answers(report: Report, given: Given) -> None:
 
 def both(commands: dict, files: list) -> list:
     """What answers.c prints for some files on each processor."""
-    data = stream(data for _, data in files)
+    data = stream(files)
     return [run(commands[processor], data=data) for processor in PROCESSORS]
 
 
@@ -276,13 +278,13 @@ def compare(report: Report, files: list, ours, other) -> None:
     counts = {len(files), *map(len, parts)}
     if not report.test("answers of all files", all(whole) and len(counts) == 1, counts, ours.err, other.err):
         return
-    for (name, _), left, right in zip(files, *parts):
-        report.same(f"answers on {name}", left, right)
+    for file, left, right in zip(files, *parts):
+        report.same(f"answers on {file.name}", left, right)
 
 
 def notice(report: Report, commands: dict, vectors: list) -> None:
     """One wrong bit in what a call gives is noticed, whatever it is a part of; and the lines have each call."""
-    files = stream(data for name, data in vectors if name in ("real/v2-resolve-undo.index", "real/v4-committed.index"))
+    files = stream(file for file in vectors if file.name in ("real/v2-resolve-undo.index", "real/v4-committed.index"))
     right = run(commands[OURS], data=files)
     called = {line.split(b" ")[0].decode() for line in right.out.splitlines()}
     missing = {name.replace("nerupazhil_", "") for name in exported()} - called
@@ -317,7 +319,7 @@ def stack(report: Report, given: Given) -> None:
 
 def threads(command: list, kib: int, files: list):
     """Makes all calls on each file in a thread with so much stack."""
-    return run(command, str(kib), data=stream(file.data for file in files))
+    return run(command, str(kib), data=stream(files))
 
 
 def in_thread(report: Report, kib: int, files: list, done) -> None:

@@ -34,7 +34,7 @@ DOCUMENT = {
     "document/listing-example": EXAMPLE,
     "document/listing-example-wrong-checksum": b"refused 5 at 148\n",
     "document/empty-index": b"version 2 entries 0\ncache tree none\nresolve-undo none\n",
-    "document/resolve-undo-of-61-bytes": b"version 2 entries 0\ncache tree none\nresolve-undo 1 paths\n",
+    "document/resolve-undo": b"version 2 entries 0\ncache tree none\nresolve-undo 1 paths\n",
     "document/name-of-8193-version-2": b"refused 9 at 12\n",
     "size/filled-65537": b"refused 2 at 0\n",
 }

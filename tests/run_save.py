@@ -29,6 +29,7 @@ from typing import NamedTuple, Optional
 import build_c
 import disk_model
 import index_reader
+from kinds import SHA1
 from layout import *
 from report import SECONDS, Report
 from wrong_saves import EDITS
@@ -162,7 +163,7 @@ def has_record(save: Save) -> bool:
     if [(entry.mode, entry.object.hex(), entry.stage) for entry in found] != [(0o100755, OBJECT, 0)]:
         return False
     others = [entry for entry in new.entries if entry.name != name]
-    invalid = {"count": None, "object": index_reader.ZERO_OBJECT}
+    invalid = {"count": None, "object": bytes(SHA1.width)}
     pairs = list(zip(old.nodes or (), new.nodes or ()))
     return (
         others == [entry for entry in old.entries if entry.name != name]

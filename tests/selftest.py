@@ -27,6 +27,7 @@ import make_files
 import run_listing
 import wrong_pages
 import wrong_readings
+from kinds import ALL, SHA1, SHA256, Kind
 from report import Report
 
 HERE = os.path.dirname(os.path.abspath(__file__))
@@ -35,7 +36,7 @@ SEEDS = range(0, 60)
 # Programs that answer requests: each with the bytes of its file, or with one refusal.
 LOOP = """\
 for line in sys.stdin.buffer:
-    file, name = (int(word) for word in line.split()[1:3])
+    file, name = (int(word) for word in line.split()[2:4])
     data = sys.stdin.buffer.read(file + name)[:file]
     sys.stdout.buffer.write(ANSWER)
     sys.stdout.flush()
@@ -52,34 +53,51 @@ def vectors(report: Report) -> None:
         report.same(f"{case.name}: check", case.answer, index_reader.check(case.data))
         wrong = run_listing.problem(case, index_reader.listing)
         report.test(f"{case.name}: listing", wrong is None, *(wrong or ()))
+    for line in run_listing.load("sha256", "expected.tsv").decode().splitlines():
+        name, answer = line.split("\t")
+        data = run_listing.load("sha256", name)
+        report.same(f"sha256/{name}: check", run_listing.parse_answer(answer), index_reader.check(data, kind=SHA256))
 
 
 def made_files(report: Report) -> None:
-    """The made files: their answers, their names, sizes and refusals."""
+    for kind in ALL:
+        made_files_of(kind, report)
+        sixteen_mebibytes(kind, report)
+    for case in run_listing.made(make_cases.cases()):
+        wrong = run_listing.problem(case, index_reader.listing)
+        report.test(f"{case.name}: listing", wrong is None, *(wrong or ()))
+
+
+def made_files_of(kind: Kind, report: Report) -> None:
+    """The made files of a kind: their answers, their names, sizes and refusals."""
     names, numbers, over, digests = [], set(), 0, []
-    for file in make_files.every(SEEDS):
-        answer = index_reader.check(file.data)
+    other = next(other for other in ALL if other != kind)
+    for file in make_files.every(SEEDS, kind=kind):
+        answer = index_reader.check(file.data, kind=kind)
         if file.answer is not None:
             report.same(file.name, file.answer, answer)
+        if answer[0] == "accepted":
+            report.same(f"{file.name} as {other.name}", "refused", index_reader.check(file.data, kind=other)[0])
         names.append(file.name)
         numbers.add(answer[1] if answer[0] == "refused" else 0)
         over += len(file.data) > index_reader.LISTING_LIMIT
         digests.append(hashlib.sha1(file.data).digest())
     report.same("every file has a name of its own", len(names), len(set(names)))
     report.test("the document's texts belong to made files", set(run_listing.DOCUMENT) <= set(names))
-    for case in run_listing.made(make_cases.cases()):
-        wrong = run_listing.problem(case, index_reader.listing)
-        report.test(f"{case.name}: listing", wrong is None, *(wrong or ()))
     # Refusal 2 of check itself needs more than 16 MiB; the listing's limit is lower.
     report.same("every refusal of a file occurs", set(range(18)) - {2}, numbers)
     report.test("few files are over the listing's limit", 1 <= over <= 10, over)
-    again = [hashlib.sha1(file.data).digest() for file in make_files.every(range(0, 10))]
+    again = [hashlib.sha1(file.data).digest() for file in make_files.every(range(0, 10), kind=kind)]
     report.same("the maker is deterministic", digests[: len(again)], again)
-    large = index_reader.check(bytes(index_reader.FILE_LIMIT + 1))
+
+
+def sixteen_mebibytes(kind: Kind, report: Report) -> None:
+    large = index_reader.check(bytes(index_reader.FILE_LIMIT + 1), kind=kind)
     report.same("a file over 16 MiB", ("refused", 2, 0), large)
-    filled = layout.Plan(2, [], others=((0, layout.Extension(b"FILL", bytes(index_reader.FILE_LIMIT - 40))),))
-    file = filled.made("a file of 16 MiB")
-    report.same(file.name, (index_reader.FILE_LIMIT, file.answer), (len(file.data), index_reader.check(file.data)))
+    fill = layout.Extension(b"FILL", bytes(index_reader.FILE_LIMIT - 20 - kind.width))
+    file = layout.Plan(2, [], others=((0, fill),), kind=kind).made("a file of 16 MiB")
+    answer = index_reader.check(file.data, kind=kind)
+    report.same(file.name, (index_reader.FILE_LIMIT, file.answer), (len(file.data), answer))
 
 
 def hand_written(report: Report) -> None:
@@ -107,7 +125,7 @@ def hand_written(report: Report) -> None:
     file = with_checksum(bytes.fromhex("44495243 00000002 00000000") + b"REUC\0\0\0\x3d" + undo)
     expected = index_reader.Undo(b"plan", (0o100644, 0, 0o100644), (b"\x44" * 20, bytes(20), b"\x66" * 20))
     report.same("resolve undo", [expected], index_reader.undo(file))
-    report.same("resolve undo, as made", file, listed["document/resolve-undo-of-61-bytes"])
+    report.same("resolve undo, as made", file, listed["document/resolve-undo"])
 
     tree = b"\x003 1\n" + b"\x33" * 20 + b"a\x002 0\n" + b"\x34" * 20
     report.same("cache tree: length", 51, len(tree))
@@ -140,6 +158,34 @@ def hand_written(report: Report) -> None:
         report.same(f"all fields of an entry, version {version}", [fields], [tuple(e) for e in read])
 
 
+def hand_written_sha256(report: Report) -> None:
+    """The same examples with SHA-256 names."""
+
+    def check(body: bytes) -> tuple:
+        return index_reader.check(body + hashlib.sha256(body).digest(), kind=SHA256)
+
+    head = bytes.fromhex("44495243 00000002 00000000")
+    report.same("SHA-256, empty index", ("accepted", 2, 0, 12, None, None), check(head))
+    report.same("SHA-256, 43 bytes", ("refused", 1, 0), index_reader.check(bytes(43), kind=SHA256))
+    report.same("SHA-256, wrong checksum", ("refused", 5, 12), index_reader.check(head + bytes(32), kind=SHA256))
+    for count, word, length in ((5, b"", 80), (6, b"", 88), (3, bytes(2), 80), (4, bytes(2), 88)):
+        flags = (0x4000 if word else 0) | count
+        entry = bytes(24) + bytes.fromhex("000081a4") + bytes(12) + b"\x11" * 32
+        entry += flags.to_bytes(2, "big") + word + b"n" * count
+        body = bytes.fromhex("44495243 00000003 00000001") + entry + bytes(length - len(entry))
+        report.same(f"SHA-256, entry of {length}", ("accepted", 3, 1, 12 + length, None, None), check(body))
+    undo = b"plan\x00100644\x000\x00100644\x00" + b"\x44" * 32 + b"\x66" * 32
+    report.same("SHA-256, resolve undo: length", 85, len(undo))
+    report.same("SHA-256, resolve undo", ("accepted", 2, 0, 12, None, 1), check(head + b"REUC\0\0\0\x55" + undo))
+    tree = b"\0000 0\n" + b"\x33" * 32
+    report.same("SHA-256, cache tree", ("accepted", 2, 0, 12, 1, None), check(head + b"TREE\0\0\0\x25" + tree))
+
+
+def git(report: Report) -> None:
+    for kind in ALL:
+        git_files.run(lambda data: index_reader.listing(data, kind=kind), report, kind)
+
+
 # ---- wrong readings that the cases must notice
 
 
@@ -157,14 +203,16 @@ def edited(old: str, new: str):
 
 
 def readings(report: Report) -> None:
-    cases = [(case.data, index_reader.listing(case.data)) for case in run_listing.vectors()]
-    cases += [(file.data, index_reader.listing(file.data)) for file in make_cases.cases()]
-    cases += [(file.data, index_reader.listing(file.data)) for seed in range(10) for file in make_files.drawn(seed)]
-    cases.sort(key=lambda case: len(case[0]))
+    files = [(SHA1, case.data) for case in run_listing.vectors()]
+    files += [(SHA1, file.data) for file in make_cases.cases()]
+    files += [(SHA1, file.data) for seed in range(10) for file in make_files.drawn(seed)]
+    files += [(SHA256, file.data) for file in make_files.every(range(1), kind=SHA256)]
+    files.sort(key=lambda file: len(file[1]))
+    cases = [(kind, data, index_reader.listing(data, kind=kind)) for kind, data in files]
 
-    def differs(listing_of, data: bytes, expected: bytes) -> bool:
+    def differs(listing_of, kind: Kind, data: bytes, expected: bytes) -> bool:
         try:
-            return listing_of(data) != expected
+            return listing_of(data, kind=kind) != expected
         except (ValueError, IndexError, TypeError):
             return True
 
@@ -174,7 +222,7 @@ def readings(report: Report) -> None:
         except ValueError as error:
             report.test(f"wrong reading: {what}", False, error)
             continue
-        noticed = any(differs(listing_of, data, expected) for data, expected in cases)
+        noticed = any(differs(listing_of, *case) for case in cases)
         report.test(f"wrong reading is noticed: {what}", noticed)
 
 
@@ -184,7 +232,7 @@ def readings(report: Report) -> None:
 def stand_ins(report: Report) -> None:
     """Runs run_listing.py on programs of a few lines: a right one passes, the others are noticed."""
     folder = tempfile.mkdtemp(prefix="stand-in-")
-    reader = f"{shlex.quote(sys.executable)} -ISB {shlex.quote(os.path.join(HERE, 'index_reader.py'))}"
+    reader = f"{shlex.quote(sys.executable)} -EsSB {shlex.quote(os.path.join(HERE, 'index_reader.py'))}"
     rows = (
         ("right", f"exec {reader}", "inputs", True),
         ("wrong-line", f"{reader} | sed 's/cache tree none/cache tree 0 nodes/'", "inputs", False),
@@ -262,7 +310,8 @@ def main() -> int:
         ("vectors", vectors),
         ("made files", made_files),
         ("hand-written bytes", hand_written),
-        ("Git", lambda counted: git_files.run(index_reader.listing, counted)),
+        ("hand-written bytes, SHA-256", hand_written_sha256),
+        ("Git", git),
         ("wrong readings", readings),
         ("stand-in programs", stand_ins),
         ("stand-in programs of edits", edit_stand_ins),

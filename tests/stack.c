@@ -42,7 +42,7 @@ static union reply reply;
 static struct nerupazhil_fields fields;
 static uint8_t object[3][NERUPAZHIL_OBJECT];
 
-#define GIVEN_FILE NERUPAZHIL_SHA1, file, file_length, work, sizeof work
+#define GIVEN_FILE file_kind, file, file_length, work, sizeof work
 
 static uint32_t last(uint64_t count)
 {
@@ -76,8 +76,7 @@ static void walk_start(void)
 
 static void walk_next(void)
 {
-    nerupazhil_walk_next(NERUPAZHIL_SHA1, file, file_length, 12, (uint32_t)counts.entries, &reply.step, &fields,
-                         object[0]);
+    nerupazhil_walk_next(file_kind, file, file_length, 12, (uint32_t)counts.entries, &reply.step, &fields, object[0]);
 }
 
 static void rewrite(uint32_t asked)

@@ -24,7 +24,7 @@ emulated (qemu-aarch64).
 
 def depths(command: list, file) -> dict:
     """The bytes of stack that each call takes on a file; the most where a call is made twice."""
-    done = run(command, data=stream([file.data]))
+    done = run(command, data=stream([file]))
     if done.status != 0:
         raise SystemExit(f"stack_depth: {file.name}: status {done.status}: {done.err.decode()}")
     names, figures = (line.split() for line in done.out.decode().splitlines())

@@ -1,6 +1,6 @@
 """Stores the made files in a folder that is composed out as vectors/, for the comparison in Rust.
 
-    store_files.py FOLDER [--seeds A-B]
+    store_files.py FOLDER [--seeds A-B] [--kind 1|2]
 
 A file has the name that make_files gives it. The answers in expected.tsv are index_reader's; selftest.py holds these
 against the ones that are known from the making.
@@ -12,6 +12,7 @@ import sys
 
 import index_reader
 import make_files
+from kinds import SHA1, by_number
 
 
 def words(answer: tuple) -> str:
@@ -26,15 +27,16 @@ def words(answer: tuple) -> str:
 def main() -> int:
     parser = argparse.ArgumentParser(description="Store the made files with check's answers in a folder.")
     parser.add_argument("--seeds", type=make_files.seed_range, default=make_files.seed_range("0-59"), help="seeds A-B")
+    parser.add_argument("--kind", type=by_number, default=SHA1, help="the kind of object names: 1 or 2")
     parser.add_argument("folder", help="the folder, which is made")
     options = parser.parse_args()
     rows = []
-    for made in make_files.every(options.seeds):
+    for made in make_files.every(options.seeds, kind=options.kind):
         path = os.path.join(options.folder, made.name)
         os.makedirs(os.path.dirname(path), exist_ok=True)
         with open(path, "wb") as stream:
             stream.write(made.data)
-        rows.append(f"{made.name}\t{words(index_reader.check(made.data))}\n")
+        rows.append(f"{made.name}\t{words(index_reader.check(made.data, kind=options.kind))}\n")
     with open(os.path.join(options.folder, "expected.tsv"), "w", encoding="utf-8") as stream:
         stream.writelines(rows)
     return 0

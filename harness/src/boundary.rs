@@ -1,10 +1,12 @@
 //! The calls as C makes them. Each array is lent by itself, between guards, and holds bytes that a call has to replace.
 
 use crate::comparison::Reply;
-use crate::ffi::{Fields, Name};
+use crate::ffi::Hash;
 use crate::inputs::requests::Call;
+use crate::kind::{Kind, Object, OBJECT};
 use crate::lent::{Edge, Lent, Place};
-use nerupazhil::raw::{self, DIGEST, OBJECT};
+use crate::replies::{Fields, Name};
+use nerupazhil::raw;
 
 /// What arrays hold before a call. The two have no byte in common: one that was not written is told in one of two turns.
 const FILLS: [u8; 2] = [0xa5, 0x5a];
@@ -44,11 +46,10 @@ impl Arrays {
                 Self::shown(r.refusal, r.place, r.name, &rest.map(u64::from)).with_name(r.object)
             }
             Reply::Undo(r) => {
-                let stages = [r.first, r.second, r.third];
-                let modes = stages.map(|stage| stage.mode.into());
+                let modes = r.stages.map(|stage| stage.mode.into());
                 let shown = Self::shown(r.refusal, r.place, r.path, &modes);
-                let add = |arrays: Self, stage: nerupazhil::Stage| arrays.with_name(stage.object);
-                stages.into_iter().fold(shown, add)
+                let objects = r.stages.map(|stage| stage.object);
+                objects.into_iter().fold(shown, Self::with_name)
             }
             Reply::Write(r) => Self::numbers(&[r.refusal.into(), r.place as u64, r.length as u64]),
             Reply::Start(r) => {
@@ -58,8 +59,8 @@ impl Arrays {
                 let rest = [r.at as u64, r.left.into()];
                 Self::shown(r.refusal, r.place, r.name, &rest).with_fields(&r.fields)
             }
-            Reply::Digest(digest) => Self {
-                names: vec![digest.to_vec()],
+            Reply::Digest(kind, digest) => Self {
+                names: vec![digest[..kind.width()].to_vec()],
                 ..Self::default()
             },
         }
@@ -75,7 +76,7 @@ impl Arrays {
             Call::Rewrite(_) | Call::Put(..) | Call::Remove(..) => (3, 0, 0),
             Call::WalkStart => (4, 0, 0),
             Call::WalkNext(..) => (7, 14, 1),
-            Call::Sha1 => return None,
+            Call::Hash(_) => return None,
         };
         let mut reply = vec![0; numbers];
         reply[0] = refusal.into();
@@ -111,37 +112,14 @@ impl Arrays {
     }
 
     fn with_fields(mut self, fields: &Fields) -> Self {
-        self.fields = numbers_of(fields, 1).to_vec();
+        self.fields = fields.numbers(1).to_vec();
         self.with_name(fields.object)
     }
 
-    /// With an object name: zeros follow it.
-    fn with_name(mut self, object: [u8; DIGEST]) -> Self {
-        let mut name = object.to_vec();
-        name.resize(OBJECT, 0);
-        self.names.push(name);
+    fn with_name(mut self, object: Object) -> Self {
+        self.names.push(object.to_vec());
         self
     }
-}
-
-/// The numbers of fields, where a given one means yes.
-pub fn numbers_of(fields: &Fields, yes: u32) -> [u32; 14] {
-    [
-        fields.ctime_seconds,
-        fields.ctime_nanoseconds,
-        fields.mtime_seconds,
-        fields.mtime_nanoseconds,
-        fields.dev,
-        fields.ino,
-        fields.mode,
-        fields.uid,
-        fields.gid,
-        fields.size,
-        u32::from(fields.assume_valid) * yes,
-        fields.stage,
-        u32::from(fields.skip_worktree) * yes,
-        u32::from(fields.intent_to_add) * yes,
-    ]
 }
 
 /// The arrays that calls are lent.
@@ -256,8 +234,9 @@ impl Boundary {
                 call!(nerupazhil_rewrite, file, work, out; *asked, new!(reply))
             }
             Call::Put(asked, _, given) => {
-                let numbers = numbers_of(given, yes).map(u32::to_ne_bytes).concat();
-                let mut object = given.object.to_vec();
+                let numbers = given.numbers(yes).map(u32::to_ne_bytes).concat();
+                let width = Kind::of(kind).map_or(OBJECT, Kind::width);
+                let mut object = given.object[..width].to_vec();
                 object.resize(OBJECT, fill);
                 call!(
                     nerupazhil_put, file, work, out;
@@ -279,9 +258,11 @@ impl Boundary {
                 nerupazhil_walk_next, file;
                 *at, *left, new!(reply), new!(fields), new!(first)
             ),
-            Call::Sha1 => {
-                // SAFETY: as above; the array has the length of a digest.
-                unsafe { raw::nerupazhil_sha1(file.as_ptr(), file.len(), new!(first)) }
+            Call::Hash(kind) => {
+                let hash = Hash::of(*kind).ok_or("there is no such hash function")?;
+                let digest = first.filled(kind.width(), fill, edge);
+                // SAFETY: as above; the digest has the kind's width.
+                unsafe { (hash.call)(file.as_ptr(), file.len(), digest) }
             }
         }
         Ok(())

@@ -2,17 +2,17 @@
 //! and outputs must be equal, byte for byte, and what was not lent must stay.
 
 use crate::boundary::{Arrays, Boundary};
-use crate::ffi::{CheckReply, EntryReply, NodeReply, StartReply, StepReply};
-use crate::ffi::{UndoReply, WriteReply, DIGEST, WORKSPACE};
 use crate::index_file::LARGEST;
 use crate::inputs::requests::Call;
+use crate::kind::{Kind, Object};
 use crate::lent::{Edge, Lent, Place};
-use crate::{opponent, plain};
-use nerupazhil::raw::SHA1;
+use crate::opponent;
+use crate::replies::{CheckReply, EntryReply, Name, NodeReply, StartReply, StepReply};
+use crate::replies::{UndoReply, WriteReply, WORKSPACE};
 
 /// The refusal after which a workspace is as it was.
 const WORKSPACE_SMALL: u32 = 19;
-/// The refusal of a kind of object names that is not SHA-1.
+/// The refusal of a kind.
 const UNKNOWN_KIND: u32 = 29;
 
 #[derive(Debug, PartialEq)]
@@ -24,7 +24,7 @@ pub enum Reply {
     Write(WriteReply),
     Start(StartReply),
     Step(StepReply),
-    Digest([u8; DIGEST]),
+    Digest(Kind, Object),
 }
 
 impl Reply {
@@ -37,19 +37,20 @@ impl Reply {
             Self::Write(reply) => reply.refusal,
             Self::Start(reply) => reply.refusal,
             Self::Step(reply) => reply.refusal,
-            Self::Digest(_) => 0,
+            Self::Digest(..) => 0,
         }
     }
 }
 
-/// How a library answers a call with a file, a name, a workspace and an output.
-pub type Answering = fn(&Call, &[u8], &[u8], &mut [u8], &mut [u8]) -> Reply;
+/// How a library answers a call with the number of a kind, a file, a name, a workspace and an output.
+pub type Answering = fn(u32, &Call, &[u8], &[u8], &mut [u8], &mut [u8]) -> Reply;
 
-/// A function that answers a call by the functions of a module, and with a given SHA-1.
+/// A function that answers a call by the functions of a module; digests are those of plain Rust.
 #[macro_export]
 macro_rules! answers {
-    ($function:ident, $module:ident, $sha1:path) => {
+    ($function:ident, $module:ident) => {
         pub fn $function(
+            kind: u32,
             call: &$crate::inputs::requests::Call,
             file: &[u8],
             name: &[u8],
@@ -59,26 +60,28 @@ macro_rules! answers {
             use $crate::comparison::Reply;
             use $crate::inputs::requests::Call;
             match *call {
-                Call::Check => Reply::Check($module::check(file, work)),
-                Call::Entry(k) => Reply::Entry($module::entry(file, work, k)),
-                Call::TreeNode(k) => Reply::Node($module::tree_node(file, work, k)),
-                Call::UndoRecord(k) => Reply::Undo($module::undo_record(file, work, k)),
-                Call::Rewrite(asked) => Reply::Write($module::rewrite(file, work, out, asked)),
+                Call::Check => Reply::Check($module::check(kind, file, work)),
+                Call::Entry(k) => Reply::Entry($module::entry(kind, file, work, k)),
+                Call::TreeNode(k) => Reply::Node($module::tree_node(kind, file, work, k)),
+                Call::UndoRecord(k) => Reply::Undo($module::undo_record(kind, file, work, k)),
+                Call::Rewrite(asked) => {
+                    Reply::Write($module::rewrite(kind, file, work, out, asked))
+                }
                 Call::Put(asked, _, fields) => {
-                    Reply::Write($module::put(file, work, out, asked, name, fields))
+                    Reply::Write($module::put(kind, file, work, out, asked, name, fields))
                 }
                 Call::Remove(asked, _, stage) => {
-                    Reply::Write($module::remove(file, work, out, asked, name, stage))
+                    Reply::Write($module::remove(kind, file, work, out, asked, name, stage))
                 }
-                Call::WalkStart => Reply::Start($module::walk_start(file, work)),
-                Call::WalkNext(at, left) => Reply::Step($module::walk_next(file, at, left)),
-                Call::Sha1 => Reply::Digest($sha1(file)),
+                Call::WalkStart => Reply::Start($module::walk_start(kind, file, work)),
+                Call::WalkNext(at, left) => Reply::Step($module::walk_next(kind, file, at, left)),
+                Call::Hash(kind) => Reply::Digest(kind, kind.hash(file)),
             }
         }
     };
 }
 
-answers!(independent, opponent, plain::sha1);
+answers!(independent, opponent);
 
 /// What one of the two may write to.
 struct Side {
@@ -157,20 +160,38 @@ impl Comparison {
         Ok(())
     }
 
-    /// The output of the last call, which wrote the given number of bytes.
+    /// The output of the last call, which wrote the given number of bytes: that of both, where both were called.
     pub fn written(&self, length: usize) -> &[u8] {
-        &self.ours.out.bytes()[..length]
+        &self.theirs.out.bytes()[..length]
+    }
+
+    /// A name that the last call showed, likewise.
+    pub fn shown(&self, name: Name) -> &[u8] {
+        let buffer = match name.buffer {
+            2 => self.theirs.work.bytes(),
+            _ => self.file.bytes(),
+        };
+        &buffer[name.offset..name.offset + name.length]
+    }
+
+    /// Makes a call of the independent library alone, with a workspace and an output of these lengths.
+    pub fn independent(&mut self, kind: u32, call: &Call, work: usize, room: usize) -> Reply {
+        self.blank(work, room);
+        self.theirs_of(kind, call)
     }
 
     /// Makes a call to both, with workspaces and outputs of these lengths, and compares all.
-    pub fn both(&mut self, call: &Call, work: usize, room: usize) -> Result<Reply, String> {
-        let about = |why: String| format!("{call}, workspace {work}, output {room}: {why}");
+    pub fn both(
+        &mut self,
+        kind: u32,
+        call: &Call,
+        work: usize,
+        room: usize,
+    ) -> Result<Reply, String> {
+        let about = |why| format!("kind {kind}, {call}, workspace {work}, output {room}: {why}");
         self.blank(work, room);
-        let ours = self.proved(SHA1, call).map_err(about)?;
-        let (file, name) = (self.file.bytes(), self.name.bytes());
-        let side = &mut self.theirs;
-        let (their_work, their_out) = (side.work.bytes_mut(), side.out.bytes_mut());
-        let reply = independent(call, file, name, their_work, their_out);
+        let ours = self.proved(kind, call).map_err(about)?;
+        let reply = self.theirs_of(kind, call);
         let theirs = Arrays::of(&reply);
         if ours != theirs {
             return Err(about(format!("{ours:?}, the other {theirs:?}")));
@@ -187,8 +208,8 @@ impl Comparison {
         Ok(reply)
     }
 
-    /// Makes a call of the proved library with a kind that there is not, and sees that it is refused with 29, or with 19
-    /// where it takes a workspace and this is too short. Answers the refusal, none where the call takes no kind.
+    /// Makes a call of the proved library with a kind that it does not take, and sees that it is refused with 29, or with
+    /// 19 where it takes a workspace and this is too short. Answers the refusal, none where the call takes no kind.
     pub fn unknown_kind(
         &mut self,
         kind: u32,
@@ -212,6 +233,13 @@ impl Comparison {
         }
         self.ours.stays(call, refusal, 0).map_err(about)?;
         Ok(Some(refusal))
+    }
+
+    /// What the independent library answers with what it is lent.
+    fn theirs_of(&mut self, kind: u32, call: &Call) -> Reply {
+        let (file, name) = (self.file.bytes(), self.name.bytes());
+        let Side { work, out } = &mut self.theirs;
+        independent(kind, call, file, name, work.bytes_mut(), out.bytes_mut())
     }
 
     /// Lends workspaces and outputs of these lengths, at the other edge than before.

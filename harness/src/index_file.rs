@@ -1,15 +1,16 @@
 //! Index files, laid out for tests and benchmarks.
 
-use crate::ffi::Fields;
-use crate::plain;
+use crate::kind::Kind;
+use crate::replies::Fields;
 
 /// The most bytes that an index may have.
 pub const LARGEST: usize = 16 << 20;
-/// An object name.
-pub const OBJECT: [u8; 20] = [0x5a; 20];
+/// Each byte of an object name.
+pub const OBJECT: u8 = 0x5a;
 
-/// An index of one version, written entry by entry.
+/// An index of one kind and version, written entry by entry.
 pub struct File {
+    kind: Kind,
     pub bytes: Vec<u8>,
     entries: u32,
     previous: Vec<u8>,
@@ -17,11 +18,12 @@ pub struct File {
 }
 
 impl File {
-    pub fn new(version: u32) -> Self {
+    pub fn new(kind: Kind, version: u32) -> Self {
         let mut bytes = b"DIRC".to_vec();
         bytes.extend(version.to_be_bytes());
         bytes.extend([0; 4]);
         Self {
+            kind,
             bytes,
             entries: 0,
             previous: Vec::new(),
@@ -34,7 +36,7 @@ impl File {
         self.bytes.extend([0; 24]);
         self.bytes.extend(0o100644u32.to_be_bytes());
         self.bytes.extend([0; 12]);
-        self.bytes.extend(OBJECT);
+        self.bytes.extend(object(self.kind));
         self.bytes
             .extend((name.len().min(4095) as u16).to_be_bytes());
         if self.version == 4 {
@@ -60,10 +62,9 @@ impl File {
     pub fn finish(mut self) -> Vec<u8> {
         let entries = self.entries.to_be_bytes();
         self.bytes[8..12].copy_from_slice(&entries);
-        let digest = plain::sha1(&self.bytes);
-        self.bytes.extend(digest);
-        assert!(self.bytes.len() <= LARGEST, "{} bytes", self.bytes.len());
-        self.bytes
+        let bytes = self.kind.signed(self.bytes);
+        assert!(bytes.len() <= LARGEST, "{} bytes", bytes.len());
+        bytes
     }
 }
 
@@ -85,21 +86,26 @@ pub fn padding(length: usize) -> usize {
     8 - length % 8
 }
 
+/// The object name of entries and nodes.
+pub fn object(kind: Kind) -> Vec<u8> {
+    vec![OBJECT; kind.width()]
+}
+
 /// The fields of an entry for a file.
-pub fn list_entry() -> Fields {
+pub fn list_entry(kind: Kind) -> Fields {
     Fields {
         mode: 0o100644,
-        object: OBJECT,
+        object: kind.object_of(OBJECT),
         ..Fields::default()
     }
 }
 
 /// A node: name, NUL, count, space, subtrees, LF, and an object name where the count is not negative.
-pub fn node(data: &mut Vec<u8>, name: &[u8], count: i64, subtrees: usize) {
+pub fn node(kind: Kind, data: &mut Vec<u8>, name: &[u8], count: i64, subtrees: usize) {
     data.extend(name);
     data.extend(format!("\0{count} {subtrees}\n").bytes());
     if count >= 0 {
-        data.extend(OBJECT);
+        data.extend(object(kind));
     }
 }
 
@@ -129,6 +135,7 @@ pub const NESTED: &[usize] = &[usize::MAX, 12, 12];
 /// A file as Git keeps it for a large repository, to be laid out: twenty files in each directory, and a cache tree of
 /// valid nodes. It takes the most entries that fit both limits.
 pub struct Repository {
+    pub kind: Kind,
     pub version: u32,
     pub widths: &'static [usize],
     pub order: Order,
@@ -141,7 +148,7 @@ impl Repository {
     pub fn lay_out(&self) -> (Vec<u8>, Vec<Vec<u8>>) {
         let mut entries = Entries {
             plan: self,
-            file: File::new(self.version),
+            file: File::new(self.kind, self.version),
             names: Vec::new(),
         };
         entries.directory(b"", self.widths);
@@ -150,9 +157,21 @@ impl Repository {
         } = entries;
         let slices: Vec<&[u8]> = names.iter().map(Vec::as_slice).collect();
         let mut data = Vec::new();
-        full_tree(&mut data, b"", &slices, self.order);
+        self.full_tree(&mut data, b"", &slices);
         file.extension(b"TREE", &data);
         (file.finish(), names)
+    }
+
+    /// The valid node of a directory and all below it, from the names of its entries, as they are after its path.
+    fn full_tree(&self, data: &mut Vec<u8>, name: &[u8], names: &[&[u8]]) {
+        let mut subtrees = subdirectories(names);
+        if let Order::Git = self.order {
+            subtrees.sort_by_key(|(directory, _)| (directory.len(), *directory));
+        }
+        node(self.kind, data, name, names.len() as i64, subtrees.len());
+        for (directory, below) in subtrees {
+            self.full_tree(data, directory, &below);
+        }
     }
 }
 
@@ -187,9 +206,10 @@ impl Entries<'_> {
         }
     }
 
-    /// An entry's share of the nodes takes less than 2 bytes.
+    /// An entry's share of the nodes takes less than a tenth of an object name.
     fn full(&self) -> bool {
-        let bytes = self.file.bytes.len() + 2 * self.names.len();
+        let share = self.plan.kind.width() / 10;
+        let bytes = self.file.bytes.len() + share * self.names.len();
         self.names.len() == self.plan.most_entries || bytes + 1024 > self.plan.most_bytes
     }
 }
@@ -197,18 +217,6 @@ impl Entries<'_> {
 /// A name of 4 to 16 bytes. Names rise with i, but their lengths do not.
 fn directory_name(i: usize) -> Vec<u8> {
     [&letters(i, 4), &b"-cutting-list"[..i * 5 % 13]].concat()
-}
-
-/// The valid node of a directory and all below it, from the names of its entries, as they are after its path.
-fn full_tree(data: &mut Vec<u8>, name: &[u8], names: &[&[u8]], order: Order) {
-    let mut subtrees = subdirectories(names);
-    if let Order::Git = order {
-        subtrees.sort_by_key(|(directory, _)| (directory.len(), *directory));
-    }
-    node(data, name, names.len() as i64, subtrees.len());
-    for (directory, below) in subtrees {
-        full_tree(data, directory, &below, order);
-    }
 }
 
 /// The subdirectories in rising names, each with the names below it, without its path.

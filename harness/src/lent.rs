@@ -165,9 +165,15 @@ impl Lent {
 
     /// Lends an array that can be written, each of its bytes the given one.
     pub fn filled_array<T>(&mut self, fill: u8, edge: Edge) -> *mut T {
-        self.lend(size_of::<T>(), edge);
-        self.bytes_mut().fill(fill);
+        self.filled(size_of::<T>(), fill, edge);
         self.array()
+    }
+
+    /// Lends bytes that can be written, each of them the given one, and answers where the first is.
+    pub fn filled(&mut self, length: usize, fill: u8, edge: Edge) -> *mut u8 {
+        self.lend(length, edge);
+        self.bytes_mut().fill(fill);
+        self.first
     }
 
     /// The lent bytes as an array, which has their length.

@@ -1,6 +1,7 @@
 //! The vectors of `tests/vectors`, and folders like it: files that are made and answered by other programs.
 
-use crate::ffi::CheckReply;
+use crate::kind::Kind;
+use crate::replies::CheckReply;
 use std::fs;
 use std::path::{Path, PathBuf};
 
@@ -11,15 +12,15 @@ pub struct Vector {
     pub expected: String,
 }
 
-/// One of the files of `tests/vectors`.
+/// One of the files of `tests/vectors` with SHA-1 names.
 pub fn file(name: &str) -> Vec<u8> {
-    load(&folder(), name)
+    load(&folder(Kind::Sha1), name)
 }
 
-/// All of `tests/vectors`.
-pub fn all() -> Vec<Vector> {
-    let vectors = of(&folder());
-    assert!(vectors.len() > 100);
+/// All of `tests/vectors` with object names of a kind.
+pub fn all(kind: Kind) -> Vec<Vector> {
+    let vectors = of(&folder(kind));
+    assert!(vectors.len() > 50);
     vectors
 }
 
@@ -36,8 +37,12 @@ pub fn of(folder: &Path) -> Vec<Vector> {
         .collect()
 }
 
-fn folder() -> PathBuf {
-    PathBuf::from(env!("CARGO_MANIFEST_DIR")).join("../tests/vectors")
+fn folder(kind: Kind) -> PathBuf {
+    let vectors = PathBuf::from(env!("CARGO_MANIFEST_DIR")).join("../tests/vectors");
+    match kind {
+        Kind::Sha1 => vectors,
+        Kind::Sha256 => vectors.join("sha256"),
+    }
 }
 
 fn load(folder: &Path, name: &str) -> Vec<u8> {

@@ -3,32 +3,38 @@
 
 #![deny(warnings)]
 
-use harness::boundary::{numbers_of, TURNS};
+use harness::boundary::TURNS;
 use harness::comparison::Comparison;
-use harness::ffi::{self, Fields, WORKSPACE};
 use harness::index_file::{list_entry, File};
 use harness::inputs::requests::{self, Call};
 use harness::inputs::{self, Input};
+use harness::kind::{self, Kind, Object, KINDS, OBJECT};
 use harness::lent::{Edge, Lent, Place};
 use harness::random::Random;
-use harness::{answers, opponent, vectors};
-use nerupazhil::raw::{self, DIGEST, OBJECT, SHA1};
+use harness::replies::{Fields, WORKSPACE};
+use harness::{answers, ffi, opponent, vectors};
+use nerupazhil::calls;
+use nerupazhil::raw::{self, SHA1};
 use std::ptr::{null, null_mut};
 
-/// Kinds of object names that there are not.
-const UNKNOWN: [u32; 4] = [0, 2, 3, u32::MAX];
+mod by_crate;
+
+use by_crate::by_crate;
+
 /// How many drawn inputs are tried beside the vectors.
 const DRAWN: u64 = 500;
 
-answers!(by_crate, ffi, ffi::sha1);
+answers!(by_harness, ffi);
 
 /// The vectors and some drawn inputs, each with calls of every sort.
 fn questions() -> impl Iterator<Item = (Input, Vec<Call>)> {
-    let stored = vectors::all().into_iter();
-    let stored = stored.map(|vector| inputs::stored(&vector.file));
+    let stored = KINDS.iter().flat_map(|&kind| {
+        let vectors = vectors::all(kind).into_iter();
+        vectors.map(move |vector| inputs::stored(kind, &vector.file))
+    });
     let drawn = (0..DRAWN).map(|number| inputs::input(11, number));
     stored.chain(drawn).zip(0..).map(|(input, number)| {
-        let checked = opponent::check(&input.bytes, &mut vec![0; WORKSPACE]);
+        let checked = opponent::check(input.kind.number(), &input.bytes, &mut vec![0; WORKSPACE]);
         let calls = requests::calls(&mut Random::of(12, number), &input, &checked);
         (input, calls)
     })
@@ -49,24 +55,44 @@ fn every_array_is_written_whole() {
         for call in &calls {
             lend(&mut comparison, &input.bytes, call, Edge::End);
             for _ in 0..TURNS {
-                comparison.both(call, WORKSPACE, input.room).unwrap();
+                let kind = input.kind.number();
+                comparison.both(kind, call, WORKSPACE, input.room).unwrap();
             }
         }
     }
 }
 
-/// The crate's replies have what the arrays have, each part in its place.
+/// The harness's own calls, which other tests make, show what the arrays hold.
+#[test]
+fn the_harness_shows_what_the_arrays_hold() {
+    let (mut work, mut out) = (vec![0; WORKSPACE], Vec::new());
+    let mut comparison = Comparison::new(Place::Pages);
+    for (input, calls) in questions() {
+        let kind = input.kind.number();
+        out.resize(input.room, 0);
+        for call in &calls {
+            lend(&mut comparison, &input.bytes, call, Edge::Start);
+            let expected = comparison.both(kind, call, WORKSPACE, input.room);
+            let shown = by_harness(kind, call, &input.bytes, call.name(), &mut work, &mut out);
+            assert_eq!(shown, expected.unwrap(), "{call}");
+        }
+    }
+}
+
+/// The crate's replies, which are for SHA-1, have what the arrays have, each part in its place.
 #[test]
 fn the_crate_shows_what_the_arrays_hold() {
     let (mut work, mut out) = (vec![0; WORKSPACE], Vec::new());
     let mut comparison = Comparison::new(Place::Pages);
-    for (input, calls) in questions() {
+    for (input, calls) in questions().filter(|(input, _)| input.kind == Kind::Sha1) {
         out.resize(input.room, 0);
         for call in &calls {
             lend(&mut comparison, &input.bytes, call, Edge::Start);
-            let expected = comparison.both(call, WORKSPACE, input.room).unwrap();
-            let shown = by_crate(call, &input.bytes, call.name(), &mut work, &mut out);
-            assert_eq!(shown, expected, "{call}");
+            let expected = comparison.both(SHA1, call, WORKSPACE, input.room);
+            let shown = by_crate(call, &input.bytes, &mut work, &mut out);
+            if let Some(shown) = shown {
+                assert_eq!(shown, expected.unwrap(), "{call}");
+            }
         }
     }
 }
@@ -80,12 +106,12 @@ fn unknown_kinds_are_refused() {
     for (input, calls) in questions() {
         for call in &calls {
             lend(&mut comparison, &input.bytes, call, Edge::End);
-            for kind in UNKNOWN {
+            for kind in kind::refused() {
                 for work in [0, WORKSPACE - 1, WORKSPACE, WORKSPACE + 9] {
                     let refusal = comparison.unknown_kind(kind, call, work, 100).unwrap();
                     let short = call.works() && work < WORKSPACE;
                     let expected = match call {
-                        Call::Sha1 => None,
+                        Call::Hash(_) => None,
                         _ if short => Some(19),
                         _ => Some(29),
                     };
@@ -99,7 +125,7 @@ fn unknown_kinds_are_refused() {
 /// The same written out, with nothing lent but a workspace and arrays.
 #[test]
 fn an_unknown_kind_without_a_file() {
-    for kind in UNKNOWN {
+    for kind in kind::refused() {
         let mut work = [0xa5; WORKSPACE + 1];
         let (mut reply, mut fields) = ([7; 5], [7; 14]);
         let mut object = [7; OBJECT];
@@ -134,7 +160,7 @@ fn an_unknown_kind_without_a_file() {
 /// A step has no workspace: 29 comes first.
 #[test]
 fn an_unknown_kind_of_a_step() {
-    for kind in UNKNOWN {
+    for kind in kind::refused() {
         let (mut reply, mut fields) = ([7; 7], [7; 14]);
         let mut object = [7; OBJECT];
         // SAFETY: the file has no byte, and the others are arrays.
@@ -160,14 +186,14 @@ fn an_unknown_kind_of_a_step() {
 const NAME: &[u8] = b"saw/cut.txt";
 
 /// What put writes to an index without entries, with these arrays.
-fn put(fields: &[u32; 14], object: &[u8; OBJECT]) -> Vec<u8> {
-    let file = File::new(2).finish();
+fn put(kind: Kind, fields: &[u32; 14], object: &Object) -> Vec<u8> {
+    let file = File::new(kind, 2).finish();
     let (mut work, mut out) = ([0; WORKSPACE], [0; 256]);
     let mut reply = [u64::MAX; 3];
     // SAFETY: the pointers and lengths are those of slices, the others are arrays, and all stand apart.
     unsafe {
         raw::nerupazhil_put(
-            SHA1,
+            kind.number(),
             file.as_ptr(),
             file.len(),
             work.as_mut_ptr(),
@@ -187,50 +213,46 @@ fn put(fields: &[u32; 14], object: &[u8; OBJECT]) -> Vec<u8> {
 }
 
 /// What the independent library writes.
-fn expected(fields: Fields) -> Vec<u8> {
-    let file = File::new(2).finish();
+fn expected(kind: Kind, fields: Fields) -> Vec<u8> {
+    let file = File::new(kind, 2).finish();
     let (mut work, mut out) = ([0; WORKSPACE], [0; 256]);
-    let reply = opponent::put(&file, &mut work, &mut out, 4, NAME, fields);
+    let reply = opponent::put(kind.number(), &file, &mut work, &mut out, 4, NAME, fields);
     out[..reply.length].to_vec()
-}
-
-/// An object name and bytes after it.
-fn object_with(object: [u8; DIGEST], after: [u8; OBJECT - DIGEST]) -> [u8; OBJECT] {
-    let mut bytes = [0; OBJECT];
-    bytes[..DIGEST].copy_from_slice(&object);
-    bytes[DIGEST..].copy_from_slice(&after);
-    bytes
 }
 
 #[test]
 fn any_number_but_0_sets_a_flag() {
-    for flags in 0..8 {
+    for (&kind, flags) in KINDS.iter().flat_map(|kind| (0..8).map(move |n| (kind, n))) {
         let fields = Fields {
             assume_valid: flags & 1 > 0,
             skip_worktree: flags & 2 > 0,
             intent_to_add: flags & 4 > 0,
-            ..list_entry()
+            ..list_entry(kind)
         };
-        let object = object_with(fields.object, [0; 12]);
+        let expected = expected(kind, fields);
         for yes in (0..32).map(|bit| 1 << bit).chain([3, 255, u32::MAX]) {
-            let written = put(&numbers_of(&fields, yes), &object);
-            assert_eq!(written, expected(fields), "flags {flags}, yes {yes}");
+            let written = put(kind, &fields.numbers(yes), &fields.object);
+            assert_eq!(written, expected, "flags {flags}, yes {yes}");
         }
     }
 }
 
 #[test]
 fn bytes_after_an_object_name_play_no_part() {
-    let fields = list_entry();
-    let written = expected(fields);
     let mut random = Random(17);
-    for after in [[0; 12], [0xff; 12], random.array(), random.array()] {
-        let object = object_with(fields.object, after);
-        assert_eq!(put(&numbers_of(&fields, 1), &object), written);
+    for &kind in KINDS {
+        let fields = list_entry(kind);
+        let (numbers, width) = (fields.numbers(1), kind.width());
+        let written = expected(kind, fields);
+        for after in [[0; OBJECT], [0xff; OBJECT], random.array(), random.array()] {
+            let mut object = fields.object;
+            object[width..].copy_from_slice(&after[width..]);
+            assert_eq!(put(kind, &numbers, &object), written);
+        }
+        let mut other = fields.object;
+        other[width - 1] ^= 1;
+        assert_ne!(put(kind, &numbers, &other), written);
     }
-    let mut other = object_with(fields.object, [0; 12]);
-    other[DIGEST - 1] ^= 1;
-    assert_ne!(put(&numbers_of(&fields, 1), &other), written);
 }
 
 // ---- what may overlap
@@ -244,18 +266,17 @@ fn what_is_only_read_may_overlap() {
         size: u32::from_ne_bytes(*b"name"),
         assume_valid: true,
         stage: 0,
-        ..list_entry()
+        ..list_entry(Kind::Sha1)
     };
-    let numbers = numbers_of(&fields, 5).map(u32::to_ne_bytes).concat();
-    let mut file = File::new(2);
+    let numbers = fields.numbers(5).map(u32::to_ne_bytes).concat();
+    let mut file = File::new(Kind::Sha1, 2);
     let name = file.bytes.len() + 62..file.bytes.len() + 62 + NAME.len();
     file.entry(NAME);
     let numbers_at = file.bytes.len() + 8;
     let object_at = numbers_at + 4 * 7;
     file.extension(b"XTRA", &[&numbers[..], &[0x77; OBJECT]].concat());
     let file = file.finish();
-    let mut object = [0; DIGEST];
-    object.copy_from_slice(&file[object_at..object_at + DIGEST]);
+    let object = Kind::Sha1.object(&file[object_at..]);
 
     let mut lent = Lent::new("file", Place::Pages, file.len());
     lent.read_only(&file, Edge::Start);
@@ -286,7 +307,15 @@ fn what_is_only_read_may_overlap() {
 
     let fields = Fields { object, ..fields };
     let (mut their_work, mut their_out) = (vec![0xa5; WORKSPACE], vec![0xa5; file.len()]);
-    let theirs = opponent::put(&file, &mut their_work, &mut their_out, 0, NAME, fields);
+    let theirs = opponent::put(
+        SHA1,
+        &file,
+        &mut their_work,
+        &mut their_out,
+        0,
+        NAME,
+        fields,
+    );
     assert_eq!(reply, [0, 0, theirs.length as u64]);
     assert_eq!((work, out), (their_work, their_out));
     assert_eq!(&file[name], NAME);
@@ -296,13 +325,13 @@ fn what_is_only_read_may_overlap() {
 /// The crate lets a name be a part of the file.
 #[test]
 fn a_name_may_be_a_part_of_the_file() {
-    let mut file = File::new(2);
+    let mut file = File::new(Kind::Sha1, 2);
     file.entry(NAME);
     let file = file.finish();
     let (mut work, mut out) = (vec![0; WORKSPACE], vec![0; file.len()]);
     let name = &file[12 + 62..12 + 62 + NAME.len()];
-    let reply = ffi::remove(&file, &mut work, &mut out, 0, name, 0);
-    let empty = File::new(2).finish();
+    let reply = calls::remove(&file, &mut work, &mut out, 0, name, 0);
+    let empty = File::new(Kind::Sha1, 2).finish();
     assert_eq!((reply.refusal, reply.length), (0, empty.len()));
     assert_eq!(out[..empty.len()], empty);
 }

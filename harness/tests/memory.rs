@@ -3,9 +3,12 @@
 #![deny(warnings)]
 
 use harness::boundary::Boundary;
+use harness::ffi::HASHES;
 use harness::inputs::requests::Call;
+use harness::kind::{Kind, KINDS};
 use harness::lent::{Edge, Lent, Place};
-use harness::{ffi, vectors};
+use harness::replies::{Fields, WORKSPACE};
+use harness::vectors;
 use nerupazhil::raw::{self, SHA1};
 use std::env;
 use std::os::unix::process::ExitStatusExt;
@@ -22,6 +25,7 @@ const ROOM: usize = 1 << 20;
 // ---- the calls
 
 struct Lending {
+    kind: Kind,
     file: Lent,
     name: Lent,
     work: Lent,
@@ -33,6 +37,7 @@ struct Lending {
 impl Lending {
     fn new(edge: Edge) -> Self {
         Self {
+            kind: Kind::Sha1,
             file: Lent::new("file", Place::Pages, ROOM),
             name: Lent::new("name", Place::Pages, ROOM),
             work: Lent::new("workspace", Place::Pages, ROOM),
@@ -45,12 +50,13 @@ impl Lending {
     /// Makes a call with a workspace that is just long enough, where it takes one, and sees that nothing else was
     /// written. Answers the numbers of the reply.
     fn call(&mut self, call: &Call, room: usize) -> Vec<u64> {
-        let work = if call.works() { ffi::WORKSPACE } else { 0 };
+        let work = if call.works() { WORKSPACE } else { 0 };
         self.work.blank(work, self.edge);
         self.out.blank(room, self.edge);
         let (file, name) = (self.file.bytes(), self.name.bytes());
         let (work, out) = (self.work.bytes_mut(), self.out.bytes_mut());
-        let arrays = self.arrays.call(SHA1, call, file, name, work, out).unwrap();
+        let kind = self.kind.number();
+        let arrays = self.arrays.call(kind, call, file, name, work, out).unwrap();
         for lent in [&self.file, &self.name, &self.work] {
             lent.guards_stay().unwrap();
         }
@@ -93,7 +99,9 @@ impl Lending {
         for at in (0..=self.file.bytes().len() + 1).chain([usize::MAX]) {
             self.read(Call::WalkNext(at, 1));
         }
-        self.read(Call::Sha1);
+        for hash in HASHES {
+            self.read(Call::Hash(hash.kind));
+        }
     }
 
     fn calls_that_write(&mut self) {
@@ -101,9 +109,9 @@ impl Lending {
         for asked in [0, 2, 3, 4] {
             self.write(Call::Rewrite(asked));
             for mode in [0o100644, 0] {
-                let fields = ffi::Fields {
+                let fields = Fields {
                     mode,
-                    ..ffi::Fields::default()
+                    ..Fields::default()
                 };
                 self.write(Call::Put(asked, name.clone(), fields));
             }
@@ -115,8 +123,10 @@ impl Lending {
 #[track_caller]
 fn every_call_stays_within(edge: Edge) {
     let mut lending = Lending::new(edge);
-    for vector in vectors::all() {
-        lending.file.read_only(&vector.file, edge);
+    let vectors = |&kind| vectors::all(kind).into_iter().map(move |v| (kind, v.file));
+    for (kind, file) in KINDS.iter().flat_map(vectors) {
+        lending.kind = kind;
+        lending.file.read_only(&file, edge);
         lending.calls_that_read();
         for name in [&b"a/b"[..], b"", &[b'n'; 8192]] {
             lending.name.read_only(name, edge);
@@ -210,7 +220,7 @@ fn a_write_to_what_is_only_read_dies() {
 fn a_call_with_a_length_too_long_dies() {
     dies("a_call_with_a_length_too_long_dies", || {
         let (_lent, first) = lend(Place::Pages, Edge::End, 100);
-        let mut digest = [0; ffi::DIGEST];
+        let mut digest = [0; raw::DIGEST];
         // SAFETY: none; the process ends here.
         unsafe { raw::nerupazhil_sha1(first, 101, &mut digest) };
     });
@@ -286,7 +296,7 @@ fn valgrind_tells_a_read_behind_heap_bytes() {
     let valgrind = ["valgrind", "-q", "--error-exitcode=9"];
     let status = child(test, &valgrind, || {
         let (_lent, first) = lend(Place::Heap, Edge::End, 100);
-        let mut digest = [0; ffi::DIGEST];
+        let mut digest = [0; raw::DIGEST];
         // SAFETY: none but that the byte behind is mapped; valgrind tells the read.
         unsafe { raw::nerupazhil_sha1(first, 101, &mut digest) };
     });

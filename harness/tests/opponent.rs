@@ -1,14 +1,14 @@
-//! The second library in plain Rust: stored files, the cases of document 01, and a first comparison with the proved
-//! library.
+//! The second library in plain Rust: stored files, the cases of document 01 for each kind, and a first comparison with the
+//! proved library.
 
-use std::fmt::Write;
 use std::fs;
 
-use harness::index_file::{node, File, OBJECT};
+use harness::index_file::{list_entry, node, object, File};
+use harness::kind::Kind;
+use harness::listing::{self, refused};
 use harness::opponent;
-use harness::plain::sha1;
-use harness::vectors::words;
-use nerupazhil::raw::{Fields, Name, StepReply, DIGEST, WORKSPACE};
+use harness::replies::{Fields, Name, StepReply, WORKSPACE};
+use harness::vectors::{self, words};
 
 mod cases;
 mod comparison;
@@ -20,43 +20,39 @@ fn workspace() -> Vec<u8> {
     vec![0xa5; WORKSPACE + 64]
 }
 
-/// A file of these bytes before the checksum.
-fn with_checksum(body: &[u8]) -> Vec<u8> {
-    [body, &sha1(body)].concat()
-}
-
 /// The file with one more extension.
-fn extend(file: &[u8], signature: &[u8; 4], data: &[u8]) -> Vec<u8> {
+fn extend(kind: Kind, file: &[u8], signature: &[u8; 4], data: &[u8]) -> Vec<u8> {
     let size = (data.len() as u32).to_be_bytes();
-    let body = &file[..file.len() - DIGEST];
-    with_checksum(&[body, signature, &size, data].concat())
-}
-
-/// The fields of a regular file.
-fn regular() -> Fields {
-    Fields {
-        mode: 0o100644,
-        object: OBJECT,
-        ..Fields::default()
-    }
+    let body = &file[..file.len() - kind.width()];
+    kind.signed([body, signature, &size, data].concat())
 }
 
 /// What a call that writes answers with a large output: the bytes or the refusal.
-fn put(file: &[u8], asked: u32, name: &[u8], fields: Fields) -> Result<Vec<u8>, u32> {
+fn put(kind: Kind, file: &[u8], asked: u32, name: &[u8], fields: Fields) -> Result<Vec<u8>, u32> {
     let mut out = vec![0xa5; file.len() + name.len() + 200];
-    let reply = opponent::put(file, &mut workspace(), &mut out, asked, name, fields);
+    let number = kind.number();
+    let reply = opponent::put(
+        number,
+        file,
+        &mut workspace(),
+        &mut out,
+        asked,
+        name,
+        fields,
+    );
     written(out, reply.refusal, reply.length)
 }
 
-fn remove(file: &[u8], asked: u32, name: &[u8], stage: u32) -> Result<Vec<u8>, u32> {
+fn remove(kind: Kind, file: &[u8], asked: u32, name: &[u8], stage: u32) -> Result<Vec<u8>, u32> {
     let mut out = vec![0xa5; file.len() + 200];
-    let reply = opponent::remove(file, &mut workspace(), &mut out, asked, name, stage);
+    let number = kind.number();
+    let reply = opponent::remove(number, file, &mut workspace(), &mut out, asked, name, stage);
     written(out, reply.refusal, reply.length)
 }
 
-fn rewrite(file: &[u8], asked: u32) -> Result<Vec<u8>, u32> {
+fn rewrite(kind: Kind, file: &[u8], asked: u32) -> Result<Vec<u8>, u32> {
     let mut out = vec![0xa5; 2 * file.len() + 200];
-    let reply = opponent::rewrite(file, &mut workspace(), &mut out, asked);
+    let reply = opponent::rewrite(kind.number(), file, &mut workspace(), &mut out, asked);
     written(out, reply.refusal, reply.length)
 }
 
@@ -70,23 +66,15 @@ fn written(mut out: Vec<u8>, refusal: u32, length: usize) -> Result<Vec<u8>, u32
 }
 
 /// An index of these entries in a version, without an extension.
-fn index(version: u32, names: &[&[u8]]) -> Vec<u8> {
-    let empty = File::new(version).finish();
+fn index(kind: Kind, version: u32, names: &[&[u8]]) -> Vec<u8> {
+    let empty = File::new(kind, version).finish();
     names.iter().fold(empty, |file, name| {
-        put(&file, version, name, regular()).unwrap()
+        put(kind, &file, version, name, list_entry(kind)).unwrap()
     })
 }
 
-/// A number and what it counts, or the word for an absent extension.
-fn present(present: bool, number: u32, counted: &str) -> String {
-    match present {
-        true => format!("{number}{counted}"),
-        false => "none".to_string(),
-    }
-}
-
-fn check(file: &[u8]) -> String {
-    words(&opponent::check(file, &mut workspace()))
+fn check(kind: Kind, file: &[u8]) -> String {
+    words(&opponent::check(kind.number(), file, &mut workspace()))
 }
 
 /// The bytes of a shown name.
@@ -95,57 +83,38 @@ fn shown<'a>(name: Name, file: &'a [u8], work: &'a [u8]) -> &'a [u8] {
     &buffer[name.offset..name.offset + name.length]
 }
 
+/// The fields and the name of an entry.
+fn entry(kind: Kind, file: &[u8], k: u32) -> (Fields, Vec<u8>) {
+    let mut work = workspace();
+    let reply = opponent::entry(kind.number(), file, &mut work, k);
+    assert_eq!(reply.refusal, 0);
+    (reply.fields, shown(reply.name, file, &work).to_vec())
+}
+
 /// The names of all entries.
-fn names(file: &[u8]) -> Vec<Vec<u8>> {
-    let mut work = workspace();
-    let count = opponent::check(file, &mut work).entries;
-    let name = |k| {
-        let reply = opponent::entry(file, &mut work, k);
-        assert_eq!(reply.refusal, 0);
-        shown(reply.name, file, &work).to_vec()
-    };
-    (0..count).map(name).collect()
+fn names(kind: Kind, file: &[u8]) -> Vec<Vec<u8>> {
+    let count = opponent::check(kind.number(), file, &mut workspace()).entries;
+    (0..count).map(|k| entry(kind, file, k).1).collect()
 }
 
-/// What the listing program prints for a file.
-fn listing(file: &[u8]) -> String {
-    let mut work = workspace();
-    let reply = opponent::check(file, &mut work);
-    if reply.refusal != 0 {
-        return format!("{}\n", words(&reply));
+/// What the listing program would print for a file.
+fn listing(kind: Kind, file: &[u8]) -> String {
+    let checked = opponent::check(kind.number(), file, &mut workspace());
+    match checked.refusal {
+        0 => listing::listing(kind, &checked, |k| entry(kind, file, k)),
+        _ => refused(&checked),
     }
-    let mut text = format!("version {} entries {}\n", reply.version, reply.entries);
-    for k in 0..reply.entries {
-        let entry = opponent::entry(file, &mut work, k);
-        text += &line(&entry.fields, shown(entry.name, file, &work));
-    }
-    let tree = present(reply.has_tree, reply.nodes, " nodes");
-    let undo = present(reply.has_undo, reply.records, " paths");
-    text + &format!("cache tree {tree}\nresolve-undo {undo}\n")
-}
-
-fn line(fields: &Fields, name: &[u8]) -> String {
-    let mut text = format!("{:06o} ", fields.mode);
-    for byte in fields.object {
-        write!(text, "{byte:02x}").unwrap();
-    }
-    write!(text, " {}\t", fields.stage).unwrap();
-    for byte in name {
-        match byte {
-            b'\\' | 0..=31 | 127.. => write!(text, "\\{byte:03o}").unwrap(),
-            _ => text.push(char::from(*byte)),
-        }
-    }
-    text + "\n"
 }
 
 #[test]
 fn stored_files_are_answered_as_stored() {
-    let table = fs::read_to_string(format!("{VECTORS}/expected.tsv")).unwrap();
-    for row in table.lines() {
-        let (name, expected) = row.split_once('\t').unwrap();
-        let file = fs::read(format!("{VECTORS}/{name}")).unwrap();
-        assert_eq!(check(&file), expected, "{name}");
+    for (kind, other) in [(Kind::Sha1, Kind::Sha256), (Kind::Sha256, Kind::Sha1)] {
+        for vector in vectors::all(kind) {
+            let (name, file) = (vector.name, vector.file);
+            assert_eq!(check(kind, &file), vector.expected, "{name}");
+            let otherwise = check(other, &file);
+            assert!(otherwise.starts_with("refused"), "{name}: {otherwise}");
+        }
     }
 }
 
@@ -156,242 +125,322 @@ fn stored_files_are_listed_as_stored() {
     for (name, _) in real.filter(|(name, _)| name.starts_with("real/")) {
         let file = fs::read(format!("{VECTORS}/{name}.index")).unwrap();
         let expected = fs::read_to_string(format!("{VECTORS}/{name}.list")).unwrap();
-        assert_eq!(listing(&file), expected, "{name}");
+        assert_eq!(listing(Kind::Sha1, &file), expected, "{name}");
     }
 }
 
 #[test]
 fn single_rules_are_kept() {
-    for (file, answer) in cases::all() {
-        let given = check(&file);
-        assert!(
-            given.starts_with(&answer),
-            "{given}, not {answer}: {file:02x?}"
-        );
+    for kind in Kind::ALL {
+        for (file, answer) in cases::all(kind) {
+            let given = check(kind, &file);
+            let name = kind.name();
+            assert!(
+                given.starts_with(&answer),
+                "{name}: {given}, not {answer}: {file:02x?}"
+            );
+        }
     }
 }
 
+/// The example of document 01, and the same with SHA-256 names.
 #[test]
 fn the_listing_of_document_01() {
-    let a = Fields {
-        object: [0x11; DIGEST],
-        ..regular()
-    };
-    let c = Fields {
-        mode: 0o100755,
-        object: [0x22; DIGEST],
-        ..regular()
-    };
-    let file = put(&index(2, &[]), 2, b"b/c", c).unwrap();
-    let file = put(&file, 2, b"a", a).unwrap();
-    assert_eq!(file.len(), 168);
-    let expected = "version 2 entries 2\n\
-        100644 1111111111111111111111111111111111111111 0\ta\n\
-        100755 2222222222222222222222222222222222222222 0\tb/c\n\
-        cache tree none\n\
-        resolve-undo none\n";
-    assert_eq!(listing(&file), expected);
-    let mut wrong = file.clone();
-    wrong[167] ^= 1;
-    assert_eq!(listing(&wrong), "refused 5 at 148\n");
+    for (kind, length) in [(Kind::Sha1, 168), (Kind::Sha256, 204)] {
+        let a = Fields {
+            object: kind.object_of(0x11),
+            ..list_entry(kind)
+        };
+        let c = Fields {
+            mode: 0o100755,
+            object: kind.object_of(0x22),
+            ..list_entry(kind)
+        };
+        let file = put(kind, &index(kind, 2, &[]), 2, b"b/c", c).unwrap();
+        let file = put(kind, &file, 2, b"a", a).unwrap();
+        assert_eq!(file.len(), length);
+        let [ones, twos] = ["11", "22"].map(|digits| digits.repeat(kind.width()));
+        let expected = format!(
+            "version 2 entries 2\n100644 {ones} 0\ta\n100755 {twos} 0\tb/c\n\
+            cache tree none\nresolve-undo none\n"
+        );
+        assert_eq!(listing(kind, &file), expected);
+        let mut wrong = file.clone();
+        wrong[length - 1] ^= 1;
+        let place = length - kind.width();
+        assert_eq!(listing(kind, &wrong), format!("refused 5 at {place}\n"));
+    }
 }
 
 #[test]
-fn an_empty_index_has_32_bytes() {
-    let file = index(2, &[]);
-    assert_eq!(file.len(), 32);
-    let expected = "accepted version 2 entries 0 end 12 nodes absent records absent";
-    assert_eq!(check(&file), expected);
-    assert_eq!(check(&file[..31]), "refused 1 at 0");
+fn an_empty_index() {
+    for (kind, length) in [(Kind::Sha1, 32), (Kind::Sha256, 44)] {
+        let file = index(kind, 2, &[]);
+        assert_eq!(file.len(), length);
+        let expected = "accepted version 2 entries 0 end 12 nodes absent records absent";
+        assert_eq!(check(kind, &file), expected);
+        assert_eq!(check(kind, &file[..length - 1]), "refused 1 at 0");
+    }
 }
 
+/// The cases of documents 01 and 02: the length of a name, and that of its entry without and with the extended word.
 #[test]
 fn lengths_of_entries() {
-    let length = |asked, fields, name: usize| {
-        let file = put(&index(2, &[]), asked, &vec![b'n'; name], fields).unwrap();
-        file.len() - 32
+    let length = |kind: Kind, asked, fields, name: usize| {
+        let empty = index(kind, 2, &[]);
+        let file = put(kind, &empty, asked, &vec![b'n'; name], fields).unwrap();
+        file.len() - empty.len()
     };
-    let word = Fields {
-        skip_worktree: true,
-        ..regular()
-    };
-    for (name, expected) in [(1, 64), (2, 72), (9, 72), (10, 80)] {
-        assert_eq!(length(2, regular(), name), expected);
-        assert_eq!(length(3, regular(), name), expected);
-    }
-    for (name, expected) in [(1, 72), (8, 80)] {
-        assert_eq!(length(3, word, name), expected);
+    for (kind, plain, with_word) in [
+        (
+            Kind::Sha1,
+            [(1, 64), (2, 72), (9, 72), (10, 80)],
+            [(1, 72), (8, 80)],
+        ),
+        (
+            Kind::Sha256,
+            [(5, 80), (6, 88), (13, 88), (14, 96)],
+            [(3, 80), (4, 88)],
+        ),
+    ] {
+        let fields = list_entry(kind);
+        let word = Fields {
+            skip_worktree: true,
+            ..fields
+        };
+        for (name, expected) in plain {
+            assert_eq!(length(kind, 2, fields, name), expected);
+            assert_eq!(length(kind, 3, fields, name), expected);
+        }
+        for (name, expected) in with_word {
+            assert_eq!(length(kind, 3, word, name), expected);
+        }
     }
 }
 
 #[test]
 fn length_fields() {
-    for (length, field) in [(4094, 4094u16), (4095, 4095), (4096, 4095)] {
-        let file = index(2, &[&vec![b'n'; length]]);
-        assert_eq!(file[72..74], field.to_be_bytes());
-        assert_eq!(names(&file)[0].len(), length);
+    for (kind, at) in [(Kind::Sha1, 72), (Kind::Sha256, 84)] {
+        for (length, field) in [(4094, 4094u16), (4095, 4095), (4096, 4095)] {
+            let file = index(kind, 2, &[&vec![b'n'; length]]);
+            assert_eq!(file[at..at + 2], field.to_be_bytes());
+            assert_eq!(names(kind, &file)[0].len(), length);
+        }
     }
 }
 
 #[test]
 fn numbers_of_version_4() {
     let cases: [(usize, &[u8]); 3] = [(127, &[0x7f]), (128, &[0x80, 0]), (8192, &[0xbf, 0])];
-    for (n, code) in cases {
-        let long = vec![b'a'; n];
-        let file = index(4, &[&long, b"b"]);
-        let tail = [code, b"b\0"].concat();
-        assert!(file[..file.len() - DIGEST].ends_with(&tail));
-        assert_eq!(names(&file), [&long[..], b"b"]);
+    for kind in Kind::ALL {
+        let body = |file: &[u8]| file[..file.len() - kind.width()].to_vec();
+        for (n, code) in cases {
+            let long = vec![b'a'; n];
+            let file = index(kind, 4, &[&long, b"b"]);
+            let tail = [code, b"b\0"].concat();
+            assert!(body(&file).ends_with(&tail));
+            assert_eq!(names(kind, &file), [&long[..], b"b"]);
+        }
+        let saw: [&[u8]; 2] = [b"saw/cut.txt", b"saw/cutter.txt"];
+        let file = index(kind, 4, &saw);
+        assert!(body(&file).ends_with(b"\x04ter.txt\0"));
+        assert_eq!(names(kind, &file), saw);
     }
-    let file = index(4, &[b"saw/cut.txt", b"saw/cutter.txt"]);
-    assert!(file[..file.len() - DIGEST].ends_with(b"\x04ter.txt\0"));
-    assert_eq!(names(&file), [&b"saw/cut.txt"[..], b"saw/cutter.txt"]);
 }
 
 #[test]
 fn the_order_is_that_of_bytes() {
-    for version in 2..=4 {
-        let file = index(version, &[b"a0", b"a/b", b"a-b"]);
-        assert_eq!(names(&file), [&b"a-b"[..], b"a/b", b"a0"]);
+    for kind in Kind::ALL {
+        for version in 2..=4 {
+            let file = index(kind, version, &[b"a0", b"a/b", b"a-b"]);
+            assert_eq!(names(kind, &file), [&b"a-b"[..], b"a/b", b"a0"]);
+        }
     }
 }
 
 #[test]
 fn a_put_makes_the_way_invalid() {
-    let mut data = Vec::new();
-    node(&mut data, b"", 3, 1);
-    node(&mut data, b"a", 2, 0);
-    assert_eq!(data.len(), 51);
-    let file = extend(&index(2, &[b"a-b", b"a/b", b"a/c"]), b"TREE", &data);
-    assert!(check(&file).ends_with("nodes 2 records absent"));
-    let tree = |file: Vec<u8>| {
-        let at = file.windows(4).position(|bytes| bytes == b"TREE").unwrap();
-        file[at + 8..file.len() - DIGEST].to_vec()
-    };
-    assert_eq!(tree(rewrite(&file, 4).unwrap()), data);
-    let invalid = b"\0-1 1\na\0-1 0\n";
-    assert_eq!(tree(put(&file, 2, b"a/c", regular()).unwrap()), invalid);
-    assert_eq!(tree(remove(&file, 2, b"a/b", 0).unwrap()), invalid);
-    let root = [&b"\0-1 1\n"[..], &data[25..]].concat();
-    assert_eq!(tree(put(&file, 2, b"a", regular()).unwrap()), root);
-    assert_eq!(tree(remove(&file, 2, b"a-b", 0).unwrap()), root);
-    assert_eq!(tree(put(&file, 2, b"z/a/b", regular()).unwrap()), root);
+    for (kind, length) in [(Kind::Sha1, 51), (Kind::Sha256, 75)] {
+        let mut data = Vec::new();
+        node(kind, &mut data, b"", 3, 1);
+        let below = data.len();
+        node(kind, &mut data, b"a", 2, 0);
+        assert_eq!(data.len(), length);
+        let file = index(kind, 2, &[b"a-b", b"a/b", b"a/c"]);
+        let file = extend(kind, &file, b"TREE", &data);
+        assert!(check(kind, &file).ends_with("nodes 2 records absent"));
+        let tree = |file: Result<Vec<u8>, u32>| {
+            let file = file.unwrap();
+            let at = file.windows(4).position(|bytes| bytes == b"TREE").unwrap();
+            file[at + 8..file.len() - kind.width()].to_vec()
+        };
+        let put = |name| put(kind, &file, 2, name, list_entry(kind));
+        assert_eq!(tree(rewrite(kind, &file, 4)), data);
+        let invalid = b"\0-1 1\na\0-1 0\n";
+        assert_eq!(tree(put(b"a/c")), invalid);
+        assert_eq!(tree(remove(kind, &file, 2, b"a/b", 0)), invalid);
+        let root = [&b"\0-1 1\n"[..], &data[below..]].concat();
+        assert_eq!(tree(put(b"a")), root);
+        assert_eq!(tree(remove(kind, &file, 2, b"a-b", 0)), root);
+        assert_eq!(tree(put(b"z/a/b")), root);
+    }
 }
 
 #[test]
 fn a_resolve_undo_record() {
-    let data = [&b"plan\x00100644\x000\x00100644\0"[..], &OBJECT, &[7; 20]].concat();
-    assert_eq!(data.len(), 61);
-    let file = extend(&index(2, &[]), b"REUC", &data);
-    assert!(check(&file).ends_with("nodes absent records 1"));
-    let reply = opponent::undo_record(&file, &mut workspace(), 0);
-    assert_eq!(shown(reply.path, &file, &[]), b"plan");
-    let stages = [reply.first, reply.second, reply.third];
-    assert_eq!(stages.map(|stage| stage.mode), [0o100644, 0, 0o100644]);
-    assert_eq!(stages.map(|stage| stage.object), [OBJECT, [0; 20], [7; 20]]);
-    assert_eq!(
-        opponent::undo_record(&file, &mut workspace(), 1).refusal,
-        18
-    );
-    assert_eq!(rewrite(&file, 0).unwrap(), file);
+    for (kind, length) in [(Kind::Sha1, 61), (Kind::Sha256, 85)] {
+        let (first, third) = (object(kind), vec![7; kind.width()]);
+        let data = [&b"plan\x00100644\x000\x00100644\0"[..], &first, &third].concat();
+        assert_eq!(data.len(), length);
+        let file = extend(kind, &index(kind, 2, &[]), b"REUC", &data);
+        assert!(check(kind, &file).ends_with("nodes absent records 1"));
+        let record = |k| opponent::undo_record(kind.number(), &file, &mut workspace(), k);
+        let reply = record(0);
+        assert_eq!(shown(reply.path, &file, &[]), b"plan");
+        let modes = reply.stages.map(|stage| stage.mode);
+        assert_eq!(modes, [0o100644, 0, 0o100644]);
+        let objects = reply.stages.map(|stage| stage.object);
+        assert_eq!(objects, [kind.object(&first), [0; 32], kind.object_of(7)]);
+        assert_eq!(record(1).refusal, 18);
+        assert_eq!(rewrite(kind, &file, 0).unwrap(), file);
+    }
 }
 
 #[test]
 fn the_longest_name() {
-    for version in 2..=4 {
-        let longest = vec![b'n'; 8192];
-        assert_eq!(names(&index(version, &[&longest])), [&longest[..]]);
-        let mut file = File::new(version);
-        file.entry(&[b'n'; 8193]);
-        assert_eq!(check(&file.finish()), "refused 9 at 12");
+    for kind in Kind::ALL {
+        for version in 2..=4 {
+            let longest = vec![b'n'; 8192];
+            let file = index(kind, version, &[&longest]);
+            assert_eq!(names(kind, &file), [&longest[..]]);
+            let mut file = File::new(kind, version);
+            file.entry(&[b'n'; 8193]);
+            assert_eq!(check(kind, &file.finish()), "refused 9 at 12");
+        }
+        let empty = index(kind, 2, &[]);
+        let fields = list_entry(kind);
+        assert_eq!(put(kind, &empty, 2, &[b'n'; 8193], fields), Err(9));
     }
-    assert_eq!(put(&index(2, &[]), 2, &[b'n'; 8193], regular()), Err(9));
 }
 
 #[test]
 fn the_deepest_tree() {
-    for (levels, valid) in [(128, true), (129, false)] {
-        let mut data = Vec::new();
-        node(&mut data, b"", 0, 1);
-        for level in 2..=levels {
-            node(&mut data, b"a", 0, usize::from(level != levels));
-        }
-        let answer = check(&extend(&index(2, &[]), b"TREE", &data));
-        match valid {
-            true => assert!(answer.ends_with("nodes 128 records absent")),
-            false => assert_eq!(answer, "refused 15 at 12"),
+    for kind in Kind::ALL {
+        for (levels, valid) in [(128, true), (129, false)] {
+            let mut data = Vec::new();
+            node(kind, &mut data, b"", 0, 1);
+            for level in 2..=levels {
+                node(kind, &mut data, b"a", 0, usize::from(level != levels));
+            }
+            let answer = check(kind, &extend(kind, &index(kind, 2, &[]), b"TREE", &data));
+            match valid {
+                true => assert!(answer.ends_with("nodes 128 records absent")),
+                false => assert_eq!(answer, "refused 15 at 12"),
+            }
         }
     }
 }
 
 #[test]
 fn the_order_of_a_requests_refusals() {
-    let word = Fields {
-        intent_to_add: true,
-        ..regular()
-    };
-    let bad = Fields {
-        mode: 0,
-        stage: 4,
-        ..word
-    };
-    let file = put(&index(2, &[]), 3, b"a", word).unwrap();
-    assert_eq!(put(&file, 1, b"", bad), Err(4));
-    assert_eq!(put(&file, 2, b"", bad), Err(7));
-    assert_eq!(put(&file, 2, b"", Fields { stage: 4, ..word }), Err(8));
-    assert_eq!(put(&file, 2, b"", word), Err(9));
-    assert_eq!(put(&file, 2, b"b", regular()), Err(21));
-    assert_eq!(
-        put(&file, 2, b"a", regular()),
-        put(&file, 0, b"a", regular())
-    );
-    assert_eq!(rewrite(&file, 0), Ok(file.clone()));
-    assert_eq!(remove(&file, 5, b"b", 0), Err(4));
-    assert_eq!(remove(&file, 2, b"b", 0), Err(18));
-    assert_eq!(remove(&file, 2, b"a", 9), Err(18));
-    assert_eq!(remove(&file, 2, b"a", 0), Ok(index(2, &[])));
-    assert_eq!(remove(&file, 3, b"a", 0), Ok(index(3, &[])));
+    for kind in Kind::ALL {
+        let fields = list_entry(kind);
+        let word = Fields {
+            intent_to_add: true,
+            ..fields
+        };
+        let bad = Fields {
+            mode: 0,
+            stage: 4,
+            ..word
+        };
+        let file = put(kind, &index(kind, 2, &[]), 3, b"a", word).unwrap();
+        let put = |asked, name, fields| put(kind, &file, asked, name, fields);
+        let remove = |asked, name, stage| remove(kind, &file, asked, name, stage);
+        assert_eq!(put(1, b"", bad), Err(4));
+        assert_eq!(put(2, b"", bad), Err(7));
+        assert_eq!(put(2, b"", Fields { stage: 4, ..word }), Err(8));
+        assert_eq!(put(2, b"", word), Err(9));
+        assert_eq!(put(2, b"b", fields), Err(21));
+        assert_eq!(put(2, b"a", fields), put(0, b"a", fields));
+        assert_eq!(rewrite(kind, &file, 0), Ok(file.clone()));
+        assert_eq!(remove(5, b"b", 0), Err(4));
+        assert_eq!(remove(2, b"b", 0), Err(18));
+        assert_eq!(remove(2, b"a", 9), Err(18));
+        assert_eq!(remove(2, b"a", 0), Ok(index(kind, 2, &[])));
+        assert_eq!(remove(3, b"a", 0), Ok(index(kind, 3, &[])));
+    }
 }
 
 #[test]
 fn what_is_written_and_what_is_not() {
-    let file = index(4, &[b"saw/cut.txt", b"saw/cutter.txt"]);
-    let mut work = vec![0xa5; WORKSPACE - 1];
-    assert_eq!(opponent::entry(&file, &mut work, 1).refusal, 19);
-    assert!(work.iter().all(|byte| *byte == 0xa5));
-    let mut work = workspace();
-    assert_eq!(opponent::entry(&file, &mut work, 1).refusal, 0);
-    assert!(work.starts_with(b"saw/cutter.txt"));
-    assert!(work[14..WORKSPACE].iter().all(|byte| *byte == 0));
-    assert!(work[WORKSPACE..].iter().all(|byte| *byte == 0xa5));
-    assert_eq!(opponent::entry(&file, &mut work, 2).refusal, 18);
-    assert!(work[..WORKSPACE].iter().all(|byte| *byte == 0));
-    let mut out = vec![0xa5; file.len() - 1];
-    let reply = opponent::rewrite(&file, &mut work, &mut out, 4);
-    assert_eq!((reply.refusal, reply.length), (20, 0));
-    assert!(out.iter().all(|byte| *byte == 0xa5));
+    for kind in Kind::ALL {
+        let number = kind.number();
+        let file = index(kind, 4, &[b"saw/cut.txt", b"saw/cutter.txt"]);
+        let mut work = vec![0xa5; WORKSPACE - 1];
+        assert_eq!(opponent::entry(number, &file, &mut work, 1).refusal, 19);
+        assert!(work.iter().all(|byte| *byte == 0xa5));
+        let mut work = workspace();
+        assert_eq!(opponent::entry(number, &file, &mut work, 1).refusal, 0);
+        assert!(work.starts_with(b"saw/cutter.txt"));
+        assert!(work[14..WORKSPACE].iter().all(|byte| *byte == 0));
+        assert!(work[WORKSPACE..].iter().all(|byte| *byte == 0xa5));
+        assert_eq!(opponent::entry(number, &file, &mut work, 2).refusal, 18);
+        assert!(work[..WORKSPACE].iter().all(|byte| *byte == 0));
+        let mut out = vec![0xa5; file.len() - 1];
+        let reply = opponent::rewrite(number, &file, &mut work, &mut out, 4);
+        assert_eq!((reply.refusal, reply.length), (20, 0));
+        assert!(out.iter().all(|byte| *byte == 0xa5));
+    }
 }
 
 #[test]
 fn a_walk() {
-    let file = index(2, &[b"a", b"b/c"]);
-    let start = opponent::walk_start(&file, &mut workspace());
-    assert_eq!((start.refusal, start.at, start.left), (0, 12, 2));
-    let first = opponent::walk_next(&file, start.at, start.left);
-    assert_eq!(shown(first.name, &file, &[]), b"a");
-    let second = opponent::walk_next(&file, first.at, first.left);
-    assert_eq!(shown(second.name, &file, &[]), b"b/c");
-    assert_eq!((second.at, second.left), (148, 0));
-    let last = opponent::walk_next(&file, second.at, second.left);
-    let refused = StepReply {
-        refusal: 18,
-        ..StepReply::default()
-    };
-    assert_eq!(last, refused);
-    assert_eq!(opponent::walk_next(&file, 148, 7), refused);
-    let start = opponent::walk_start(&index(4, &[b"a"]), &mut workspace());
-    assert_eq!(
-        (start.refusal, start.place, start.at, start.left),
-        (4, 0, 0, 0)
-    );
+    for (kind, end) in [(Kind::Sha1, 148), (Kind::Sha256, 172)] {
+        let number = kind.number();
+        let file = index(kind, 2, &[b"a", b"b/c"]);
+        let next = |at, left| opponent::walk_next(number, &file, at, left);
+        let start = opponent::walk_start(number, &file, &mut workspace());
+        assert_eq!((start.refusal, start.at, start.left), (0, 12, 2));
+        let first = next(start.at, start.left);
+        assert_eq!(shown(first.name, &file, &[]), b"a");
+        let second = next(first.at, first.left);
+        assert_eq!(shown(second.name, &file, &[]), b"b/c");
+        assert_eq!((second.at, second.left), (end, 0));
+        let refused = StepReply {
+            refusal: 18,
+            ..StepReply::default()
+        };
+        assert_eq!(next(second.at, second.left), refused);
+        assert_eq!(next(end, 7), refused);
+        let compressed = index(kind, 4, &[b"a"]);
+        let start = opponent::walk_start(number, &compressed, &mut workspace());
+        assert_eq!(
+            (start.refusal, start.place, start.at, start.left),
+            (4, 0, 0, 0)
+        );
+    }
+}
+
+/// 29, or 19 where the workspace is too short, comes before all of the file and of the request.
+#[test]
+fn kinds_that_there_are_not() {
+    for number in [0, 3, 0x0100_0001, u32::MAX] {
+        for (length, refusal) in [(WORKSPACE - 1, 19), (WORKSPACE, 29)] {
+            let mut work = vec![0xa5; length];
+            let fields = list_entry(Kind::Sha1);
+            let mut given = vec![opponent::check(number, b"", &mut work).refusal];
+            given.push(opponent::entry(number, b"", &mut work, 0).refusal);
+            given.push(opponent::tree_node(number, b"", &mut work, 0).refusal);
+            given.push(opponent::undo_record(number, b"", &mut work, 0).refusal);
+            given.push(opponent::rewrite(number, b"", &mut work, &mut [], 9).refusal);
+            given.push(opponent::put(number, b"", &mut work, &mut [], 9, b"", fields).refusal);
+            given.push(opponent::remove(number, b"", &mut work, &mut [], 9, b"", 0).refusal);
+            given.push(opponent::walk_start(number, b"", &mut work).refusal);
+            assert_eq!(given, [refusal; 8]);
+            let left = if refusal == 19 { 0xa5 } else { 0 };
+            assert_eq!(work, vec![left; length]);
+        }
+        assert_eq!(opponent::walk_next(number, b"", 12, 0).refusal, 29);
+    }
 }

@@ -2,8 +2,11 @@
 
 #![deny(warnings)]
 
+use harness::ffi::HASHES;
 use harness::hostile::{self, Case};
-use harness::{ffi, index_file, plain};
+use harness::kind::{Kind, Object, KINDS};
+use harness::replies::{Fields, WORKSPACE};
+use harness::{ffi, index_file};
 use nerupazhil::{Index, Refusal, Version};
 use std::thread;
 
@@ -20,60 +23,64 @@ const MORE: usize = 16;
 /// Bytes of files that can be made as long as wanted.
 const SHORT: usize = 100_000;
 
-/// The fields of a new entry, the name of one to remove (the file's first, where it has one), and the file's digest.
+/// The fields of a new entry, the name of one to remove (the file's first, where it has one), and the file's digests.
 struct Request {
-    fields: ffi::Fields,
+    kind: Kind,
+    fields: Fields,
     first: Vec<u8>,
-    digest: [u8; 20],
+    digests: Vec<Object>,
 }
 
 impl Request {
-    fn of(file: &[u8], work: &mut [u8]) -> Self {
-        let entry = ffi::entry(file, work, 0);
+    fn of(kind: Kind, file: &[u8], work: &mut [u8]) -> Self {
+        let entry = ffi::entry(kind.number(), file, work, 0);
         let buffer = if entry.name.buffer == 2 { work } else { file };
         let mut fields = entry.fields;
         fields.mode = 0o100644;
         Self {
+            kind,
             fields,
             first: buffer[entry.name.offset..][..entry.name.length].to_vec(),
-            digest: plain::sha1(file),
+            digests: HASHES.iter().map(|hash| hash.kind.hash(file)).collect(),
         }
     }
 }
 
-/// The refusals of all calls that have one; the digest is compared here.
+/// The refusals of all calls that have one; the digests are compared here.
 fn calls(file: &[u8], request: &Request, work: &mut [u8], out: &mut [u8]) -> [u32; 12] {
-    let Request {
-        fields,
-        first,
-        digest,
-    } = request;
-    assert_eq!(&ffi::sha1(file), digest);
+    let Request { fields, first, .. } = request;
+    let kind = request.kind.number();
+    for (hash, digest) in HASHES.iter().zip(&request.digests) {
+        assert_eq!(&hash.digest(file), digest);
+    }
     let mut refusals = [0; 12];
-    refusals[0] = ffi::check(file, work).refusal;
-    refusals[1] = ffi::entry(file, work, 0).refusal;
-    refusals[2] = ffi::tree_node(file, work, 0).refusal;
-    refusals[3] = ffi::undo_record(file, work, 0).refusal;
-    refusals[4] = ffi::walk_start(file, work).refusal;
-    refusals[5] = ffi::walk_next(file, 12, 1).refusal;
+    refusals[0] = ffi::check(kind, file, work).refusal;
+    refusals[1] = ffi::entry(kind, file, work, 0).refusal;
+    refusals[2] = ffi::tree_node(kind, file, work, 0).refusal;
+    refusals[3] = ffi::undo_record(kind, file, work, 0).refusal;
+    refusals[4] = ffi::walk_start(kind, file, work).refusal;
+    refusals[5] = ffi::walk_next(kind, file, 12, 1).refusal;
     for (i, asked) in [(6, 2), (9, 4)] {
-        refusals[i] = ffi::rewrite(file, work, out, asked).refusal;
-        refusals[i + 1] = ffi::put(file, work, out, asked, b"new", *fields).refusal;
-        refusals[i + 2] = ffi::remove(file, work, out, asked, first, 0).refusal;
+        refusals[i] = ffi::rewrite(kind, file, work, out, asked).refusal;
+        refusals[i + 1] = ffi::put(kind, file, work, out, asked, b"new", *fields).refusal;
+        refusals[i + 2] = ffi::remove(kind, file, work, out, asked, first, 0).refusal;
     }
     refusals
 }
 
-/// The refusals of Index: of the file, or of a rewrite, a put and a removal in version 4.
-fn of_index(file: &[u8], request: &Request) -> Vec<u32> {
-    let Request { fields, first, .. } = request;
+/// The refusals of Index, which takes SHA-1 names: of the file, or of a rewrite, a put and a removal in version 4.
+fn of_index(file: &[u8], first: &[u8]) -> Vec<u32> {
+    let fields = nerupazhil::Fields {
+        mode: 0o100644,
+        ..nerupazhil::Fields::default()
+    };
     let index = match Index::read(file) {
         Ok(index) => index,
         Err(refusal) => return vec![refusal.number()],
     };
     let files = [
         index.rewritten(Version::V4),
-        index.with(b"new", fields, Version::V4),
+        index.with(b"new", &fields, Version::V4),
         index.without(first, 0, Version::V4),
     ];
     files
@@ -93,48 +100,50 @@ fn in_thread<T: Send>(kib: usize, function: impl FnOnce() -> T + Send) -> T {
     })
 }
 
-fn run(kib: usize, case: Case) {
+fn run(kib: usize, kind: Kind, case: Case) {
     let (name, file) = (case.name, case.bytes);
-    let mut work = vec![0; ffi::WORKSPACE];
+    let mut work = vec![0; WORKSPACE];
     let mut out = vec![0; index_file::LARGEST];
-    let request = Request::of(&file, &mut work);
+    let request = Request::of(kind, &file, &mut work);
     let refusals = in_thread(kib, || calls(&file, &request, &mut work, &mut out));
     assert_eq!(refusals[0], case.refusal, "{name}");
+    if kind != Kind::Sha1 {
+        return;
+    }
     let expected = match case.refusal {
         0 => &refusals[9..],
         _ => &refusals[..1],
     };
-    let shown = in_thread(kib + MORE, || of_index(&file, &request));
+    let shown = in_thread(kib + MORE, || of_index(&file, &request.first));
     assert_eq!(shown, expected, "{name}");
 }
 
 #[test]
 fn every_call_runs_on_shallow_trees_with_little_stack() {
-    for levels in [1, 2, 4, SHALLOW] {
-        for case in hostile::deep_cases(levels, SHORT) {
-            run(FEW, case);
+    for &kind in KINDS {
+        let mut cases = Vec::new();
+        for levels in [1, 2, 4, SHALLOW] {
+            cases.extend(hostile::deep_cases(kind, levels, SHORT));
+            cases.extend(hostile::search_cases(kind, levels));
         }
-        for case in hostile::search_cases(levels) {
-            run(FEW, case);
+        cases.extend(hostile::short_cases(kind));
+        cases.extend(hostile::long_name_cases(kind, SHORT));
+        cases.push(hostile::undo_case(kind, SHORT));
+        for case in cases {
+            run(FEW, kind, case);
         }
     }
-    for case in hostile::short_cases() {
-        run(FEW, case);
-    }
-    for case in hostile::long_name_cases(SHORT) {
-        run(FEW, case);
-    }
-    run(FEW, hostile::undo_case(SHORT));
 }
 
 #[test]
 fn every_call_runs_on_deep_trees_with_little_stack() {
-    for levels in [64, 128] {
-        for case in hostile::deep_cases(levels, SHORT) {
-            run(ANY, case);
-        }
-        for case in hostile::search_cases(levels) {
-            run(ANY, case);
+    for &kind in KINDS {
+        for levels in [64, 128] {
+            let mut cases = hostile::deep_cases(kind, levels, SHORT);
+            cases.extend(hostile::search_cases(kind, levels));
+            for case in cases {
+                run(ANY, kind, case);
+            }
         }
     }
 }

@@ -4,7 +4,9 @@
 #![deny(warnings)]
 
 use harness::index_file::{letters, node, File};
+use harness::kind::{Kind, KINDS};
 use harness::random::Random;
+use harness::replies::WORKSPACE;
 use harness::{ffi, opponent};
 
 /// A subdirectory: how many files it has, and the count that its node says, where it has one.
@@ -77,10 +79,10 @@ fn change(random: &mut Random, nodes: &mut Vec<Directory>) {
 }
 
 /// The entries of the directories, and a tree with their nodes as they are.
-fn file(random: &mut Random, version: u32, nodes: &[Directory]) -> Vec<u8> {
+fn file(random: &mut Random, kind: Kind, version: u32, nodes: &[Directory]) -> Vec<u8> {
     let mut sorted = nodes.to_vec();
     sorted.sort_by_key(path);
-    let mut file = File::new(version);
+    let mut file = File::new(kind, version);
     let mut entries = 0;
     for directory in &sorted {
         for i in 0..directory.files {
@@ -91,9 +93,10 @@ fn file(random: &mut Random, version: u32, nodes: &[Directory]) -> Vec<u8> {
     let shown: Vec<&Directory> = nodes.iter().filter(|node| node.count.is_some()).collect();
     let root = if random.one_in(2) { -1 } else { entries };
     let mut data = Vec::new();
-    node(&mut data, b"", root, shown.len());
+    node(kind, &mut data, b"", root, shown.len());
     for directory in shown {
-        node(&mut data, &directory.name, directory.count.unwrap_or(-1), 0);
+        let count = directory.count.unwrap_or(-1);
+        node(kind, &mut data, &directory.name, count, 0);
     }
     file.extension(b"TREE", &data);
     file.finish()
@@ -110,10 +113,11 @@ fn wide_directories_get_the_simple_answers() {
         }
         arrange(&mut random, &mut nodes);
         let version = *random.pick(&[2, 4]);
-        let bytes = file(&mut random, version, &nodes);
-        let (mut ours, mut theirs) = (vec![1; ffi::WORKSPACE], vec![1; ffi::WORKSPACE]);
-        let reply = ffi::check(&bytes, &mut ours);
-        let simple = opponent::check(&bytes, &mut theirs);
+        let kind = KINDS[number as usize % KINDS.len()];
+        let bytes = file(&mut random, kind, version, &nodes);
+        let (mut ours, mut theirs) = (vec![1; WORKSPACE], vec![1; WORKSPACE]);
+        let reply = ffi::check(kind.number(), &bytes, &mut ours);
+        let simple = opponent::check(kind.number(), &bytes, &mut theirs);
         assert_eq!(reply, simple, "file {number}");
         assert_eq!(ours, theirs, "file {number}");
         refusals[reply.refusal as usize] += 1;

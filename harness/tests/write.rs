@@ -6,16 +6,17 @@
 use harness::comparison::{Comparison, Reply};
 use harness::index_file::{self, list_entry};
 use harness::inputs::requests::Call;
+use harness::kind::{Kind, KINDS};
 use harness::lent::{Edge, Place};
-use harness::plain::sha1;
+use harness::replies::{Fields, WriteReply, WORKSPACE};
 use harness::{ffi, hostile};
-use nerupazhil::raw;
+use nerupazhil::raw::{self, SHA1};
 use std::ptr::{null, null_mut};
 use std::thread;
 
 /// A refusal of any call has no length.
-fn refused(number: u32) -> ffi::WriteReply {
-    ffi::WriteReply {
+fn refused(number: u32) -> WriteReply {
+    WriteReply {
         refusal: number,
         place: 0,
         length: 0,
@@ -25,99 +26,130 @@ fn refused(number: u32) -> ffi::WriteReply {
 // ---- results that are written out
 
 /// What both libraries write with an output of the given number of bytes, or how they refuse.
-fn written(file: &[u8], call: Call, room: usize) -> Result<Vec<u8>, u32> {
+fn written(kind: Kind, file: &[u8], call: Call, room: usize) -> Result<Vec<u8>, u32> {
     let mut comparison = Comparison::new(Place::Pages);
     comparison.lend_file(file, Edge::End);
     comparison.lend_name(call.name(), Edge::End);
-    match comparison.both(&call, ffi::WORKSPACE, room).unwrap() {
+    let reply = comparison.both(kind.number(), &call, WORKSPACE, room);
+    match reply.unwrap() {
         Reply::Write(reply) if reply.refusal == 0 => Ok(comparison.written(reply.length).to_vec()),
         reply => Err(reply.refusal()),
     }
 }
 
 /// A file of these parts before the checksum.
-fn with_checksum(parts: &[&[u8]]) -> Vec<u8> {
-    let body = parts.concat();
-    let digest = sha1(&body);
-    [&body[..], &digest].concat()
+fn with_checksum(kind: Kind, parts: &[&[u8]]) -> Vec<u8> {
+    kind.signed(parts.concat())
 }
 
 /// An entry up to its name: the last two bytes of the mode, the byte of the object name, the flags and what follows.
-fn fixed(mode: [u8; 2], object: u8, flags: &[u8]) -> Vec<u8> {
-    [&[0; 26], &mode[..], &[0; 12], &[object; 20], flags].concat()
+fn fixed(kind: Kind, mode: [u8; 2], object: u8, flags: &[u8]) -> Vec<u8> {
+    let object = vec![object; kind.width()];
+    [&[0; 26], &mode[..], &[0; 12], &object, flags].concat()
 }
 
 /// An entry of version 2 with a name of three bytes.
-fn row(name: &[u8; 3]) -> Vec<u8> {
+fn row(kind: Kind, name: &[u8; 3]) -> Vec<u8> {
+    let padding = match kind {
+        Kind::Sha1 => 7,
+        Kind::Sha256 => 3,
+    };
     [
-        fixed([0x81, 0xa4], 0x11, &[0, 3]),
+        fixed(kind, [0x81, 0xa4], 0x11, &[0, 3]),
         name.to_vec(),
-        vec![0; 7],
+        vec![0; padding],
     ]
     .concat()
 }
 
 const HEAD: &[u8] = b"DIRC\0\0\0\x02\0\0\0\x03";
 
-/// The entries a-b, a/b and a/c of document 01 and their tree of 51 bytes.
-fn example() -> Vec<u8> {
-    let root = [&b"\x003 1\n"[..], &[0x33; 20]].concat();
-    let a = [&b"a\x002 0\n"[..], &[0x34; 20]].concat();
-    let tree = [&b"TREE\0\0\0\x33"[..], &root, &a].concat();
-    with_checksum(&[HEAD, &row(b"a-b"), &row(b"a/b"), &row(b"a/c"), &tree])
+/// The TREE of these nodes; the bytes of valid ones follow their texts.
+fn tree(kind: Kind, nodes: &[(&[u8], Option<u8>)]) -> Vec<u8> {
+    let mut data = Vec::new();
+    for (text, object) in nodes {
+        data.extend(*text);
+        data.extend(object.map_or(Vec::new(), |byte| vec![byte; kind.width()]));
+    }
+    [&b"TREE\0\0\0"[..], &[data.len() as u8], &data].concat()
 }
 
-fn regular() -> ffi::Fields {
-    ffi::Fields {
+/// The entries a-b, a/b and a/c of document 01 and their tree, of 51 bytes for SHA-1.
+fn example(kind: Kind) -> Vec<u8> {
+    let tree = tree(
+        kind,
+        &[(b"\x003 1\n", Some(0x33)), (b"a\x002 0\n", Some(0x34))],
+    );
+    let rows = [b"a-b", b"a/b", b"a/c"].map(|name| row(kind, name));
+    with_checksum(kind, &[HEAD, &rows.concat(), &tree])
+}
+
+fn regular(kind: Kind) -> Fields {
+    Fields {
         mode: 0o100644,
-        object: [0x11; 20],
-        ..ffi::Fields::default()
+        object: kind.object_of(0x11),
+        ..Fields::default()
     }
 }
 
 #[test]
 fn a_plain_file_is_rewritten_as_it_is() {
-    let file = example();
-    assert_eq!(written(&file, Call::Rewrite(0), file.len()), Ok(file));
+    for &kind in KINDS {
+        let file = example(kind);
+        assert_eq!(written(kind, &file, Call::Rewrite(0), file.len()), Ok(file));
+    }
 }
 
 #[test]
 fn a_put_of_the_record_that_is_there() {
-    let put = || Call::Put(0, b"a/c".to_vec(), regular());
-    let tree = b"TREE\0\0\0\x0d\x00-1 1\na\x00-1 0\n";
-    let after = with_checksum(&[HEAD, &row(b"a-b"), &row(b"a/b"), &row(b"a/c"), tree]);
-    assert_eq!(written(&example(), put(), after.len() - 1), Err(20));
-    assert_eq!(written(&example(), put(), after.len()), Ok(after));
+    for &kind in KINDS {
+        let put = || Call::Put(0, b"a/c".to_vec(), regular(kind));
+        let tree = b"TREE\0\0\0\x0d\x00-1 1\na\x00-1 0\n";
+        let rows = [b"a-b", b"a/b", b"a/c"].map(|name| row(kind, name));
+        let after = with_checksum(kind, &[HEAD, &rows.concat(), tree]);
+        let file = example(kind);
+        assert_eq!(written(kind, &file, put(), after.len() - 1), Err(20));
+        assert_eq!(written(kind, &file, put(), after.len()), Ok(after));
+    }
 }
 
 #[test]
 fn a_remove_beside_a_directory() {
-    let head = b"DIRC\0\0\0\x02\0\0\0\x02";
-    let tree = [&b"TREE\0\0\0\x20\x00-1 1\na\x002 0\n"[..], &[0x34; 20]].concat();
-    let after = with_checksum(&[head, &row(b"a/b"), &row(b"a/c"), &tree]);
-    let remove = Call::Remove(2, b"a-b".to_vec(), 0);
-    assert_eq!(written(&example(), remove, after.len()), Ok(after));
+    for &kind in KINDS {
+        let head = b"DIRC\0\0\0\x02\0\0\0\x02";
+        let tree = tree(kind, &[(b"\x00-1 1\n", None), (b"a\x002 0\n", Some(0x34))]);
+        let after = with_checksum(kind, &[head, &row(kind, b"a/b"), &row(kind, b"a/c"), &tree]);
+        let remove = Call::Remove(2, b"a-b".to_vec(), 0);
+        let file = example(kind);
+        assert_eq!(written(kind, &file, remove, after.len()), Ok(after));
+    }
 }
 
 #[test]
 fn a_put_that_needs_the_extended_word() {
-    let fields = ffi::Fields {
-        mode: 0o100755,
-        object: [0x22; 20],
-        stage: 3,
-        skip_worktree: true,
-        ..ffi::Fields::default()
-    };
-    let put = |asked| Call::Put(asked, b"a/c".to_vec(), fields);
-    let file = with_checksum(&[b"DIRC\0\0\0\x02\0\0\0\x02", &row(b"a-b"), &row(b"a/b")]);
-    let after = with_checksum(&[
-        b"DIRC\0\0\0\x04\0\0\0\x03",
-        &fixed([0x81, 0xa4], 0x11, b"\0\x03\0a-b\0"),
-        &fixed([0x81, 0xa4], 0x11, b"\0\x03\x02/b\0"),
-        &fixed([0x81, 0xed], 0x22, b"\x70\x03\x40\0\x01c\0"),
-    ]);
-    assert_eq!(written(&file, put(2), 1000), Err(21));
-    assert_eq!(written(&file, put(4), after.len()), Ok(after));
+    for &kind in KINDS {
+        let fields = Fields {
+            mode: 0o100755,
+            object: kind.object_of(0x22),
+            stage: 3,
+            skip_worktree: true,
+            ..Fields::default()
+        };
+        let put = |asked| Call::Put(asked, b"a/c".to_vec(), fields);
+        let head = b"DIRC\0\0\0\x02\0\0\0\x02";
+        let file = with_checksum(kind, &[head, &row(kind, b"a-b"), &row(kind, b"a/b")]);
+        let after = with_checksum(
+            kind,
+            &[
+                b"DIRC\0\0\0\x04\0\0\0\x03",
+                &fixed(kind, [0x81, 0xa4], 0x11, b"\0\x03\0a-b\0"),
+                &fixed(kind, [0x81, 0xa4], 0x11, b"\0\x03\x02/b\0"),
+                &fixed(kind, [0x81, 0xed], 0x22, b"\x70\x03\x40\0\x01c\0"),
+            ],
+        );
+        assert_eq!(written(kind, &file, put(2), 1000), Err(21));
+        assert_eq!(written(kind, &file, put(4), after.len()), Ok(after));
+    }
 }
 
 // ---- calls as C makes them
@@ -125,7 +157,7 @@ fn a_put_that_needs_the_extended_word() {
 /// A null pointer with length 0 is an empty slice: the workspace is too small.
 #[test]
 fn null_pointers_are_empty_slices() {
-    let (kind, fields, object) = (raw::SHA1, [0; 14], [0; raw::OBJECT]);
+    let (kind, fields, object) = (SHA1, [0; 14], [0; raw::OBJECT]);
     let mut replies = [[u64::MAX; 3]; 3];
     let [rewrite, put, remove] = &mut replies;
     let (file, name, none) = (null(), null(), null_mut());
@@ -143,36 +175,43 @@ fn null_pointers_are_empty_slices() {
 /// With a workspace, an empty file is too short; with a file, an empty output is too small, and an empty name is no name.
 #[test]
 fn empty_slices_are_refused_by_number() {
-    let mut work = vec![0; ffi::WORKSPACE];
-    let file = index_file::File::new(2).finish();
-    assert_eq!(ffi::rewrite(&[], &mut work, &mut [], 0), refused(1));
-    assert_eq!(ffi::rewrite(&file, &mut work, &mut [], 0), refused(20));
-    assert_eq!(
-        ffi::put(&file, &mut work, &mut [], 0, b"", list_entry()),
-        refused(9)
-    );
-    assert_eq!(
-        ffi::remove(&file, &mut work, &mut [], 0, b"", 0),
-        refused(18)
-    );
+    let mut work = vec![0; WORKSPACE];
+    for &kind in KINDS {
+        let file = index_file::File::new(kind, 2).finish();
+        let (number, entry) = (kind.number(), list_entry(kind));
+        assert_eq!(ffi::rewrite(number, &[], &mut work, &mut [], 0), refused(1));
+        assert_eq!(
+            ffi::rewrite(number, &file, &mut work, &mut [], 0),
+            refused(20)
+        );
+        assert_eq!(
+            ffi::put(number, &file, &mut work, &mut [], 0, b"", entry),
+            refused(9)
+        );
+        assert_eq!(
+            ffi::remove(number, &file, &mut work, &mut [], 0, b"", 0),
+            refused(18)
+        );
+    }
 }
 
 /// 128 levels of nodes, with an entry at the last: rewritten, and a new entry put beside it, with 64 KiB of stack.
 #[test]
 fn deep_trees_need_little_stack() {
     for version in [2, 4] {
-        let file = hostile::deep_entry(version);
+        let file = hostile::deep_entry(Kind::Sha1, version);
         let run = move || {
-            let mut work = vec![0; ffi::WORKSPACE];
+            let mut work = vec![0; WORKSPACE];
             let mut out = vec![0; file.len() + 1024];
-            let rewritten = ffi::rewrite(&file, &mut work, &mut out, version);
+            let rewritten = ffi::rewrite(SHA1, &file, &mut work, &mut out, version);
             let put = ffi::put(
+                SHA1,
                 &file,
                 &mut work,
                 &mut out,
                 version,
                 b"new.txt",
-                list_entry(),
+                list_entry(Kind::Sha1),
             );
             (rewritten.refusal, put.refusal)
         };
@@ -184,7 +223,7 @@ fn deep_trees_need_little_stack() {
 /// A file of version 4 with long names would have gigabytes in version 2.
 #[test]
 fn a_result_far_too_long_is_refused() {
-    let file = hostile::long_names(8000, index_file::LARGEST);
-    let mut work = vec![0; ffi::WORKSPACE];
-    assert_eq!(ffi::rewrite(&file, &mut work, &mut [], 2), refused(2));
+    let file = hostile::long_names(Kind::Sha1, 8000, index_file::LARGEST);
+    let mut work = vec![0; WORKSPACE];
+    assert_eq!(ffi::rewrite(SHA1, &file, &mut work, &mut [], 2), refused(2));
 }

@@ -39,10 +39,12 @@ opt-level = 2
 const MAIN: &str = r#"
 fn main() {
     std::panic::set_hook(Box::new(|_| ()));
-    let mut cases: Vec<_> = edits::GROUPS.iter().flat_map(|(_, group)| group()).collect();
+    let kinds = kind::Kind::ALL;
+    let groups = |kind| edits::GROUPS.iter().flat_map(move |(_, group)| group(kind));
+    let mut cases: Vec<_> = kinds.into_iter().flat_map(groups).collect();
     cases.sort_by_key(|case| case.file.len());
     for writer in WRITERS {
-        println!("{}", edits::first_difference(writer, &cases).unwrap_or_default());
+        println!("{}", edits::first_difference(writer, &cases, kinds[0]).unwrap_or_default());
     }
 }
 "#;
@@ -110,10 +112,11 @@ fn every_wrong_writer_is_noticed() {
 /// The program that tries a number of writers.
 fn program(writers: usize) -> String {
     let mut text =
-        "#![allow(warnings)]\nuse harness::{answers, comparison, edits, plain};\n".to_string();
+        "#![allow(warnings)]\nuse harness::{answers, comparison, edits, kind, replies};\n"
+            .to_string();
     let mut names = String::new();
     for k in 0..writers {
-        text += &format!("mod writer_{k};\nanswers!(answer_{k}, writer_{k}, plain::sha1);\n");
+        text += &format!("mod writer_{k};\nanswers!(answer_{k}, writer_{k});\n");
         names += &format!("answer_{k}, ");
     }
     text += &format!("const WRITERS: [comparison::Answering; {writers}] = [{names}];\n");

@@ -2,22 +2,24 @@
 //! workspaces and outputs must be equal, byte for byte, and what was not lent must stay.
 //!
 //!     compare [--heap] [SEED [COUNT [FIRST]]]
-//!     compare --files FOLDER
+//!     compare --files FOLDER [KIND]
 //!
 //! takes COUNT made inputs of a seed from number FIRST on: seed 1, 10,000 inputs and number 0 where they are not told.
 //! With --heap everything is lent from the heap in its exact size, for valgrind. With --files it takes the files of a
-//! folder that is laid out as `tests/vectors`, with check's answers. A call that touches a page without access ends the
+//! folder that is laid out as `tests/vectors`, with check's answers for a kind of object names, which is 1 where it is
+//! not told. A call that touches a page without access ends the
 //! program by a signal; FIRST and COUNT then find the input. The last line is 'N passed, M failed', and the exit status
 //! is 0 only where M is 0.
 
 #![deny(warnings)]
 
 use harness::comparison::{Comparison, Reply};
-use harness::ffi::{CheckReply, WriteReply, WORKSPACE};
 use harness::inputs::requests::{self, Call};
-use harness::inputs::{self, Input, Kind};
+use harness::inputs::{self, Input, Shape};
+use harness::kind::{self, Kind, KINDS};
 use harness::lent::{Edge, Place};
 use harness::random::Random;
+use harness::replies::{CheckReply, WriteReply, WORKSPACE};
 use harness::vectors::{self, Vector};
 use std::collections::BTreeMap;
 use std::env;
@@ -34,8 +36,6 @@ use std::time::Instant;
 const REFUSALS: [u32; 23] = [
     0, 1, 2, 3, 4, 5, 6, 7, 8, 9, 10, 11, 12, 13, 14, 15, 16, 17, 18, 19, 20, 21, 29,
 ];
-/// Kinds of object names that there are not.
-const UNKNOWN_KINDS: [u32; 6] = [0, 2, 3, 20, 0x0100_0000, u32::MAX];
 /// A run of the given number of inputs or more must meet every refusal.
 const COVERING: u64 = 10_000;
 /// How many failures of a thread are told in full.
@@ -45,7 +45,9 @@ fn main() {
     let run = match Run::new(&env::args().skip(1).collect::<Vec<_>>()) {
         Some(run) => run,
         None => {
-            eprintln!("usage: compare [--heap] [SEED [COUNT [FIRST]]], or compare --files FOLDER");
+            eprintln!(
+                "usage: compare [--heap] [SEED [COUNT [FIRST]]], or compare --files FOLDER [KIND]"
+            );
             exit(2);
         }
     };
@@ -67,8 +69,9 @@ fn main() {
 /// Which inputs are taken, and where everything is lent.
 struct Run {
     place: Place,
-    /// The inputs, where they are not made of a seed.
+    /// The inputs, where they are not made of a seed, and their kind.
     files: Vec<Vector>,
+    kind: Kind,
     seed: u64,
     count: u64,
     first: u64,
@@ -77,14 +80,25 @@ struct Run {
 impl Run {
     fn new(words: &[String]) -> Option<Self> {
         match words {
-            [option, folder] if option == "--files" => {
-                let files = vectors::of(Path::new(folder));
-                let count = files.len() as u64;
-                Some(Self::of(Place::Pages, files, [1, count, 0]))
-            }
+            [option, folder, kind @ ..] if option == "--files" => Self::stored(folder, kind),
             [option, words @ ..] if option == "--heap" => Self::seeded(Place::Heap, words),
             _ => Self::seeded(Place::Pages, words),
         }
+    }
+
+    fn stored(folder: &str, kind: &[String]) -> Option<Self> {
+        let kind = match kind {
+            [] => Kind::Sha1,
+            [number] => Kind::of(number.parse().ok()?)?,
+            _ => return None,
+        };
+        let files = vectors::of(Path::new(folder));
+        let count = files.len() as u64;
+        Some(Self {
+            files,
+            kind,
+            ..Self::of(Place::Pages, [1, count, 0])
+        })
     }
 
     fn seeded(place: Place, words: &[String]) -> Option<Self> {
@@ -97,13 +111,14 @@ impl Run {
             _ => return None,
         };
         numbers[1].checked_add(numbers[2])?;
-        Some(Self::of(place, Vec::new(), numbers))
+        Some(Self::of(place, numbers))
     }
 
-    fn of(place: Place, files: Vec<Vector>, [seed, count, first]: [u64; 3]) -> Self {
+    fn of(place: Place, [seed, count, first]: [u64; 3]) -> Self {
         Self {
             place,
-            files,
+            files: Vec::new(),
+            kind: Kind::Sha1,
             seed,
             count,
             first,
@@ -131,6 +146,7 @@ impl Run {
     fn share(&self, numbers: Range<u64>) -> Counts {
         let mut questions = Questions {
             comparison: Comparison::new(self.place),
+            kind: self.kind,
             counts: Counts::default(),
         };
         for number in numbers {
@@ -152,7 +168,10 @@ impl Run {
     fn input(&self, number: u64) -> (Input, Option<&str>) {
         match self.files.get(number as usize) {
             None => (inputs::input(self.seed, number), None),
-            Some(stored) => (inputs::stored(&stored.file), Some(&stored.expected)),
+            Some(stored) => {
+                let input = inputs::stored(self.kind, &stored.file);
+                (input, Some(&stored.expected))
+            }
         }
     }
 
@@ -176,7 +195,7 @@ impl fmt::Display for Run {
         let (seed, count, first) = (self.seed, self.count, self.first);
         match self.files.is_empty() {
             true => write!(f, "{count} inputs of seed {seed} from number {first} on"),
-            false => write!(f, "{count} files"),
+            false => write!(f, "{count} files of kind {}", self.kind.number()),
         }
     }
 }
@@ -186,6 +205,8 @@ impl fmt::Display for Run {
 /// What a thread asks both libraries, and what it met.
 struct Questions {
     comparison: Comparison,
+    /// The kind that is asked with.
+    kind: Kind,
     counts: Counts,
 }
 
@@ -198,9 +219,10 @@ impl Questions {
         mut random: Random,
     ) -> Result<(), String> {
         let random = &mut random;
+        self.kind = input.kind;
         self.lend(random, &input.bytes, b"");
         let checked = self.check()?;
-        self.counts.input(input.kind, checked.refusal == 0);
+        self.counts.input(input, checked.refusal == 0);
         if input.sound && checked.refusal > 0 {
             return Err(format!("a sound file is refused: {checked:?}"));
         }
@@ -212,6 +234,7 @@ impl Questions {
         for call in &calls {
             self.ask(random, call, input)?;
         }
+        self.other_kinds(random, &calls, input)?;
         self.unknown_kind(random, &calls, input)?;
         self.lend(random, &input.bytes, b"");
         match checked.refusal {
@@ -258,14 +281,36 @@ impl Questions {
         self.comparison.inputs_stay(&input.bytes, call.name())
     }
 
-    /// Makes one of the calls with a kind of object names that there is not.
+    /// Makes one of the calls with each other kind of object names: no file has two.
+    fn other_kinds(
+        &mut self,
+        random: &mut Random,
+        calls: &[Call],
+        input: &Input,
+    ) -> Result<(), String> {
+        for &kind in KINDS.iter().filter(|kind| **kind != input.kind) {
+            let call = random.pick(calls);
+            self.kind = kind;
+            self.lend(random, &input.bytes, call.name());
+            let reply = self.both(call, requests::workspace(random), input.room)?;
+            if call.works() && reply.refusal() == 0 {
+                return Err(format!("{call}, as {}: {reply:?}", kind.name()));
+            }
+            self.comparison.inputs_stay(&input.bytes, call.name())?;
+        }
+        self.kind = input.kind;
+        Ok(())
+    }
+
+    /// Makes one of the calls with a kind of object names that the proved library does not take.
     fn unknown_kind(
         &mut self,
         random: &mut Random,
         calls: &[Call],
         input: &Input,
     ) -> Result<(), String> {
-        let (kind, call) = (*random.pick(&UNKNOWN_KINDS), random.pick(calls));
+        let unknown: Vec<u32> = kind::refused().collect();
+        let (kind, call) = (*random.pick(&unknown), random.pick(calls));
         self.lend(random, &input.bytes, call.name());
         let (work, room) = (requests::workspace(random), random.below(100));
         if let Some(refusal) = self.comparison.unknown_kind(kind, call, work, room)? {
@@ -318,7 +363,7 @@ impl Questions {
     }
 
     fn both(&mut self, call: &Call, work: usize, room: usize) -> Result<Reply, String> {
-        let reply = self.comparison.both(call, work, room)?;
+        let reply = self.comparison.both(self.kind.number(), call, work, room)?;
         self.counts.call(reply.refusal())?;
         Ok(reply)
     }
@@ -329,22 +374,23 @@ impl Questions {
 #[derive(Default)]
 struct Counts {
     failed: u64,
-    /// How many inputs of each kind there were, and how many of these were accepted.
-    kinds: BTreeMap<Kind, (u64, u64)>,
+    /// How many inputs of each kind and shape there were, and how many of these were accepted.
+    inputs: BTreeMap<(Kind, Shape), (u64, u64)>,
     refusals: BTreeMap<u32, u64>,
 }
 
 impl Counts {
-    fn input(&mut self, kind: Kind, accepted: bool) {
-        let (inputs, sound) = self.kinds.entry(kind).or_default();
+    fn input(&mut self, input: &Input, accepted: bool) {
+        let of_its_sort = self.inputs.entry((input.kind, input.shape));
+        let (inputs, sound) = of_its_sort.or_default();
         *inputs += 1;
         *sound += u64::from(accepted);
     }
 
     fn add(&mut self, other: Self) {
         self.failed += other.failed;
-        for (kind, (inputs, accepted)) in other.kinds {
-            let (all, sound) = self.kinds.entry(kind).or_default();
+        for (sort, (inputs, accepted)) in other.inputs {
+            let (all, sound) = self.inputs.entry(sort).or_default();
             *all += inputs;
             *sound += accepted;
         }
@@ -367,9 +413,10 @@ impl Counts {
     }
 
     fn print(&self) {
-        println!("{:>16}  {:>9}  {:>9}", "kind", "inputs", "accepted");
-        for (kind, (inputs, accepted)) in &self.kinds {
-            println!("{:>16}  {inputs:>9}  {accepted:>9}", format!("{kind:?}"));
+        println!("{:>16}  {:>9}  {:>9}  kind", "shape", "inputs", "accepted");
+        for ((kind, shape), (inputs, accepted)) in &self.inputs {
+            let (shape, kind) = (format!("{shape:?}"), kind.name());
+            println!("{shape:>16}  {inputs:>9}  {accepted:>9}  {kind}");
         }
         println!("{:>16}  {:>9}", "refusal", "calls");
         for refusal in REFUSALS {

@@ -5,16 +5,19 @@
 //!     edits [DRAWN [FIRST]]
 //!
 //! takes the cases without chance, those on large files, and those of DRAWN drawn files from number FIRST on: 200 and 0
-//! where they are not told. The last line is 'N passed, M failed', and the exit status is 0 only where M is 0.
+//! where they are not told. Each kind of object names has all of them. The last line is 'N passed, M failed', and the exit
+//! status is 0 only where M is 0.
 
 #![deny(warnings)]
 
 use harness::comparison::{Comparison, Reply};
 use harness::edits::{drawn, Answer, Case, GROUPS, LARGE};
-use harness::ffi::WORKSPACE;
 use harness::inputs::requests::Call;
+use harness::kind::{Kind, KINDS};
 use harness::lent::{Edge, Place};
+use harness::replies::WORKSPACE;
 use std::env;
+use std::ops::Range;
 use std::process::exit;
 use std::time::Instant;
 
@@ -35,11 +38,9 @@ fn main() {
         passed: 0,
         failed: 0,
     };
-    for (name, group) in GROUPS {
-        tests.group(name, group());
+    for &kind in KINDS {
+        tests.kind(kind, first..first + count);
     }
-    tests.group("drawn", (first..first + count).flat_map(drawn));
-    tests.group("large", LARGE.iter().flat_map(|group| group()));
     println!("{} passed, {} failed", tests.passed, tests.failed);
     exit(i32::from(tests.failed > 0));
 }
@@ -51,6 +52,16 @@ struct Tests {
 }
 
 impl Tests {
+    /// The cases of a kind, those of the drawn files of these numbers included.
+    fn kind(&mut self, kind: Kind, numbers: Range<u64>) {
+        println!("{}", kind.name());
+        for (name, group) in GROUPS {
+            self.group(name, group(kind));
+        }
+        self.group("drawn", numbers.flat_map(|number| drawn(kind, number)));
+        self.group("large", LARGE.iter().flat_map(|group| group(kind)));
+    }
+
     fn group(&mut self, name: &str, cases: impl IntoIterator<Item = Case>) {
         let (before, start) = (self.passed + self.failed, Instant::now());
         for case in cases {
@@ -65,15 +76,16 @@ impl Tests {
     fn case(&mut self, case: &Case) {
         for (room, answer) in case.rooms() {
             self.lend(&case.file, &case.call);
-            let asked = self.asked(&case.call, case.work, room, &answer);
+            let asked = self.asked(case.kind, &case.call, case.work, room, &answer);
             let stay = self.comparison.inputs_stay(&case.file, case.call.name());
             self.count(case, asked.and(stay));
         }
         if let Answer::Written(result) = &case.answer {
-            let checked = self.accepted(result);
+            let checked = self.accepted(case.kind, result);
             self.count(case, checked);
             let version = u32::from_be_bytes([result[4], result[5], result[6], result[7]]);
             let again = self.asked(
+                case.kind,
                 &Call::Rewrite(version),
                 WORKSPACE,
                 result.len(),
@@ -97,12 +109,13 @@ impl Tests {
 
     fn asked(
         &mut self,
+        kind: u32,
         call: &Call,
         work: usize,
         room: usize,
         answer: &Answer,
     ) -> Result<(), String> {
-        let reply = self.comparison.both(call, work, room)?;
+        let reply = self.comparison.both(kind, call, work, room)?;
         if reply != answer.reply() {
             let expected = answer.reply();
             return Err(format!("output {room}: {reply:?}, not {expected:?}"));
@@ -118,9 +131,9 @@ impl Tests {
     }
 
     /// Lends a result and sees that check accepts it.
-    fn accepted(&mut self, result: &[u8]) -> Result<(), String> {
+    fn accepted(&mut self, kind: u32, result: &[u8]) -> Result<(), String> {
         self.lend(result, &Call::Check);
-        match self.comparison.both(&Call::Check, WORKSPACE, 0)? {
+        match self.comparison.both(kind, &Call::Check, WORKSPACE, 0)? {
             Reply::Check(reply) if reply.refusal == 0 => Ok(()),
             reply => Err(format!("its result: {reply:?}")),
         }

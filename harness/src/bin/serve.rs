@@ -1,13 +1,20 @@
-//! Answers requests to rewrite and edit index files; `tests/edit_requests.py` says how they are spelled. Each is answered
-//! by the proved library and by the independent one: the program ends with status 1 where these differ or a call did
-//! more than it may.
+//! Answers requests to list, rewrite and edit index files; `tests/edit_requests.py` says how they are spelled. Each is
+//! answered by the proved library and by the independent one: the program ends with status 1 where these differ or a
+//! call did more than it may.
+//!
+//!     serve [--independent]
+//!
+//! With --independent the independent library is asked alone.
 
 #![deny(warnings)]
 
 use harness::comparison::{Comparison, Reply};
-use harness::ffi::{Fields, DIGEST, WORKSPACE};
 use harness::inputs::requests::Call;
+use harness::kind::{Kind, Object, OBJECT};
 use harness::lent::{Edge, Place};
+use harness::listing;
+use harness::replies::{Fields, WORKSPACE};
+use std::env;
 use std::fmt::Display;
 use std::io::{self, BufRead, BufReader, BufWriter, Read, Write};
 use std::process::exit;
@@ -17,11 +24,20 @@ use std::str::{FromStr, SplitWhitespace};
 const WORK: usize = WORKSPACE + 100;
 
 fn main() {
+    let words: Vec<String> = env::args().skip(1).collect();
+    let alone = match &words[..] {
+        [] => false,
+        [option] if option == "--independent" => true,
+        _ => die("usage: serve [--independent]"),
+    };
     let mut input = BufReader::new(io::stdin().lock());
     let mut output = BufWriter::new(io::stdout().lock());
-    let mut comparison = Comparison::new(Place::Pages);
+    let mut server = Server {
+        comparison: Comparison::new(Place::Pages),
+        alone,
+    };
     while let Some(request) = Request::read(&mut input) {
-        let sent = answer(&request, &mut comparison, &mut output);
+        let sent = server.answer(&request, &mut output);
         if sent.and_then(|()| output.flush()).is_err() {
             die("an answer cannot be written");
         }
@@ -33,34 +49,85 @@ fn die(why: impl Display) -> ! {
     exit(1)
 }
 
-fn answer(
-    request: &Request,
-    comparison: &mut Comparison,
-    output: &mut impl Write,
-) -> io::Result<()> {
-    let (file, call) = (&request.file, &request.call);
-    comparison.lend_file(file, Edge::End);
-    comparison.lend_name(call.name(), Edge::End);
-    let asked = comparison.both(call, WORK, request.room);
-    let stay = comparison.inputs_stay(file, call.name());
-    let reply = match asked.and_then(|reply| stay.and(Ok(reply))) {
-        Ok(Reply::Write(reply)) => reply,
-        Ok(reply) => die(format!("{call}: {reply:?}")),
-        Err(why) => die(why),
-    };
-    if reply.refusal > 0 {
-        return writeln!(output, "refused {} {}", reply.refusal, reply.place);
+// ---- answers
+
+struct Server {
+    comparison: Comparison,
+    /// Whether the independent library is asked alone.
+    alone: bool,
+}
+
+impl Server {
+    fn answer(&mut self, request: &Request, output: &mut impl Write) -> io::Result<()> {
+        self.comparison.lend_file(&request.file, Edge::End);
+        let call = match &request.call {
+            Some(call) => call,
+            None => {
+                let text = self.listing(request);
+                return done(output, text.as_bytes());
+            }
+        };
+        match self.reply(request, call) {
+            Reply::Write(reply) if reply.refusal == 0 => {
+                done(output, self.comparison.written(reply.length))
+            }
+            Reply::Write(reply) => writeln!(output, "refused {} {}", reply.refusal, reply.place),
+            reply => die(format!("{call}: {reply:?}")),
+        }
     }
-    writeln!(output, "done {}", reply.length)?;
-    output.write_all(comparison.written(reply.length))
+
+    fn listing(&mut self, request: &Request) -> String {
+        let checked = match self.reply(request, &Call::Check) {
+            Reply::Check(checked) => checked,
+            reply => die(format!("check: {reply:?}")),
+        };
+        if checked.refusal > 0 {
+            return listing::refused(&checked);
+        }
+        for k in 0..checked.nodes {
+            self.reply(request, &Call::TreeNode(k));
+        }
+        for k in 0..checked.records {
+            self.reply(request, &Call::UndoRecord(k));
+        }
+        listing::listing(request.kind, &checked, |k| {
+            match self.reply(request, &Call::Entry(k)) {
+                Reply::Entry(entry) => (entry.fields, self.comparison.shown(entry.name).to_vec()),
+                reply => die(format!("entry: {reply:?}")),
+            }
+        })
+    }
+
+    /// The reply of a call, of both libraries where both are asked.
+    fn reply(&mut self, request: &Request, call: &Call) -> Reply {
+        let comparison = &mut self.comparison;
+        comparison.lend_name(call.name(), Edge::End);
+        let (kind, room) = (request.kind.number(), request.room);
+        if self.alone {
+            return comparison.independent(kind, call, WORK, room);
+        }
+        let asked = comparison.both(kind, call, WORK, room);
+        let stay = comparison.inputs_stay(&request.file, call.name());
+        match asked.and_then(|reply| stay.and(Ok(reply))) {
+            Ok(reply) => reply,
+            Err(why) => die(why),
+        }
+    }
+}
+
+fn done(output: &mut impl Write, bytes: &[u8]) -> io::Result<()> {
+    writeln!(output, "done {}", bytes.len())?;
+    output.write_all(bytes)
 }
 
 // ---- requests
 
 struct Request {
+    kind: Kind,
     file: Vec<u8>,
     room: usize,
-    call: Call,
+    /// What is asked, where it is not the listing.
+    call: Option<Call>,
 }
 
 impl Request {
@@ -74,16 +141,23 @@ impl Request {
         }
         let mut words = Words(line.split_whitespace());
         let call = words.text().to_string();
+        let kind = words.kind();
         let file = bytes(input, words.number());
         let name = bytes(input, words.number());
         let (asked, room) = (words.number(), words.number());
         let call = match call.as_str() {
-            "rewrite" => Call::Rewrite(asked),
-            "put" => Call::Put(asked, name, words.fields()),
-            "remove" => Call::Remove(asked, name, words.number()),
+            "list" => None,
+            "rewrite" => Some(Call::Rewrite(asked)),
+            "put" => Some(Call::Put(asked, name, words.fields(kind))),
+            "remove" => Some(Call::Remove(asked, name, words.number())),
             other => die(format!("{other} is no call")),
         };
-        Some(Self { file, room, call })
+        Some(Self {
+            kind,
+            file,
+            room,
+            call,
+        })
     }
 }
 
@@ -110,7 +184,15 @@ impl Words<'_> {
         self.number::<u8>() == 1
     }
 
-    fn fields(&mut self) -> Fields {
+    fn kind(&mut self) -> Kind {
+        let number = self.number();
+        match Kind::of(number) {
+            Some(kind) => kind,
+            None => die(format!("{number} is no kind")),
+        }
+    }
+
+    fn fields(&mut self, kind: Kind) -> Fields {
         Fields {
             stage: self.number(),
             ctime_seconds: self.number(),
@@ -123,7 +205,7 @@ impl Words<'_> {
             uid: self.number(),
             gid: self.number(),
             size: self.number(),
-            object: object(self.text()),
+            object: object(kind, self.text()),
             assume_valid: self.bit(),
             skip_worktree: self.bit(),
             intent_to_add: self.bit(),
@@ -131,9 +213,9 @@ impl Words<'_> {
     }
 }
 
-fn object(hex: &str) -> [u8; DIGEST] {
-    let mut object = [0; DIGEST];
-    for (k, byte) in object.iter_mut().enumerate() {
+fn object(kind: Kind, hex: &str) -> Object {
+    let mut object = [0; OBJECT];
+    for (k, byte) in object[..kind.width()].iter_mut().enumerate() {
         let digits = hex.get(2 * k..2 * k + 2);
         match digits.map(|digits| u8::from_str_radix(digits, 16)) {
             Some(Ok(value)) => *byte = value,

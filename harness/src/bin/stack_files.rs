@@ -2,11 +2,13 @@
 //!
 //!     stack_files FOLDER
 //!
-//! The folder's files.tsv has a line for each file: how many levels its tree has at most, the file, what it is.
+//! The folder's files.tsv has a line for each file: how many levels its tree has at most, the file, the number of its
+//! kind of object names, what it is.
 
 #![deny(warnings)]
 
 use harness::deepest;
+use harness::kind::KINDS;
 use std::path::Path;
 use std::process::exit;
 use std::{env, fs, io};
@@ -14,10 +16,13 @@ use std::{env, fs, io};
 fn write(folder: &Path) -> io::Result<()> {
     fs::create_dir_all(folder)?;
     let mut rows = String::new();
-    for (number, file) in deepest::files().iter().enumerate() {
-        let name = format!("{number:03}.index");
-        fs::write(folder.join(&name), &file.case.bytes)?;
-        rows += &format!("{}\t{name}\t{}\n", file.levels, file.case.name);
+    for kind in KINDS {
+        for (number, file) in deepest::files(*kind).iter().enumerate() {
+            let (levels, what, kind) = (file.levels, &file.case.name, kind.number());
+            let name = format!("{kind}-{number:03}.index");
+            fs::write(folder.join(&name), &file.case.bytes)?;
+            rows += &format!("{levels}\t{name}\t{kind}\t{what}\n");
+        }
     }
     fs::write(folder.join("files.tsv"), rows)
 }

@@ -3,27 +3,28 @@
 use super::records::{file, putting, removing, rewriting};
 use super::{in_versions, refused, Case, ASKED};
 use crate::inputs::records::{self, Entry, Records};
-use crate::inputs::{self, names, requests, Kind};
+use crate::inputs::{self, names, requests, Shape};
+use crate::kind::Kind;
 use crate::random::Random;
 use std::sync::Arc;
 
-const KINDS: [Kind; 8] = [
-    Kind::Few,
-    Kind::Few,
-    Kind::Few,
-    Kind::Some,
-    Kind::Some,
-    Kind::LongNames,
-    Kind::Deep,
-    Kind::Hundreds,
+const SHAPES: [Shape; 8] = [
+    Shape::Few,
+    Shape::Few,
+    Shape::Few,
+    Shape::Some,
+    Shape::Some,
+    Shape::LongNames,
+    Shape::Deep,
+    Shape::Hundreds,
 ];
 /// Puts and removes on one file.
 const EDITS: usize = 12;
 
-/// The requests of one number: a file in every version, with puts and removes.
-pub fn drawn(number: u64) -> Vec<Case> {
+/// The requests of one number and kind: a file in every version, with puts and removes.
+pub fn drawn(kind: Kind, number: u64) -> Vec<Case> {
     let random = &mut Random::of(1, number);
-    let before = inputs::drawn(random, KINDS[number as usize % KINDS.len()]);
+    let before = inputs::drawn(random, kind, SHAPES[number as usize % SHAPES.len()]);
     let mut cases = in_versions("drawn", &before, &[rewriting(&before)], &ASKED);
     for _ in 0..EDITS {
         let put = putting(&before, &draw_entry(random, &before));
@@ -72,7 +73,7 @@ fn remove(random: &mut Random, before: &Records) -> Case {
     let change = removing(before, &name, stage.into());
     if !before.entries.iter().any(there) {
         let file = Arc::new(file(before));
-        return refused("drawn, absent", &file, change.call(asked), 18);
+        return refused(before.kind, "drawn, absent", &file, change.call(asked), 18);
     }
     in_versions("drawn", before, &[change], &[asked]).remove(0)
 }

@@ -12,10 +12,11 @@ pub use drawn::drawn;
 pub use large::LARGE;
 
 use crate::comparison::{Answering, Reply};
-use crate::ffi::{WriteReply, WORKSPACE};
 use crate::index_file::LARGEST;
 use crate::inputs::records::Records;
 use crate::inputs::requests::Call;
+use crate::kind::Kind;
+use crate::replies::{WriteReply, WORKSPACE};
 use records::{file, Change};
 use std::panic::{catch_unwind, AssertUnwindSafe};
 use std::sync::Arc;
@@ -26,6 +27,8 @@ const ASKED: [u32; 4] = [0, 2, 3, 4];
 const WORK: usize = WORKSPACE + 100;
 
 pub struct Case {
+    /// The number of the kind that it is asked with.
+    pub kind: u32,
     pub name: String,
     pub file: Arc<Vec<u8>>,
     pub call: Call,
@@ -57,8 +60,11 @@ impl Answer {
     }
 }
 
+/// A group of cases, of a kind.
+pub type Group = fn(Kind) -> Vec<Case>;
+
 /// The cases without chance, by groups.
-pub const GROUPS: [(&str, fn() -> Vec<Case>); 10] = [
+pub const GROUPS: [(&str, Group); 10] = [
     ("document", results::document),
     ("place", results::places),
     ("name", results::names),
@@ -80,6 +86,7 @@ fn in_versions(name: &str, before: &Records, changes: &[Change], asked: &[u32]) 
     for change in changes {
         for &asked in asked {
             cases.push(Case {
+                kind: before.kind.number(),
                 name: name.to_string(),
                 file: file.clone(),
                 call: change.call(asked),
@@ -93,8 +100,9 @@ fn in_versions(name: &str, before: &Records, changes: &[Change], asked: &[u32]) 
 }
 
 /// A request that is refused at place 0.
-fn refused(name: &str, file: &Arc<Vec<u8>>, call: Call, number: u32) -> Case {
+fn refused(kind: Kind, name: &str, file: &Arc<Vec<u8>>, call: Call, number: u32) -> Case {
     Case {
+        kind: kind.number(),
         name: name.to_string(),
         file: file.clone(),
         call,
@@ -124,7 +132,8 @@ impl Case {
     fn answered(&self, by: Answering, work: &mut [u8], out: &mut [u8]) -> bool {
         let mut asked = |(room, answer): (usize, Answer)| {
             let (work, out) = (&mut work[..self.work], &mut out[..room]);
-            let reply = by(&self.call, &self.file, self.call.name(), work, out);
+            let name = self.call.name();
+            let reply = by(self.kind, &self.call, &self.file, name, work, out);
             reply == answer.reply()
                 && match answer {
                     Answer::Written(bytes) => out[..bytes.len()] == bytes,
@@ -135,8 +144,8 @@ impl Case {
     }
 }
 
-/// The first case that a library answers otherwise, or with a panic; those on large files come last.
-pub fn first_difference(by: Answering, small: &[Case]) -> Option<String> {
+/// The first case that a library answers otherwise, or with a panic; those on large files, of a kind, come last.
+pub fn first_difference(by: Answering, small: &[Case], kind: Kind) -> Option<String> {
     let (mut work, mut out) = (vec![0; 20_000], vec![0; LARGEST + 100]);
     let mut differs = |case: &Case| {
         let asked = AssertUnwindSafe(|| case.answered(by, &mut work, &mut out));
@@ -145,7 +154,7 @@ pub fn first_difference(by: Answering, small: &[Case]) -> Option<String> {
     if let Some(case) = small.iter().find(|case| differs(case)) {
         return Some(format!("{}: {}", case.name, case.call));
     }
-    let mut large = LARGE.iter().flat_map(|group| group());
+    let mut large = LARGE.iter().flat_map(|group| group(kind));
     let case = large.find(|case| differs(case))?;
     Some(format!("{}: {}", case.name, case.call))
 }

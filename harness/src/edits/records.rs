@@ -1,14 +1,15 @@
 //! Records that are changed, and the one file of them in a version.
 
 use super::Answer;
-use crate::ffi::Fields;
 use crate::index_file::subdirectories;
 use crate::inputs::layout::{signed, Layout};
 use crate::inputs::records::{
     Entry, Extension, Node, Records, Undo, INTENT_TO_ADD, MODE, MODES, SKIP_WORKTREE,
 };
 use crate::inputs::requests::Call;
+use crate::kind::{Kind, OBJECT};
 use crate::plain;
+use crate::replies::Fields;
 
 pub const REGULAR: u32 = MODES[0];
 pub const EXECUTABLE: u32 = MODES[1];
@@ -21,7 +22,7 @@ pub fn entry(name: &[u8], stage: u16) -> Entry {
     numbers[MODE] = REGULAR;
     Entry {
         numbers,
-        object: [0x11; 20],
+        object: [0x11; OBJECT],
         assume_valid: false,
         stage,
         word: None,
@@ -86,7 +87,7 @@ impl Tree {
             name: self.name.clone(),
             count: self.count,
             subtrees: self.below.len(),
-            object: plain::sha1(&nodes.len().to_be_bytes()),
+            object: plain::sha256(&nodes.len().to_be_bytes()),
         });
         for tree in &self.below {
             tree.add_to(nodes);
@@ -99,12 +100,18 @@ pub fn undo(path: &[u8], modes: [u32; 3]) -> Undo {
     Undo {
         path: path.to_vec(),
         modes,
-        objects: [[0x44; 20], [0x55; 20], [0x66; 20]],
+        objects: [[0x44; OBJECT], [0x55; OBJECT], [0x66; OBJECT]],
     }
 }
 
-pub fn records(version: u32, entries: Vec<Entry>, extensions: Vec<Extension>) -> Records {
+pub fn records(
+    kind: Kind,
+    version: u32,
+    entries: Vec<Entry>,
+    extensions: Vec<Extension>,
+) -> Records {
     Records {
+        kind,
         version,
         entries,
         extensions,
@@ -112,14 +119,14 @@ pub fn records(version: u32, entries: Vec<Entry>, extensions: Vec<Extension>) ->
 }
 
 /// Records of these names, with a valid tree or without.
-pub fn of_names(version: u32, names: &[&[u8]], tree: bool) -> Records {
+pub fn of_names(kind: Kind, version: u32, names: &[&[u8]], tree: bool) -> Records {
     let entries = names.iter().map(|name| entry(name, 0)).collect();
     let tree = tree.then(|| Tree::of(b"", names).extension());
-    records(version, entries, tree.into_iter().collect())
+    records(kind, version, entries, tree.into_iter().collect())
 }
 
 pub fn file(records: &Records) -> Vec<u8> {
-    signed(Layout::new(records).body(), true)
+    signed(records.kind, Layout::new(records).body(), true)
 }
 
 // ---- changes
@@ -255,7 +262,8 @@ fn plainly(version: u32, given: &Records) -> Records {
         }
     }
     trees.extend(undos);
-    records(version, given.entries.iter().map(plain).collect(), trees)
+    let entries = given.entries.iter().map(plain).collect();
+    records(given.kind, version, entries, trees)
 }
 
 /// The nodes with -1 for every invalid count.

@@ -7,17 +7,18 @@ use super::{in_versions, refused, Case, ASKED};
 use crate::inputs::names;
 use crate::inputs::records::{Entry, Extension, INTENT_TO_ADD, MODE, MODES, SKIP_WORKTREE};
 use crate::inputs::requests::Call;
+use crate::kind::{Kind, OBJECT};
 use std::sync::Arc;
 
 /// The cases of document 01 that are about writing.
-pub fn document() -> Vec<Case> {
-    let tree = of_names(2, &[b"a-b", b"a/b", b"a/c"], true);
+pub fn document(kind: Kind) -> Vec<Case> {
+    let tree = of_names(kind, 2, &[b"a-b", b"a/b", b"a/c"], true);
     let put = putting(&tree, &tree.entries[2]);
     let mut cases = in_versions("tree after a put", &tree, &[put], &[0]);
-    let saw = of_names(2, &[b"saw/cut.txt", b"saw/cutter.txt"], false);
+    let saw = of_names(kind, 2, &[b"saw/cut.txt", b"saw/cutter.txt"], false);
     cases.extend(in_versions("saw", &saw, &[rewriting(&saw)], &ASKED));
     let plan = vec![undo(b"plan", [REGULAR, 0, REGULAR])];
-    let plan = records(2, Vec::new(), vec![Extension::Undo(plan)]);
+    let plan = records(kind, 2, Vec::new(), vec![Extension::Undo(plan)]);
     cases.extend(in_versions("undo", &plan, &[rewriting(&plan)], &ASKED));
     cases
 }
@@ -30,13 +31,13 @@ fn executable(name: &[u8]) -> Entry {
 }
 
 /// Puts before, between, after and over the entries, and each entry removed, from every version to every other.
-pub fn places() -> Vec<Case> {
+pub fn places(kind: Kind) -> Vec<Case> {
     let names: [&[u8]; 3] = [b"b", b"b/c", b"d"];
     let mut cases = Vec::new();
     for version in 2..=4 {
-        let mut before = of_names(version, &names, true);
+        let mut before = of_names(kind, version, &names, true);
         for (k, entry) in before.entries.iter_mut().enumerate() {
-            entry.object = [k as u8; 20];
+            entry.object = [k as u8; OBJECT];
             entry.numbers = std::array::from_fn(|n| (k + n) as u32);
             entry.numbers[MODE] = REGULAR;
         }
@@ -50,24 +51,24 @@ pub fn places() -> Vec<Case> {
         changes.extend(puts.iter().map(|put| putting(&before, put)));
         changes.extend(names.map(|name| removing(&before, name, 0)));
         cases.extend(in_versions("place", &before, &changes, &ASKED));
-        cases.extend(few_entries(version));
+        cases.extend(few_entries(kind, version));
     }
     cases
 }
 
 /// The last entry goes, one comes into an empty file, and each of four stages goes.
-fn few_entries(version: u32) -> Vec<Case> {
+fn few_entries(kind: Kind, version: u32) -> Vec<Case> {
     let mut cases = Vec::new();
     for tree in [false, true] {
-        let one = of_names(version, &[b"b"], tree);
+        let one = of_names(kind, version, &[b"b"], tree);
         let last = [removing(&one, b"b", 0)];
         cases.extend(in_versions("the last entry goes", &one, &last, &ASKED));
-        let empty = of_names(version, &[], tree);
+        let empty = of_names(kind, version, &[], tree);
         let first = [rewriting(&empty), putting(&empty, &entry(b"b", 0))];
         cases.extend(in_versions("empty", &empty, &first, &ASKED));
     }
     let stages = (0..4).map(|stage| entry(b"s", stage)).collect();
-    let stages = records(version, stages, Vec::new());
+    let stages = records(kind, version, stages, Vec::new());
     let changes: Vec<_> = (0..4).map(|stage| removing(&stages, b"s", stage)).collect();
     cases.extend(in_versions("stages", &stages, &changes, &ASKED));
     cases
@@ -94,10 +95,10 @@ fn bad_names() -> Vec<Vec<u8>> {
 }
 
 /// Names that are put and removed, names that cannot be, and names and stages that are not there.
-pub fn names() -> Vec<Case> {
+pub fn names(kind: Kind) -> Vec<Case> {
     let mut cases = Vec::new();
     for version in 2..=4 {
-        let before = of_names(version, &[b"m", b"o"], false);
+        let before = of_names(kind, version, &[b"m", b"o"], false);
         for name in good_names() {
             let put = [putting(&before, &entry(&name, 0))];
             cases.extend(in_versions("name put", &before, &put, &[2, 3, 4]));
@@ -110,13 +111,13 @@ pub fn names() -> Vec<Case> {
         let file = Arc::new(file(&before));
         for name in bad_names() {
             let put = putting(&before, &entry(&name, 0)).call(version);
-            cases.push(refused("bad name put", &file, put, 9));
+            cases.push(refused(kind, "bad name put", &file, put, 9));
             let remove = Call::Remove(version, name, 0);
-            cases.push(refused("bad name removed", &file, remove, 18));
+            cases.push(refused(kind, "bad name removed", &file, remove, 18));
         }
         let absent = |(name, stage)| {
             let remove = Call::Remove(version, name, stage);
-            refused("absent", &file, remove, 18)
+            refused(kind, "absent", &file, remove, 18)
         };
         cases.extend(absent_keys().into_iter().map(absent));
     }
@@ -137,19 +138,19 @@ fn absent_keys() -> Vec<(Vec<u8>, u32)> {
 }
 
 /// N of version 4 at its limits: written, and changed by an entry that comes before or goes.
-pub fn numbers() -> Vec<Case> {
+pub fn numbers(kind: Kind) -> Vec<Case> {
     let taken = [
         1, 126, 127, 128, 129, 255, 256, 4095, 4096, 8063, 8064, 8191, 8192,
     ];
     let mut cases = Vec::new();
     for taken in taken {
         for version in [2, 4] {
-            cases.extend(number(taken, version));
+            cases.extend(number(kind, taken, version));
         }
     }
     for more in [0, 1, 3, 10_000] {
         let names: [&[u8]; 5] = [b"ab/cd/ef", b"ab/cd/eg", b"ab/cd/eg/h", b"ab/cf", b"b"];
-        let mut before = of_names(4, &names, false);
+        let mut before = of_names(kind, 4, &names, false);
         before
             .entries
             .iter_mut()
@@ -164,10 +165,10 @@ pub fn numbers() -> Vec<Case> {
 }
 
 /// A name of 8,192 bytes, and one after it that takes the given number of bytes from its end.
-fn number(taken: usize, version: u32) -> Vec<Case> {
+fn number(kind: Kind, taken: usize, version: u32) -> Vec<Case> {
     let long = vec![b'p'; 8192];
     let (first, last) = (long.clone(), [&long[..8192 - taken], b"q"].concat());
-    let mut both = of_names(version, &[&first, &last], false);
+    let mut both = of_names(kind, version, &[&first, &last], false);
     both.entries[1].more = 10_000;
     let changes = [
         rewriting(&both),
@@ -176,7 +177,7 @@ fn number(taken: usize, version: u32) -> Vec<Case> {
     ];
     let mut cases = in_versions("N", &both, &changes, &[2, 4]);
     for (one, other) in [(&first, &last), (&last, &first)] {
-        let before = of_names(version, &[one], false);
+        let before = of_names(kind, version, &[one], false);
         let put = [putting(&before, &entry(other, 0))];
         cases.extend(in_versions("N of a put", &before, &put, &[4]));
     }
@@ -184,7 +185,7 @@ fn number(taken: usize, version: u32) -> Vec<Case> {
 }
 
 /// The extended word: present where it is needed, and the versions that follow from it.
-pub fn words() -> Vec<Case> {
+pub fn words(kind: Kind) -> Vec<Case> {
     let words = [
         0,
         SKIP_WORKTREE,
@@ -200,11 +201,11 @@ pub fn words() -> Vec<Case> {
                     word: Some(0),
                     ..entry(b"w", stage)
                 };
-                cases.extend(word_among_others(version, plain, word));
+                cases.extend(word_among_others(kind, version, plain, word));
             }
         }
     }
-    let before = of_names(2, &[b"a"], false);
+    let before = of_names(kind, 2, &[b"a"], false);
     for mode in MODES {
         let largest = words.map(|word| putting(&before, &largest(mode, word)));
         cases.extend(in_versions("largest fields", &before, &largest, &ASKED));
@@ -214,14 +215,14 @@ pub fn words() -> Vec<Case> {
 
 /// An entry with this word in the middle: all is rewritten, it goes, its word goes, another word comes, another entry
 /// goes.
-fn word_among_others(version: u32, plain: Entry, word: u16) -> Vec<Case> {
+fn word_among_others(kind: Kind, version: u32, plain: Entry, word: u16) -> Vec<Case> {
     let with = |word: u16, name: &[u8]| Entry {
         word: Some(word),
         name: name.to_vec(),
         ..plain.clone()
     };
     let entries = vec![entry(b"v", 0), with(word, b"w"), entry(b"x", 0)];
-    let before = records(version, entries, Vec::new());
+    let before = records(kind, version, entries, Vec::new());
     let changes = [
         rewriting(&before),
         removing(&before, b"w", plain.stage.into()),
@@ -237,14 +238,14 @@ fn largest(mode: u32, word: u16) -> Entry {
     let mut largest = entry(b"m", 3);
     largest.numbers = [u32::MAX; 10];
     largest.numbers[MODE] = mode;
-    largest.object = [0xff; 20];
+    largest.object = [0xff; OBJECT];
     largest.assume_valid = true;
     largest.word = Some(word);
     largest
 }
 
 /// What is kept of extensions, and what is dropped.
-pub fn extensions() -> Vec<Case> {
+pub fn extensions(kind: Kind) -> Vec<Case> {
     let tree = Tree::new(b"", -5, &[Tree::new(b"a", 1, &[])]).extension();
     let two = vec![
         undo(b"a/b", [REGULAR, 0, EXECUTABLE]),
@@ -257,6 +258,7 @@ pub fn extensions() -> Vec<Case> {
             let with_tree = [Some(tree.clone()), undo.clone()];
             for known in [with_tree, [None, undo]] {
                 cases.extend(kept_and_dropped(
+                    kind,
                     version,
                     known.into_iter().flatten().collect(),
                 ));
@@ -267,12 +269,12 @@ pub fn extensions() -> Vec<Case> {
 }
 
 /// The known extensions as they are and turned round, alone and with others before, between and after them.
-fn kept_and_dropped(version: u32, known: Vec<Extension>) -> Vec<Case> {
+fn kept_and_dropped(kind: Kind, version: u32, known: Vec<Extension>) -> Vec<Case> {
     let mut cases = Vec::new();
     let turned = known.iter().rev().cloned().collect();
     for row in [known, turned] {
         for row in [with_others(row.clone()), row] {
-            let before = records(version, vec![entry(b"a/b", 0), entry(b"c", 0)], row);
+            let before = records(kind, version, vec![entry(b"a/b", 0), entry(b"c", 0)], row);
             let changes = [
                 rewriting(&before),
                 putting(&before, &entry(b"a/b", 1)),

@@ -4,6 +4,7 @@ use super::records::{
     entry, of_names, putting, putting_on, removing, removing_on, rewriting, Tree,
 };
 use super::{in_versions, Case, ASKED};
+use crate::kind::Kind;
 use crate::random::Random;
 
 const NAMES: [&[u8]; 7] = [
@@ -37,7 +38,7 @@ const INVALIDATED: [(&[u8], &[&[u8]]); 17] = [
 ];
 
 /// Whole trees, in three orders of siblings.
-pub fn whole() -> Vec<Case> {
+pub fn whole(kind: Kind) -> Vec<Case> {
     let orders: [fn(&mut [Tree]); 3] = [
         |below| below.sort_by_key(|tree| [&tree.name[..], b"/"].concat()),
         |below| below.sort_by_key(|tree| (tree.name.len(), tree.name.clone())),
@@ -51,7 +52,7 @@ pub fn whole() -> Vec<Case> {
             let empty = [b"0", &b".git"[..]].map(|name| Tree::new(name, 0, &[]));
             tree.below.push(Tree::new(b"z", 0, &empty));
             arrange(&mut tree, order);
-            cases.extend(changes_of(version, &tree));
+            cases.extend(changes_of(kind, version, &tree));
         }
     }
     cases
@@ -64,8 +65,8 @@ fn arrange(tree: &mut Tree, order: fn(&mut [Tree])) {
     }
 }
 
-fn changes_of(version: u32, tree: &Tree) -> Vec<Case> {
-    let mut before = of_names(version, &NAMES, false);
+fn changes_of(kind: Kind, version: u32, tree: &Tree) -> Vec<Case> {
+    let mut before = of_names(kind, version, &NAMES, false);
     before.extensions.push(tree.extension());
     let mut changes = vec![rewriting(&before)];
     for (name, directories) in INVALIDATED {
@@ -78,12 +79,12 @@ fn changes_of(version: u32, tree: &Tree) -> Vec<Case> {
 }
 
 /// Trees that lack nodes, and trees of many levels.
-pub fn parts() -> Vec<Case> {
+pub fn parts(kind: Kind) -> Vec<Case> {
     // Without the node of a directory on the path, those below it are not on the path.
     let a = Tree::new(b"a", -(1 << 31), &[Tree::new(b"d", 0, &[])]);
     let b = Tree::new(b"b", -2, &[a]);
     let part = Tree::new(b"", -7, &[b, Tree::new(b"d", 0, &[])]);
-    let mut before = of_names(2, &NAMES, false);
+    let mut before = of_names(kind, 2, &NAMES, false);
     before.extensions.push(part.extension());
     let directories: [&[u8]; 4] = [b"", b"b", b"b/a", b"b/a/d"];
     let changes = [
@@ -93,15 +94,19 @@ pub fn parts() -> Vec<Case> {
         removing_on(&before, b"a/d/e", 0, &[b""]),
     ];
     let mut cases = in_versions("part of a tree", &before, &changes, &ASKED);
-    cases.extend([1, 2, 127, 128].into_iter().flat_map(levels));
+    cases.extend(
+        [1, 2, 127, 128]
+            .into_iter()
+            .flat_map(|count| levels(kind, count)),
+    );
     cases
 }
 
 /// Nested directories of the given number of levels, with changes on several of them and below the last.
-fn levels(levels: usize) -> Vec<Case> {
+fn levels(kind: Kind, levels: usize) -> Vec<Case> {
     let below = |depth: usize, name: &[u8]| [&b"d/".repeat(depth)[..], name].concat();
     let name = below(levels - 1, b"file");
-    let before = of_names(4, &[&name], true);
+    let before = of_names(kind, 4, &[&name], true);
     let mut changes = vec![rewriting(&before), removing(&before, &name, 0)];
     for depth in [0, 1, 60, 126, 127, 128, 200] {
         changes.push(putting(&before, &entry(&below(depth, b"new"), 0)));

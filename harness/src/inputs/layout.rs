@@ -2,7 +2,7 @@
 
 use super::records::{Entry, Extension, Node, Records, Undo, MODE};
 use crate::index_file::{common, offset_code, padding};
-use crate::plain;
+use crate::kind::{Kind, Object};
 use std::ops::Range;
 
 /// Which piece of an entry has its flags: ten numbers and an object name are before.
@@ -48,6 +48,7 @@ pub struct Part {
 
 /// A file without its checksum, in pieces. A piece is a range of the store, which only grows.
 pub struct Layout {
+    kind: Kind,
     pub version: u32,
     pub entries: u32,
     pub parts: Vec<Part>,
@@ -60,6 +61,7 @@ pub struct Layout {
 impl Layout {
     pub fn new(records: &Records) -> Self {
         let mut layout = Self {
+            kind: records.kind,
             version: records.version,
             entries: records.entries.len() as u32,
             parts: Vec::new(),
@@ -95,6 +97,11 @@ impl Layout {
         self.parts.push(Part { field, first, end });
     }
 
+    /// Adds as much of an object name as the kind has.
+    fn object(&mut self, field: Field, object: &Object) {
+        self.add(field, &object[..self.kind.width()]);
+    }
+
     /// Adds what the function adds, and a part that covers it.
     fn cover(&mut self, field: Field, fill: impl FnOnce(&mut Self)) {
         let first = self.pieces.len();
@@ -113,7 +120,7 @@ impl Layout {
                 };
                 layout.add(field, &number.to_be_bytes());
             }
-            layout.add(Field::Object, &entry.object);
+            layout.object(Field::Object, &entry.object);
             layout.add(Field::Flags, &flags(entry).to_be_bytes());
             if let Some(word) = entry.word {
                 layout.add(Field::Word, &word.to_be_bytes());
@@ -160,7 +167,7 @@ impl Layout {
             layout.add(Field::Subtrees, node.subtrees.to_string().as_bytes());
             layout.add(Field::Separator, b"\n");
             if node.count >= 0 {
-                layout.add(Field::NodeObject, &node.object);
+                layout.object(Field::NodeObject, &node.object);
             }
         });
     }
@@ -175,7 +182,7 @@ impl Layout {
             }
             for (mode, object) in undo.modes.iter().zip(&undo.objects) {
                 if *mode > 0 {
-                    layout.add(Field::UndoObject, object);
+                    layout.object(Field::UndoObject, object);
                 }
             }
         });
@@ -258,11 +265,11 @@ impl Layout {
 }
 
 /// The body with a checksum behind it, a right one or one with a wrong bit.
-pub fn signed(mut body: Vec<u8>, right: bool) -> Vec<u8> {
-    let mut digest = plain::sha1(&body);
+pub fn signed(kind: Kind, body: Vec<u8>, right: bool) -> Vec<u8> {
+    let length = body.len();
+    let mut file = kind.signed(body);
     if !right {
-        digest[body.len() % 20] ^= 1 << (body.len() % 8);
+        file[length + length % kind.width()] ^= 1 << (length % 8);
     }
-    body.extend(digest);
-    body
+    file
 }

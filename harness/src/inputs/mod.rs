@@ -8,16 +8,17 @@ pub mod names;
 pub mod records;
 pub mod requests;
 
-use crate::ffi::WORKSPACE;
-use crate::index_file::{letters, LARGEST};
+use crate::index_file::{letters, padding, LARGEST};
+use crate::kind::{Kind, KINDS};
 use crate::opponent;
 use crate::random::Random;
+use crate::replies::WORKSPACE;
 use layout::{signed, Layout};
 use records::{Extension, Records, Undo, LEVELS, MODES};
 
-/// Kinds of inputs: sound files, then files with a fault or damage, bytes that are no file, and sizes at a limit.
+/// Shapes of inputs: sound files, then files with a fault or damage, bytes that are no file, and sizes at a limit.
 #[derive(Clone, Copy, Debug, PartialEq, Eq, PartialOrd, Ord)]
-pub enum Kind {
+pub enum Shape {
     /// Entries, up to six.
     Few,
     /// Up to forty.
@@ -53,35 +54,39 @@ pub enum Kind {
     Stored,
 }
 
-/// Which kinds follow each other, so that each run has its share of each.
-const TURN: [(Kind, usize); 18] = [
-    (Kind::Few, 10),
-    (Kind::Some, 4),
-    (Kind::Hundreds, 1),
-    (Kind::Wide, 1),
-    (Kind::LongNames, 2),
-    (Kind::Deep, 2),
-    (Kind::BadName, 3),
-    (Kind::Order, 3),
-    (Kind::Tree, 4),
-    (Kind::Undo, 2),
-    (Kind::Extension, 2),
-    (Kind::Offset, 1),
-    (Kind::Field, 11),
-    (Kind::Fields, 3),
-    (Kind::Bytes, 5),
-    (Kind::Cut, 7),
-    (Kind::Noise, 1),
-    (Kind::HeaderAndNoise, 2),
+/// Which shapes follow each other, so that each run has its share of each.
+const TURN: [(Shape, usize); 18] = [
+    (Shape::Few, 10),
+    (Shape::Some, 4),
+    (Shape::Hundreds, 1),
+    (Shape::Wide, 1),
+    (Shape::LongNames, 2),
+    (Shape::Deep, 2),
+    (Shape::BadName, 3),
+    (Shape::Order, 3),
+    (Shape::Tree, 4),
+    (Shape::Undo, 2),
+    (Shape::Extension, 2),
+    (Shape::Offset, 1),
+    (Shape::Field, 11),
+    (Shape::Fields, 3),
+    (Shape::Bytes, 5),
+    (Shape::Cut, 7),
+    (Shape::Noise, 1),
+    (Shape::HeaderAndNoise, 2),
 ];
-/// How many inputs have each kind in its share.
+/// How many inputs have each shape in its share.
 const TURN_LENGTH: u64 = 64;
 /// One input of this number is at a limit of the sizes.
 const LIMIT_TURN: u64 = 4096;
 /// Small files of at most the given number of bytes are cut at every length, with and without a corrected checksum.
 const CUTS: u64 = 256;
+/// How many limits there are.
+const LIMITS: u64 = 4;
 
 pub struct Input {
+    pub shape: Shape,
+    /// The kind of its object names, or of those that it is read with.
     pub kind: Kind,
     pub bytes: Vec<u8>,
     /// Whether it must be accepted.
@@ -95,48 +100,59 @@ pub struct Input {
 /// The input of a seed and number.
 pub fn input(seed: u64, number: u64) -> Input {
     let random = &mut Random::of(seed, number);
-    let (kind, nth) = kind(number);
-    match kind {
-        Kind::Few | Kind::Some | Kind::Hundreds | Kind::LongNames | Kind::Deep => {
-            sound(kind, &drawn(random, kind))
+    let (shape, nth) = shape(number);
+    let kind = kind(seed, number, shape, nth);
+    match shape {
+        Shape::Few | Shape::Some | Shape::Hundreds | Shape::LongNames | Shape::Deep => {
+            sound(shape, &drawn(random, kind, shape))
         }
-        Kind::Wide => wide(random),
-        Kind::BadName => bad_name(random),
-        Kind::Order => disorder(random),
-        Kind::Tree => faulty_tree(random),
-        Kind::Undo => faulty_undo(random),
-        Kind::Extension => extension(random),
-        Kind::Offset => offset(random),
-        Kind::Field | Kind::Fields => fields(random, kind),
-        Kind::Bytes => bytes(random),
-        Kind::Cut => cut(random, seed, nth),
-        Kind::Noise | Kind::HeaderAndNoise => noise(random, kind),
-        Kind::Limit => limit(random, nth),
-        Kind::Stored => unreachable!("no number has this kind"),
+        Shape::Wide => wide(random, kind),
+        Shape::BadName => bad_name(random, kind),
+        Shape::Order => disorder(random, kind),
+        Shape::Tree => faulty_tree(random, kind),
+        Shape::Undo => faulty_undo(random, kind),
+        Shape::Extension => extension(random, kind),
+        Shape::Offset => offset(random, kind),
+        Shape::Field | Shape::Fields => fields(random, kind, shape),
+        Shape::Bytes => bytes(random, kind),
+        Shape::Cut => cut(random, kind, seed, nth),
+        Shape::Noise | Shape::HeaderAndNoise => noise(random, kind, shape),
+        Shape::Limit => limit(random, kind, nth),
+        Shape::Stored => unreachable!("no number has this shape"),
     }
 }
 
 /// The input of bytes that are given.
-pub fn stored(bytes: &[u8]) -> Input {
+pub fn stored(kind: Kind, bytes: &[u8]) -> Input {
     let work = &mut vec![0; WORKSPACE];
     let mut names = Vec::new();
-    for k in 0..opponent::check(bytes, work).entries {
-        let name = opponent::entry(bytes, work, k).name;
+    for k in 0..opponent::check(kind.number(), bytes, work).entries {
+        let name = opponent::entry(kind.number(), bytes, work, k).name;
         let buffer = if name.buffer == 2 { &work[..] } else { bytes };
         names.push(buffer[name.offset..name.offset + name.length].to_vec());
     }
-    named(Kind::Stored, names, bytes.to_vec())
+    named(Shape::Stored, kind, names, bytes.to_vec())
 }
 
-/// The kind of a number, and how many of that kind are before it.
-fn kind(number: u64) -> (Kind, u64) {
+/// The kind of the n-th input of a shape. All cuts of a file have one, and each limit has all in turn.
+fn kind(seed: u64, number: u64, shape: Shape, nth: u64) -> Kind {
+    let drawn = match shape {
+        Shape::Cut => (nth / (2 * CUTS)) as usize,
+        Shape::Limit => (nth / LIMITS) as usize,
+        _ => Random::of(!seed, !number).below(KINDS.len()),
+    };
+    KINDS[drawn % KINDS.len()]
+}
+
+/// The shape of a number, and how many of that shape are before it.
+fn shape(number: u64) -> (Shape, u64) {
     if number % LIMIT_TURN == LIMIT_TURN - 1 {
-        return (Kind::Limit, number / LIMIT_TURN);
+        return (Shape::Limit, number / LIMIT_TURN);
     }
     let (turn, mut place) = (number / TURN_LENGTH, number * 37 % TURN_LENGTH);
-    for (kind, share) in TURN {
+    for (shape, share) in TURN {
         if place < share as u64 {
-            return (kind, turn * share as u64 + place);
+            return (shape, turn * share as u64 + place);
         }
         place -= share as u64;
     }
@@ -145,28 +161,28 @@ fn kind(number: u64) -> (Kind, u64) {
 
 // ---- sound files
 
-/// Records with entries as the kind says.
-pub fn drawn(random: &mut Random, kind: Kind) -> Records {
+/// Records with entries as the shape says.
+pub fn drawn(random: &mut Random, kind: Kind, shape: Shape) -> Records {
     let version = 2 + random.below(3) as u32;
-    let count = match kind {
-        Kind::Few => random.below(7),
-        Kind::Some => random.below(40),
-        Kind::Hundreds => 100 + random.below(250),
+    let count = match shape {
+        Shape::Few => random.below(7),
+        Shape::Some => random.below(40),
+        Shape::Hundreds => 100 + random.below(250),
         _ => 1 + random.below(6),
     };
     let depth = 1 + random.below(4);
-    let name = |k| match kind {
-        Kind::LongNames if k % 2 == 0 => names::long(random),
-        Kind::Deep => deep_name(random),
+    let name = |k| match shape {
+        Shape::LongNames if k % 2 == 0 => names::long(random),
+        Shape::Deep => deep_name(random),
         _ => names::sound(random, depth),
     };
     let names = (0..count).map(name).collect();
     let entries = records::entries(random, version, names);
-    records::records(random, version, entries)
+    records::records(random, kind, version, entries)
 }
 
 /// Hundreds of directories in any order, some with thousands beside them that no entry is in. One in three has a fault.
-fn wide(random: &mut Random) -> Input {
+fn wide(random: &mut Random, kind: Kind) -> Input {
     let version = 2 + random.below(3) as u32;
     let (count, width) = (50 + random.below(400), 1 + random.below(5));
     let name = |_| {
@@ -185,13 +201,14 @@ fn wide(random: &mut Random) -> Input {
         faults::nodes(random, &mut nodes);
     }
     let records = Records {
+        kind,
         version,
         entries,
         extensions: vec![Extension::Tree(nodes)],
     };
     Input {
         sound: !fault,
-        ..laid_out(Kind::Wide, &records)
+        ..laid_out(Shape::Wide, &records)
     }
 }
 
@@ -205,27 +222,29 @@ fn deep_name(random: &mut Random) -> Vec<u8> {
     [directory.repeat(levels), names::component(random)].concat()
 }
 
-fn sound(kind: Kind, records: &Records) -> Input {
+fn sound(shape: Shape, records: &Records) -> Input {
     Input {
         sound: true,
-        ..laid_out(kind, records)
+        ..laid_out(shape, records)
     }
 }
 
 /// The records' file, whether it is sound or not.
-fn laid_out(kind: Kind, records: &Records) -> Input {
-    input_of(kind, records, signed(Layout::new(records).body(), true))
+fn laid_out(shape: Shape, records: &Records) -> Input {
+    let body = Layout::new(records).body();
+    input_of(shape, records, signed(records.kind, body, true))
 }
 
-fn input_of(kind: Kind, records: &Records, bytes: Vec<u8>) -> Input {
+fn input_of(shape: Shape, records: &Records, bytes: Vec<u8>) -> Input {
     let names = records.entries.iter().map(|e| e.name.clone());
-    named(kind, names.collect(), bytes)
+    named(shape, records.kind, names.collect(), bytes)
 }
 
-fn named(kind: Kind, names: Vec<Vec<u8>>, bytes: Vec<u8>) -> Input {
-    let spelled: usize = names.iter().map(|name| name.len() + 80).sum();
+fn named(shape: Shape, kind: Kind, names: Vec<Vec<u8>>, bytes: Vec<u8>) -> Input {
+    let spelled: usize = names.iter().map(|name| name.len() + 100).sum();
     let room = bytes.len() + spelled + names::LONGEST + 200;
     Input {
+        shape,
         kind,
         bytes,
         sound: false,
@@ -237,14 +256,14 @@ fn named(kind: Kind, names: Vec<Vec<u8>>, bytes: Vec<u8>) -> Input {
 // ---- damaged files
 
 /// Mostly a small file, and now and then one that has the rarer parts.
-fn victim(random: &mut Random) -> Records {
-    let kind = match random.below(16) {
-        0 => Kind::Some,
-        1 => Kind::LongNames,
-        2 => Kind::Deep,
-        _ => Kind::Few,
+fn victim(random: &mut Random, kind: Kind) -> Records {
+    let shape = match random.below(16) {
+        0 => Shape::Some,
+        1 => Shape::LongNames,
+        2 => Shape::Deep,
+        _ => Shape::Few,
     };
-    drawn(random, kind)
+    drawn(random, kind, shape)
 }
 
 fn right_checksum(random: &mut Random) -> bool {
@@ -252,37 +271,37 @@ fn right_checksum(random: &mut Random) -> bool {
 }
 
 /// An entry with a bad name, in its place among the others. One in three ends with that entry, and lacks bytes of it.
-fn bad_name(random: &mut Random) -> Input {
-    let mut records = victim(random);
+fn bad_name(random: &mut Random, kind: Kind) -> Input {
+    let mut records = victim(random, kind);
     let name = names::bad(random);
     let entry = records::entry(random, records.version, name, 0);
     let place = records.entries.partition_point(|e| e.name < entry.name);
     records.entries.insert(place, entry);
     if !random.one_in(3) {
-        return laid_out(Kind::BadName, &records);
+        return laid_out(Shape::BadName, &records);
     }
     records.entries.truncate(place + 1);
     records.extensions.clear();
     let mut body = Layout::new(&records).body();
     body.truncate(body.len() - 1 - random.below(8));
-    input_of(Kind::BadName, &records, signed(body, true))
+    input_of(Shape::BadName, &records, signed(kind, body, true))
 }
 
 /// Entries out of order.
-fn disorder(random: &mut Random) -> Input {
-    let mut records = victim(random);
+fn disorder(random: &mut Random, kind: Kind) -> Input {
+    let mut records = victim(random, kind);
     faults::order(random, &mut records.entries);
-    laid_out(Kind::Order, &records)
+    laid_out(Shape::Order, &records)
 }
 
 /// A cache tree with a fault; one in six may have too many levels instead.
-fn faulty_tree(random: &mut Random) -> Input {
+fn faulty_tree(random: &mut Random, kind: Kind) -> Input {
     let deep = random.one_in(6);
-    let kind = match deep {
-        true => Kind::Deep,
-        false => *random.pick(&[Kind::Few, Kind::Some]),
+    let shape = match deep {
+        true => Shape::Deep,
+        false => *random.pick(&[Shape::Few, Shape::Some]),
     };
-    let mut records = drawn(random, kind);
+    let mut records = drawn(random, kind, shape);
     let levels = if deep { LEVELS + 3 } else { LEVELS };
     let mut nodes = records::tree(random, &records.entries, levels);
     if !deep {
@@ -291,102 +310,103 @@ fn faulty_tree(random: &mut Random) -> Input {
     let others = |extension: &Extension| !matches!(extension, Extension::Tree(_));
     records.extensions.retain(others);
     records.extensions.push(Extension::Tree(nodes));
-    laid_out(Kind::Tree, &records)
+    laid_out(Shape::Tree, &records)
 }
 
 /// Resolve undo with a fault.
-fn faulty_undo(random: &mut Random) -> Input {
-    let mut records = victim(random);
+fn faulty_undo(random: &mut Random, kind: Kind) -> Input {
+    let mut records = victim(random, kind);
     let mut undo = records::undo(random);
     faults::undo(random, &mut undo);
     let others = |extension: &Extension| !matches!(extension, Extension::Undo(_));
     records.extensions.retain(others);
     records.extensions.push(Extension::Undo(undo));
-    laid_out(Kind::Undo, &records)
+    laid_out(Shape::Undo, &records)
 }
 
 /// One more extension at the end.
-fn extension(random: &mut Random) -> Input {
-    let records = victim(random);
+fn extension(random: &mut Random, kind: Kind) -> Input {
+    let records = victim(random, kind);
     let layout = Layout::new(&records);
     let body = [layout.body(), damage::extension(random, &layout)].concat();
-    input_of(Kind::Extension, &records, signed(body, true))
+    input_of(Shape::Extension, &records, signed(kind, body, true))
 }
 
 /// Another N in a file of version 4 with long names.
-fn offset(random: &mut Random) -> Input {
-    let mut records = drawn(random, Kind::LongNames);
+fn offset(random: &mut Random, kind: Kind) -> Input {
+    let mut records = drawn(random, kind, Shape::LongNames);
     records.version = 4;
     let mut layout = Layout::new(&records);
     damage::offset(random, &mut layout);
-    input_of(Kind::Offset, &records, signed(layout.body(), true))
+    input_of(Shape::Offset, &records, signed(kind, layout.body(), true))
 }
 
 /// One field with another value, or several.
-fn fields(random: &mut Random, kind: Kind) -> Input {
-    let records = victim(random);
+fn fields(random: &mut Random, kind: Kind, shape: Shape) -> Input {
+    let records = victim(random, kind);
     let mut layout = Layout::new(&records);
-    let times = match kind {
-        Kind::Fields => 2 + random.below(3),
+    let times = match shape {
+        Shape::Fields => 2 + random.below(3),
         _ => 1,
     };
     for _ in 0..times {
         damage::field(random, &mut layout);
     }
     let right = right_checksum(random);
-    input_of(kind, &records, signed(layout.body(), right))
+    input_of(shape, &records, signed(kind, layout.body(), right))
 }
 
 /// Bytes changed anywhere: before the checksum is made, or seldom behind that.
-fn bytes(random: &mut Random) -> Input {
-    let records = victim(random);
+fn bytes(random: &mut Random, kind: Kind) -> Input {
+    let records = victim(random, kind);
     let mut body = Layout::new(&records).body();
     for _ in 0..1 + random.below(3) {
         damage::bytes(random, &mut body);
     }
-    let mut file = signed(body, true);
+    let mut file = signed(kind, body, true);
     if random.one_in(12) {
         damage::bytes(random, &mut file);
     }
-    input_of(Kind::Bytes, &records, file)
+    input_of(Shape::Bytes, &records, file)
 }
 
 /// The n-th cut: each small file has its turn to be cut at every length, as it is and with a corrected checksum. In
 /// place of a cut behind its end a longer file is cut somewhere.
-fn cut(random: &mut Random, seed: u64, nth: u64) -> Input {
+fn cut(random: &mut Random, kind: Kind, seed: u64, nth: u64) -> Input {
     let (turn, place) = (nth / (2 * CUTS), nth % (2 * CUTS));
     let (length, corrected) = ((place / 2) as usize, place % 2 == 1);
     let small = &mut Random::of(!seed, turn);
-    let mut records = drawn(small, Kind::Few);
+    let mut records = drawn(small, kind, Shape::Few);
     records.entries.truncate(2);
-    let mut file = signed(Layout::new(&records).body(), true);
+    let mut file = signed(kind, Layout::new(&records).body(), true);
     let mut length = length;
     if length >= file.len() {
-        records = victim(random);
-        file = signed(Layout::new(&records).body(), true);
+        records = victim(random, kind);
+        file = signed(kind, Layout::new(&records).body(), true);
         length = random.below(file.len());
     }
     file.truncate(length);
     if corrected {
-        file = signed(file, true);
+        file = signed(kind, file, true);
     }
-    input_of(Kind::Cut, &records, file)
+    input_of(Shape::Cut, &records, file)
 }
 
 // ---- no files
 
-fn noise(random: &mut Random, kind: Kind) -> Input {
+fn noise(random: &mut Random, kind: Kind, shape: Shape) -> Input {
     let length = random.below(300);
     let mut bytes = random.bytes(length);
-    if kind == Kind::HeaderAndNoise {
+    if shape == Shape::HeaderAndNoise {
         let version = 2 + random.below(3) as u32;
         let mut body = b"DIRC".to_vec();
         body.extend(version.to_be_bytes());
         body.extend((random.below(3) as u32).to_be_bytes());
         body.extend(bytes);
-        bytes = signed(body, right_checksum(random));
+        bytes = signed(kind, body, right_checksum(random));
     }
     Input {
+        shape,
         kind,
         room: bytes.len() + names::LONGEST + 200,
         bytes,
@@ -399,15 +419,16 @@ fn noise(random: &mut Random, kind: Kind) -> Input {
 
 /// Mostly a file that is too long, or just not, with a version that there is not; one in four of version 4 that has, in
 /// version 2, about as many bytes as a file may.
-fn limit(random: &mut Random, nth: u64) -> Input {
-    if nth % 4 == 1 {
-        return about_the_largest(random);
+fn limit(random: &mut Random, kind: Kind, nth: u64) -> Input {
+    if nth % LIMITS == 1 {
+        return about_the_largest(random, kind);
     }
-    let more = [1, 0, 0, 2][(nth % 4) as usize];
+    let more = [1, 0, 0, 2][(nth % LIMITS) as usize];
     let mut bytes = vec![0; LARGEST + more];
     bytes[..12].copy_from_slice(b"DIRC\0\0\0\x05\0\0\0\0");
     Input {
-        kind: Kind::Limit,
+        shape: Shape::Limit,
+        kind,
         bytes,
         sound: false,
         names: Vec::new(),
@@ -415,29 +436,32 @@ fn limit(random: &mut Random, nth: u64) -> Input {
     }
 }
 
-fn about_the_largest(random: &mut Random) -> Input {
-    // An entry with the longest name takes 8,256 bytes in version 2, and all of these with the rest 16,777,216 where
-    // a path of resolve undo has 952 bytes.
-    const ENTRIES: usize = 2032;
-    const PATH: usize = 952;
+fn about_the_largest(random: &mut Random, kind: Kind) -> Input {
+    // What version 2 has around the entries and the path of resolve undo: the header, that of the extension, NULs and
+    // modes, an object name and the checksum. The path fills what entries with the longest name leave.
+    let around = 12 + 8 + 12 + 2 * kind.width();
+    let fixed = 42 + kind.width() + names::LONGEST;
+    let entry = fixed + padding(fixed);
+    let (count, path) = ((LARGEST - around) / entry, (LARGEST - around) % entry);
     let name = |k| [vec![b'p'; names::LONGEST - 4], letters(k, 4)].concat();
     let mut entries = Vec::new();
-    for k in 0..ENTRIES {
+    for k in 0..count {
         let mut entry = records::entry(random, 2, name(k), 0);
         entry.more = 0;
         entries.push(entry);
     }
     let undo = Undo {
-        path: vec![b'u'; PATH - 1 + random.below(3)],
+        path: vec![b'u'; path - 1 + random.below(3)],
         modes: [MODES[0], 0, 0],
         objects: [random.array(); 3],
     };
     let records = Records {
+        kind,
         version: 4,
         entries,
         extensions: vec![Extension::Undo(vec![undo])],
     };
-    let mut input = sound(Kind::Limit, &records);
+    let mut input = sound(Shape::Limit, &records);
     input.room = LARGEST + 9;
     input
 }

@@ -2,6 +2,7 @@
 
 use super::names;
 use crate::index_file::subdirectories;
+use crate::kind::{Kind, Object, OBJECT};
 use crate::random::Random;
 use std::collections::BTreeSet;
 
@@ -23,7 +24,7 @@ const PASSED: [&[u8; 4]; 7] = [
 #[derive(Clone)]
 pub struct Entry {
     pub numbers: [u32; 10],
-    pub object: [u8; 20],
+    pub object: Object,
     pub assume_valid: bool,
     pub stage: u16,
     /// The extended word, where it is present.
@@ -38,14 +39,14 @@ pub struct Node {
     pub name: Vec<u8>,
     pub count: i64,
     pub subtrees: usize,
-    pub object: [u8; 20],
+    pub object: Object,
 }
 
 #[derive(Clone)]
 pub struct Undo {
     pub path: Vec<u8>,
     pub modes: [u32; 3],
-    pub objects: [[u8; 20]; 3],
+    pub objects: [Object; 3],
 }
 
 #[derive(Clone)]
@@ -55,8 +56,10 @@ pub enum Extension {
     Passed([u8; 4], Vec<u8>),
 }
 
+/// Object names are drawn for the longest kind; a file has the first bytes of them.
 #[derive(Clone)]
 pub struct Records {
+    pub kind: Kind,
     pub version: u32,
     pub entries: Vec<Entry>,
     pub extensions: Vec<Extension>,
@@ -255,7 +258,7 @@ pub fn undo(random: &mut Random) -> Vec<Undo> {
         if modes == [0; 3] {
             modes[random.below(3)] = MODES[0];
         }
-        let objects = [[0; 20]; 3].map(|_: [u8; 20]| random.array());
+        let objects = [[0; OBJECT]; 3].map(|_| random.array());
         Undo {
             path,
             modes,
@@ -266,7 +269,7 @@ pub fn undo(random: &mut Random) -> Vec<Undo> {
 }
 
 /// Records over these entries, with extensions in any order.
-pub fn records(random: &mut Random, version: u32, entries: Vec<Entry>) -> Records {
+pub fn records(random: &mut Random, kind: Kind, version: u32, entries: Vec<Entry>) -> Records {
     let mut extensions = Vec::new();
     if !random.one_in(3) {
         extensions.push(Extension::Tree(tree(random, &entries, LEVELS)));
@@ -281,6 +284,7 @@ pub fn records(random: &mut Random, version: u32, entries: Vec<Entry>) -> Record
     }
     random.shuffle(&mut extensions);
     Records {
+        kind,
         version,
         entries,
         extensions,

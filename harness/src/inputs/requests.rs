@@ -1,9 +1,11 @@
 //! What is asked of an input.
 
 use super::{names, Input};
-use crate::ffi::{CheckReply, Fields, WORKSPACE};
+use crate::ffi::HASHES;
+use crate::kind::Kind;
 use crate::opponent;
 use crate::random::Random;
+use crate::replies::{CheckReply, Fields, WORKSPACE};
 use std::fmt;
 
 /// Versions to ask for: those that there are, more than once, and ones that there are not.
@@ -28,13 +30,14 @@ pub enum Call {
     Remove(u32, Vec<u8>, u32),
     WalkStart,
     WalkNext(usize, u32),
-    Sha1,
+    /// The digest of the file by the hash function of a kind.
+    Hash(Kind),
 }
 
 impl Call {
     /// Whether it takes a workspace.
     pub fn works(&self) -> bool {
-        !matches!(self, Self::WalkNext(..) | Self::Sha1)
+        !matches!(self, Self::WalkNext(..) | Self::Hash(_))
     }
 
     /// Whether it takes an output.
@@ -67,7 +70,7 @@ impl fmt::Display for Call {
             }
             Self::WalkStart => write!(f, "walk_start"),
             Self::WalkNext(at, left) => write!(f, "walk_next at {at}, {left} left"),
-            Self::Sha1 => write!(f, "sha1"),
+            Self::Hash(kind) => write!(f, "{}", kind.name()),
         }
     }
 }
@@ -97,7 +100,8 @@ pub fn calls(random: &mut Random, input: &Input, checked: &CheckReply) -> Vec<Ca
         0 if input.bytes.len() <= LONG => 3,
         _ => 1,
     };
-    let mut calls = vec![Call::Check, Call::Sha1, Call::WalkStart];
+    let mut calls = vec![Call::Check, Call::WalkStart];
+    calls.extend(HASHES.iter().map(|hash| Call::Hash(hash.kind)));
     for _ in 0..times {
         calls.push(Call::Entry(number(random, checked.entries)));
         calls.push(Call::TreeNode(number(random, checked.nodes)));
@@ -160,7 +164,8 @@ fn of_entry(random: &mut Random, input: &Input, checked: &CheckReply) -> Option<
     }
     let k = random.below(checked.entries as usize);
     let name = input.names.get(k)?.clone();
-    let entry = opponent::entry(&input.bytes, &mut vec![0; WORKSPACE], k as u32);
+    let kind = input.kind.number();
+    let entry = opponent::entry(kind, &input.bytes, &mut vec![0; WORKSPACE], k as u32);
     let (asked, fields) = (*random.pick(&ASKED), entry.fields);
     Some(match random.below(3) {
         0 => Call::Remove(asked, name, fields.stage),
@@ -208,10 +213,11 @@ pub fn near(random: &mut Random, name: &[u8]) -> Vec<u8> {
 
 /// A step of a walk that nobody made.
 fn forged(random: &mut Random, input: &Input) -> Call {
-    let length = input.bytes.len();
+    let (length, width) = (input.bytes.len(), input.kind.width());
+    let wrapping = usize::MAX - width - 41;
     let at = match random.below(12) {
-        0 => *random.pick(&[0, 4, 11, 13, 1 << 32, usize::MAX, usize::MAX - 61]),
-        1 => (length + random.below(3)).saturating_sub(21),
+        0 => *random.pick(&[0, 4, 11, 13, 1 << 32, usize::MAX, wrapping]),
+        1 => (length + random.below(3)).saturating_sub(width + 1),
         2 => length + random.below(2),
         3..=5 => 12,
         6..=8 => 12 + 8 * random.below(length / 8 + 1),

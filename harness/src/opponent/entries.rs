@@ -2,10 +2,10 @@
 
 use std::cmp::Ordering;
 
-use nerupazhil::raw::{Fields, DIGEST};
-
 use super::names::{nul, sound};
 use super::refusal::{self, Refusal};
+use crate::kind::Kind;
+use crate::replies::Fields;
 
 /// The bytes of the header: the first entry is after them.
 pub const HEADER: usize = 12;
@@ -25,15 +25,14 @@ pub const STAGE_SHIFT: u32 = 12;
 pub const SKIP_WORKTREE: u16 = 1 << 14;
 pub const INTENT_TO_ADD: u16 = 1 << 13;
 
-/// The bytes of an entry before the extended word and the name, and where some of them are.
-const FIXED: usize = 62;
-const WORD: usize = 2;
+/// Where some of an entry's bytes are: the flags are after the object name. Flags and extended word have two bytes each.
 const MODE_AT: usize = 24;
 const OBJECT_AT: usize = 40;
-const FLAGS_AT: usize = 60;
+const WORD: usize = 2;
 
 /// All entries of a file.
 pub struct Entries<'a> {
+    kind: Kind,
     /// The file less its checksum.
     pub body: &'a [u8],
     pub version: u32,
@@ -61,19 +60,20 @@ struct Before<'a> {
 
 impl<'a> Entries<'a> {
     /// Reads the entries that the header counts.
-    pub fn read(body: &'a [u8], version: u32, count: u32) -> Result<Self, Refusal> {
-        let most = body.len() / FIXED;
+    pub fn read(kind: Kind, body: &'a [u8], version: u32, count: u32) -> Result<Self, Refusal> {
+        let most = body.len() / fixed(kind);
         let mut items = Vec::with_capacity(most.min(count as usize));
         let mut end = HEADER;
         let mut before = Before::default();
         for _ in 0..count {
             let place = end;
-            let read = before.next(body, version, place);
+            let read = before.next(kind, body, version, place);
             let (item, next) = read.map_err(|number| Refusal { number, place })?;
             items.push(item);
             end = next;
         }
         Ok(Self {
+            kind,
             body,
             version,
             items,
@@ -95,6 +95,21 @@ impl<'a> Entries<'a> {
         before
     }
 
+    /// The fields of an item.
+    pub fn fields(&self, item: &Item) -> Fields {
+        fields(self.kind, self.body, item.place)
+    }
+
+    /// The stage of an item.
+    pub fn stage(&self, item: &Item) -> u32 {
+        stage(flags(self.kind, self.body, item.place)).into()
+    }
+
+    /// The extended word of an item, 0 where it has none.
+    pub fn word(&self, item: &Item) -> u16 {
+        word(self.kind, self.body, item.place)
+    }
+
     /// The name of entry `k`.
     pub fn name_of(&self, k: usize) -> Vec<u8> {
         let mut before = Vec::new();
@@ -108,8 +123,14 @@ impl<'a> Entries<'a> {
 
 impl<'a> Before<'a> {
     /// The entry at a place and the place after it, or the number of what refuses it.
-    fn next(&mut self, body: &'a [u8], version: u32, at: usize) -> Result<(Item, usize), u32> {
-        let (start, flags) = head(body, version, at)?;
+    fn next(
+        &mut self,
+        kind: Kind,
+        body: &'a [u8],
+        version: u32,
+        at: usize,
+    ) -> Result<(Item, usize), u32> {
+        let (start, flags) = head(kind, body, version, at)?;
         let (item, end, order) = if version == 4 {
             compressed(body, at, start, flags, &mut self.made)?
         } else {
@@ -129,18 +150,16 @@ impl<'a> Before<'a> {
 }
 
 /// The entry of version 2 or 3 at a place and the place after it.
-pub fn entry_at(body: &[u8], version: u32, at: usize) -> Result<(Item, usize), u32> {
-    let (start, flags) = head(body, version, at)?;
+pub fn entry_at(kind: Kind, body: &[u8], version: u32, at: usize) -> Result<(Item, usize), u32> {
+    let (start, flags) = head(kind, body, version, at)?;
     plain(body, at, start, flags)
 }
 
 /// The fields of the sound entry at a place.
-pub fn fields(body: &[u8], at: usize) -> Fields {
+pub fn fields(kind: Kind, body: &[u8], at: usize) -> Fields {
     let number = |i: usize| long(body, at + 4 * i);
-    let flags = flags(body, at);
-    let word = word(body, at);
-    let mut object = [0; DIGEST];
-    object.copy_from_slice(&body[at + OBJECT_AT..at + FLAGS_AT]);
+    let flags = flags(kind, body, at);
+    let word = word(kind, body, at);
     Fields {
         ctime_seconds: number(0),
         ctime_nanoseconds: number(1),
@@ -152,7 +171,7 @@ pub fn fields(body: &[u8], at: usize) -> Fields {
         uid: number(7),
         gid: number(8),
         size: number(9),
-        object,
+        object: kind.object(&body[at + OBJECT_AT..]),
         assume_valid: flags & ASSUME_VALID != 0,
         stage: stage(flags).into(),
         skip_worktree: word & SKIP_WORKTREE != 0,
@@ -160,17 +179,12 @@ pub fn fields(body: &[u8], at: usize) -> Fields {
     }
 }
 
-/// The stage of the sound entry at a place.
-pub fn stage_at(body: &[u8], at: usize) -> u32 {
-    stage(flags(body, at)).into()
-}
-
 /// The extended word of the sound entry at a place, 0 where it has none.
-pub fn word(body: &[u8], at: usize) -> u16 {
-    if flags(body, at) & EXTENDED == 0 {
+fn word(kind: Kind, body: &[u8], at: usize) -> u16 {
+    if flags(kind, body, at) & EXTENDED == 0 {
         return 0;
     }
-    short(body, at + FIXED)
+    short(body, at + fixed(kind))
 }
 
 /// The bytes of an entry of version 2 or 3, whose name is after the given number of bytes.
@@ -187,8 +201,18 @@ fn short(bytes: &[u8], at: usize) -> u16 {
     u16::from_be_bytes([bytes[at], bytes[at + 1]])
 }
 
-fn flags(body: &[u8], at: usize) -> u16 {
-    short(body, at + FLAGS_AT)
+/// The bytes of an entry before the extended word and the name.
+fn fixed(kind: Kind) -> usize {
+    flags_at(kind) + 2
+}
+
+/// Where its flags are.
+fn flags_at(kind: Kind) -> usize {
+    OBJECT_AT + kind.width()
+}
+
+fn flags(kind: Kind, body: &[u8], at: usize) -> u16 {
+    short(body, at + flags_at(kind))
 }
 
 fn stage(flags: u16) -> u16 {
@@ -196,24 +220,26 @@ fn stage(flags: u16) -> u16 {
 }
 
 /// Checks an entry up to its name: the place after that, and the flags.
-fn head(body: &[u8], version: u32, at: usize) -> Result<(usize, u16), u32> {
+fn head(kind: Kind, body: &[u8], version: u32, at: usize) -> Result<(usize, u16), u32> {
     let rest = body.get(at..).unwrap_or(&[]);
-    let fixed = rest.get(..FIXED).ok_or(refusal::ENTRY_CUT)?;
+    let length = fixed(kind);
+    let fixed = rest.get(..length).ok_or(refusal::ENTRY_CUT)?;
     if !MODES.contains(&long(fixed, MODE_AT)) {
         return Err(refusal::MODE);
     }
-    let flags = short(fixed, FLAGS_AT);
+    let flags = flags(kind, fixed, 0);
     if flags & EXTENDED == 0 {
-        return Ok((at + FIXED, flags));
+        return Ok((at + length, flags));
     }
     if version == 2 {
         return Err(refusal::FLAGS);
     }
-    let word = rest.get(FIXED..FIXED + WORD).ok_or(refusal::ENTRY_CUT)?;
+    let word = rest.get(length..length + WORD);
+    let word = word.ok_or(refusal::ENTRY_CUT)?;
     if short(word, 0) & !(SKIP_WORKTREE | INTENT_TO_ADD) != 0 {
         return Err(refusal::FLAGS);
     }
-    Ok((at + FIXED + WORD, flags))
+    Ok((at + length + WORD, flags))
 }
 
 /// Checks the name and the padding of an entry of version 2 or 3.

@@ -1,6 +1,6 @@
-//! A second library for the index file in plain Rust, written from document 01 alone: it shares nothing with the proved
-//! one but the types of the replies. The calls have the same signatures, so that answers, workspaces and outputs can be
-//! compared; `check` is also what the speed of the proved check is measured against.
+//! A second library for the index file in plain Rust, written from document 01 and the kinds of document 02 alone: it
+//! shares nothing with the proved one. The calls have the signatures of `ffi`, so that answers, workspaces and outputs can
+//! be compared; `check` is also what the speed of the proved check is measured against.
 
 mod counts;
 mod entries;
@@ -11,19 +11,19 @@ mod undo;
 mod whole;
 mod write;
 
-use nerupazhil::raw::{
+use crate::kind::Kind;
+use crate::replies::{
     CheckReply, EntryReply, Fields, Name, NodeReply, StartReply, StepReply, UndoReply, WriteReply,
     WORKSPACE,
 };
-
 use entries::{Entries, HEADER};
 use refusal::Refusal;
 use whole::Contents;
 use write::Change;
 
 /// Checks an index.
-pub fn check(file: &[u8], work: &mut [u8]) -> CheckReply {
-    match open(file, work) {
+pub fn check(kind: u32, file: &[u8], work: &mut [u8]) -> CheckReply {
+    match open(kind, file, work) {
         Ok(contents) => CheckReply {
             version: contents.entries.version,
             end: contents.entries.end,
@@ -43,8 +43,8 @@ pub fn check(file: &[u8], work: &mut [u8]) -> CheckReply {
 }
 
 /// Entry `k`.
-pub fn entry(file: &[u8], work: &mut [u8], k: u32) -> EntryReply {
-    let shown = open(file, work).and_then(|contents| show_entry(&contents.entries, work, k));
+pub fn entry(kind: u32, file: &[u8], work: &mut [u8], k: u32) -> EntryReply {
+    let shown = open(kind, file, work).and_then(|contents| show_entry(&contents.entries, work, k));
     shown.unwrap_or_else(|Refusal { number, place }| EntryReply {
         refusal: number,
         place,
@@ -53,8 +53,8 @@ pub fn entry(file: &[u8], work: &mut [u8], k: u32) -> EntryReply {
 }
 
 /// Node `k` of the cache tree.
-pub fn tree_node(file: &[u8], work: &mut [u8], k: u32) -> NodeReply {
-    let shown = open(file, work).and_then(|contents| show_node(&contents, k));
+pub fn tree_node(kind: u32, file: &[u8], work: &mut [u8], k: u32) -> NodeReply {
+    let shown = open(kind, file, work).and_then(|contents| show_node(&contents, k));
     shown.unwrap_or_else(|Refusal { number, place }| NodeReply {
         refusal: number,
         place,
@@ -63,8 +63,8 @@ pub fn tree_node(file: &[u8], work: &mut [u8], k: u32) -> NodeReply {
 }
 
 /// Resolve-undo record `k`.
-pub fn undo_record(file: &[u8], work: &mut [u8], k: u32) -> UndoReply {
-    let shown = open(file, work).and_then(|contents| show_record(file, &contents, k));
+pub fn undo_record(kind: u32, file: &[u8], work: &mut [u8], k: u32) -> UndoReply {
+    let shown = open(kind, file, work).and_then(|contents| show_record(file, &contents, k));
     shown.unwrap_or_else(|Refusal { number, place }| UndoReply {
         refusal: number,
         place,
@@ -73,12 +73,13 @@ pub fn undo_record(file: &[u8], work: &mut [u8], k: u32) -> UndoReply {
 }
 
 /// Writes the file's records in a version.
-pub fn rewrite(file: &[u8], work: &mut [u8], out: &mut [u8], asked: u32) -> WriteReply {
-    edit(file, work, out, asked, None)
+pub fn rewrite(kind: u32, file: &[u8], work: &mut [u8], out: &mut [u8], asked: u32) -> WriteReply {
+    edit(kind, file, work, out, asked, None)
 }
 
 /// The same with one entry put.
 pub fn put(
+    kind: u32,
     file: &[u8],
     work: &mut [u8],
     out: &mut [u8],
@@ -91,11 +92,12 @@ pub fn put(
         stage: fields.stage,
         put: Some(fields),
     };
-    edit(file, work, out, asked, Some(change))
+    edit(kind, file, work, out, asked, Some(change))
 }
 
 /// The same with one entry removed.
 pub fn remove(
+    kind: u32,
     file: &[u8],
     work: &mut [u8],
     out: &mut [u8],
@@ -104,12 +106,19 @@ pub fn remove(
     stage: u32,
 ) -> WriteReply {
     let put = None;
-    edit(file, work, out, asked, Some(Change { name, stage, put }))
+    edit(
+        kind,
+        file,
+        work,
+        out,
+        asked,
+        Some(Change { name, stage, put }),
+    )
 }
 
 /// Whether a walk can go over the file, and where it starts.
-pub fn walk_start(file: &[u8], work: &mut [u8]) -> StartReply {
-    let started = open(file, work).and_then(|contents| match contents.entries.version {
+pub fn walk_start(kind: u32, file: &[u8], work: &mut [u8]) -> StartReply {
+    let started = open(kind, file, work).and_then(|contents| match contents.entries.version {
         4 => Err(Refusal::whole(refusal::VERSION)),
         _ => Ok(contents.entries.items.len() as u32),
     });
@@ -128,39 +137,46 @@ pub fn walk_start(file: &[u8], work: &mut [u8]) -> StartReply {
 }
 
 /// The next entry of a walk.
-pub fn walk_next(file: &[u8], at: usize, left: u32) -> StepReply {
-    match step(file, at, left) {
-        Some((name, fields, at)) => StepReply {
+pub fn walk_next(kind: u32, file: &[u8], at: usize, left: u32) -> StepReply {
+    match step(kind, file, at, left) {
+        Ok((name, fields, at)) => StepReply {
             name,
             fields,
             at,
             left: left - 1,
             ..StepReply::default()
         },
-        None => StepReply {
-            refusal: refusal::ABSENT,
+        Err(Refusal { number, place }) => StepReply {
+            refusal: number,
+            place,
             ..StepReply::default()
         },
     }
 }
 
 /// What the file holds, with the start of the workspace zeroed.
-fn open<'a>(file: &'a [u8], work: &mut [u8]) -> Result<Contents<'a>, Refusal> {
+fn open<'a>(kind: u32, file: &'a [u8], work: &mut [u8]) -> Result<Contents<'a>, Refusal> {
     let start = work
         .get_mut(..WORKSPACE)
         .ok_or(Refusal::whole(refusal::WORKSPACE_SMALL))?;
     start.fill(0);
-    whole::read(file)
+    whole::read(kind_of(kind)?, file)
+}
+
+fn kind_of(number: u32) -> Result<Kind, Refusal> {
+    Kind::of(number).ok_or(Refusal::whole(refusal::KIND))
 }
 
 fn edit(
+    kind: u32,
     file: &[u8],
     work: &mut [u8],
     out: &mut [u8],
     asked: u32,
     change: Option<Change>,
 ) -> WriteReply {
-    let written = open(file, work).and_then(|contents| write::edit(contents, out, asked, change));
+    let opened = open(kind, file, work);
+    let written = opened.and_then(|contents| write::edit(contents, out, asked, change));
     match written {
         Ok(length) => WriteReply {
             length,
@@ -189,7 +205,7 @@ fn show_entry(entries: &Entries, work: &mut [u8], k: u32) -> Result<EntryReply, 
     };
     Ok(EntryReply {
         name,
-        fields: entries::fields(entries.body, item.place),
+        fields: entries.fields(item),
         ..EntryReply::default()
     })
 }
@@ -211,26 +227,25 @@ fn show_node(contents: &Contents, k: u32) -> Result<NodeReply, Refusal> {
 fn show_record(file: &[u8], contents: &Contents, k: u32) -> Result<UndoReply, Refusal> {
     let undo = contents.undo.as_ref().ok_or(Refusal::absent())?;
     let record = undo.record(file, k).ok_or(Refusal::absent())?;
-    let [first, second, third] = record.stages(file);
     Ok(UndoReply {
         path: in_file(record.place, record.length),
-        first,
-        second,
-        third,
+        stages: record.stages(file),
         ..UndoReply::default()
     })
 }
 
 /// The entry at a place of a file of version 2 or 3, with the place after it.
-fn step(file: &[u8], at: usize, left: u32) -> Option<(Name, Fields, usize)> {
-    let (version, _) = whole::header(file).ok()?;
+fn step(kind: u32, file: &[u8], at: usize, left: u32) -> Result<(Name, Fields, usize), Refusal> {
+    let kind = kind_of(kind)?;
+    let absent = |_| Refusal::absent();
+    let (version, _) = whole::header(kind, file).map_err(absent)?;
     if left == 0 || version == 4 {
-        return None;
+        return Err(Refusal::absent());
     }
-    let body = whole::body(file);
-    let (item, end) = entries::entry_at(body, version, at).ok()?;
+    let body = whole::body(kind, file);
+    let (item, end) = entries::entry_at(kind, body, version, at).map_err(absent)?;
     let name = in_file(item.start, item.length);
-    Some((name, entries::fields(body, item.place), end))
+    Ok((name, entries::fields(kind, body, item.place), end))
 }
 
 fn in_file(offset: usize, length: usize) -> Name {

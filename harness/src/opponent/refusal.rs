@@ -1,4 +1,4 @@
-//! The refusals: document 01's numbers by name.
+//! The refusals: the numbers of documents 01 and 02 by name.
 
 pub const TOO_SHORT: u32 = 1;
 pub const TOO_LONG: u32 = 2;
@@ -23,6 +23,7 @@ pub const ABSENT: u32 = 18;
 pub const WORKSPACE_SMALL: u32 = 19;
 pub const OUTPUT_SMALL: u32 = 20;
 pub const NEEDS_WORD: u32 = 21;
+pub const KIND: u32 = 29;
 
 /// A refusal's number and place.
 #[derive(Clone, Copy)]

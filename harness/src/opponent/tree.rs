@@ -3,9 +3,8 @@
 use std::cmp::Ordering;
 use std::ops::Range;
 
-use nerupazhil::raw::DIGEST;
-
 use super::names::nul;
+use crate::kind::{Kind, Object, OBJECT};
 
 /// The most levels, the root being level 1.
 const LEVELS: usize = 128;
@@ -15,6 +14,7 @@ pub const ROOT: usize = 0;
 
 /// The nodes, top-down and depth first.
 pub struct Tree<'a> {
+    kind: Kind,
     /// The file up to the end of the data.
     data: &'a [u8],
     pub nodes: Vec<Node>,
@@ -34,8 +34,9 @@ pub struct Node {
 
 impl<'a> Tree<'a> {
     /// Reads the nodes that fill the data; nothing where they are malformed.
-    pub fn read(file: &'a [u8], data: Range<usize>) -> Option<Self> {
+    pub fn read(kind: Kind, file: &'a [u8], data: Range<usize>) -> Option<Self> {
         let mut tree = Self {
+            kind,
             data: &file[..data.end],
             nodes: Vec::new(),
         };
@@ -50,12 +51,11 @@ impl<'a> Tree<'a> {
     }
 
     /// The object name of a node, zeros if it is invalid.
-    pub fn object(&self, node: &Node) -> [u8; DIGEST] {
-        let mut object = [0; DIGEST];
-        if node.count.is_some() {
-            object.copy_from_slice(&self.data[node.object..node.object + DIGEST]);
+    pub fn object(&self, node: &Node) -> Object {
+        match node.count {
+            Some(_) => self.kind.object(&self.data[node.object..]),
+            None => [0; OBJECT],
         }
-        object
     }
 
     /// Makes invalid the root and each node on the way to a name's directory.
@@ -79,7 +79,7 @@ impl<'a> Tree<'a> {
 
     /// Reads the node at a place and all below it, and answers the place after them.
     fn read_node(&mut self, at: usize, level: usize) -> Option<usize> {
-        let (node, count, mut at) = node_at(self.data, at, level)?;
+        let (node, count, mut at) = node_at(self.kind, self.data, at, level)?;
         let index = self.nodes.len();
         self.nodes.push(node);
         let mut subtrees = Vec::new();
@@ -107,7 +107,7 @@ pub fn order(one: &[u8], other: &[u8]) -> Ordering {
 }
 
 /// The node at a place, the number of its subtrees, and the place after it.
-fn node_at(data: &[u8], place: usize, level: usize) -> Option<(Node, u32, usize)> {
+fn node_at(kind: Kind, data: &[u8], place: usize, level: usize) -> Option<(Node, u32, usize)> {
     let end = nul(data, place)?;
     let name = &data[place..end];
     if level > LEVELS || name.is_empty() != (level == 1) || name.contains(&b'/') {
@@ -123,7 +123,7 @@ fn node_at(data: &[u8], place: usize, level: usize) -> Option<(Node, u32, usize)
         object: at,
         subtrees: Vec::new(),
     };
-    let next = at + if node.count.is_some() { DIGEST } else { 0 };
+    let next = at + node.count.map_or(0, |_| kind.width());
     let subtrees = u32::try_from(subtrees).ok()?;
     (next <= data.len()).then_some((node, subtrees, next))
 }

@@ -2,18 +2,20 @@
 
 use std::ops::Range;
 
-use nerupazhil::raw::{Stage, DIGEST};
-
 use super::names::{nul, sound};
+use crate::kind::{Kind, OBJECT};
+use crate::replies::Stage;
 
 /// The records that fill the data.
 pub struct Undo {
+    kind: Kind,
     pub data: Range<usize>,
     pub records: u32,
 }
 
 /// A record: where its path and its object names are in the file, and the modes, 0 for a missing stage.
 pub struct Record {
+    kind: Kind,
     pub place: usize,
     pub length: usize,
     modes: [u32; 3],
@@ -22,12 +24,12 @@ pub struct Record {
 
 impl Undo {
     /// Reads the records; nothing where they are malformed.
-    pub fn read(file: &[u8], data: Range<usize>) -> Option<Self> {
+    pub fn read(kind: Kind, file: &[u8], data: Range<usize>) -> Option<Self> {
         let mut at = data.start;
         let mut records = 0;
         let mut before: &[u8] = &[];
         while at < data.end {
-            let (record, next) = record_at(&file[..data.end], at)?;
+            let (record, next) = record_at(kind, &file[..data.end], at)?;
             let path = &file[at..at + record.length];
             if path <= before {
                 return None;
@@ -36,7 +38,11 @@ impl Undo {
             records += 1;
             at = next;
         }
-        Some(Self { data, records })
+        Some(Self {
+            kind,
+            data,
+            records,
+        })
     }
 
     /// Record `k`.
@@ -46,9 +52,9 @@ impl Undo {
         }
         let mut at = self.data.start;
         for _ in 0..k {
-            at = record_at(file, at)?.1;
+            at = record_at(self.kind, file, at)?.1;
         }
-        Some(record_at(file, at)?.0)
+        Some(record_at(self.kind, file, at)?.0)
     }
 }
 
@@ -57,10 +63,10 @@ impl Record {
     pub fn stages(&self, file: &[u8]) -> [Stage; 3] {
         let mut at = self.objects;
         self.modes.map(|mode| {
-            let mut object = [0; DIGEST];
+            let mut object = [0; OBJECT];
             if mode != 0 {
-                object.copy_from_slice(&file[at..at + DIGEST]);
-                at += DIGEST;
+                object = self.kind.object(&file[at..]);
+                at += self.kind.width();
             }
             Stage { mode, object }
         })
@@ -68,7 +74,7 @@ impl Record {
 }
 
 /// The record at a place and the place after it.
-fn record_at(data: &[u8], place: usize) -> Option<(Record, usize)> {
+fn record_at(kind: Kind, data: &[u8], place: usize) -> Option<(Record, usize)> {
     let path_end = nul(data, place)?;
     let mut at = path_end + 1;
     let mut modes = [0; 3];
@@ -78,8 +84,9 @@ fn record_at(data: &[u8], place: usize) -> Option<(Record, usize)> {
         at = end + 1;
     }
     let present = modes.iter().filter(|mode| **mode != 0).count();
-    let next = at + present * DIGEST;
+    let next = at + present * kind.width();
     let record = Record {
+        kind,
         place,
         length: path_end - place,
         modes,

@@ -2,14 +2,12 @@
 
 use std::ops::Range;
 
-use nerupazhil::raw::DIGEST;
-
 use super::counts;
 use super::entries::{long, Entries, HEADER};
 use super::refusal::{self, Refusal};
 use super::tree::Tree;
 use super::undo::Undo;
-use crate::plain;
+use crate::kind::Kind;
 
 /// The most bytes of a file.
 pub const LONGEST: usize = 16_777_216;
@@ -21,6 +19,7 @@ const EXTENSION_HEADER: usize = 8;
 
 /// What a file holds.
 pub struct Contents<'a> {
+    pub kind: Kind,
     pub file: &'a [u8],
     pub entries: Entries<'a>,
     pub tree: Option<Tree<'a>>,
@@ -28,21 +27,22 @@ pub struct Contents<'a> {
 }
 
 /// Reads a file.
-pub fn read(file: &[u8]) -> Result<Contents<'_>, Refusal> {
+pub fn read(kind: Kind, file: &[u8]) -> Result<Contents<'_>, Refusal> {
     if file.len() > LONGEST {
         return Err(Refusal::whole(refusal::TOO_LONG));
     }
-    let (version, count) = header(file).map_err(Refusal::whole)?;
-    let body = body(file);
-    if plain::sha1(body) != file[body.len()..] {
+    let (version, count) = header(kind, file).map_err(Refusal::whole)?;
+    let body = body(kind, file);
+    if kind.hash(body)[..kind.width()] != file[body.len()..] {
         return Err(Refusal {
             number: refusal::CHECKSUM,
             place: body.len(),
         });
     }
     let mut contents = Contents {
+        kind,
         file,
-        entries: Entries::read(body, version, count)?,
+        entries: Entries::read(kind, body, version, count)?,
         tree: None,
         undo: None,
     };
@@ -51,8 +51,8 @@ pub fn read(file: &[u8]) -> Result<Contents<'_>, Refusal> {
 }
 
 /// The version and the entry count, or the number of what refuses the header.
-pub fn header(file: &[u8]) -> Result<(u32, u32), u32> {
-    if file.len() < HEADER + DIGEST {
+pub fn header(kind: Kind, file: &[u8]) -> Result<(u32, u32), u32> {
+    if file.len() < HEADER + kind.width() {
         return Err(refusal::TOO_SHORT);
     }
     if !file.starts_with(SIGNATURE) {
@@ -65,8 +65,8 @@ pub fn header(file: &[u8]) -> Result<(u32, u32), u32> {
 }
 
 /// The file less its checksum.
-pub fn body(file: &[u8]) -> &[u8] {
-    &file[..file.len() - DIGEST]
+pub fn body(kind: Kind, file: &[u8]) -> &[u8] {
+    &file[..file.len() - kind.width()]
 }
 
 impl Contents<'_> {
@@ -89,7 +89,7 @@ impl Contents<'_> {
             b"TREE" if self.tree.is_some() => Err(refusal::SECOND),
             b"REUC" if self.undo.is_some() => Err(refusal::SECOND),
             b"TREE" => {
-                let tree = Tree::read(self.file, data).ok_or(refusal::TREE)?;
+                let tree = Tree::read(self.kind, self.file, data).ok_or(refusal::TREE)?;
                 if !counts::right(&self.entries, &tree) {
                     return Err(refusal::COUNTS);
                 }
@@ -97,7 +97,7 @@ impl Contents<'_> {
                 Ok(())
             }
             b"REUC" => {
-                self.undo = Some(Undo::read(self.file, data).ok_or(refusal::UNDO)?);
+                self.undo = Some(Undo::read(self.kind, self.file, data).ok_or(refusal::UNDO)?);
                 Ok(())
             }
             [b'A'..=b'Z', ..] => Ok(()),

@@ -2,17 +2,15 @@
 
 use std::cmp::Ordering;
 
-use nerupazhil::raw::Fields;
-
 use super::entries::{
-    self, padded, ASSUME_VALID, EXTENDED, HEADER, INTENT_TO_ADD, LONG, MODES, SKIP_WORKTREE,
-    STAGE_SHIFT,
+    padded, ASSUME_VALID, EXTENDED, HEADER, INTENT_TO_ADD, LONG, MODES, SKIP_WORKTREE, STAGE_SHIFT,
 };
 use super::names::{common, sound};
 use super::refusal::{self, Refusal};
 use super::tree::Tree;
 use super::whole::{Contents, LONGEST, SIGNATURE};
-use crate::plain;
+use crate::kind::Kind;
+use crate::replies::Fields;
 
 /// The entry of this name and stage goes, and one with these fields comes in its place.
 #[derive(Clone, Copy)]
@@ -24,6 +22,7 @@ pub struct Change<'a> {
 
 /// A file that is being written.
 struct Writer {
+    kind: Kind,
     bytes: Vec<u8>,
     version: u32,
     entries: u32,
@@ -43,7 +42,7 @@ pub fn edit(
     if let (Some(tree), Some(change)) = (&mut contents.tree, change) {
         tree.invalidate(change.name);
     }
-    let written = Writer::new(version).write(&contents, change);
+    let written = Writer::new(contents.kind, version).write(&contents, change);
     let bytes = written.ok_or(Refusal::whole(refusal::TOO_LONG))?;
     let start = out
         .get_mut(..bytes.len())
@@ -87,11 +86,11 @@ fn version(contents: &Contents, asked: u32, change: Option<Change>) -> Result<u3
     let mut before = Vec::new();
     for item in &entries.items {
         let name = entries.name(item, &mut before);
-        let stage = entries::stage_at(entries.body, item.place);
+        let stage = entries.stage(item);
         if compare(name, stage, change) == Ordering::Equal {
             found = true;
         } else {
-            needed |= entries::word(entries.body, item.place) != 0;
+            needed |= entries.word(item) != 0;
         }
     }
     match (asked, needed) {
@@ -118,8 +117,9 @@ fn word(fields: &Fields) -> u16 {
 }
 
 impl Writer {
-    fn new(version: u32) -> Self {
+    fn new(kind: Kind, version: u32) -> Self {
         Self {
+            kind,
             bytes: [SIGNATURE, &version.to_be_bytes(), &[0; 4]].concat(),
             version,
             entries: 0,
@@ -132,14 +132,14 @@ impl Writer {
         self.all_entries(contents, change)?;
         self.bytes[HEADER - 4..HEADER].copy_from_slice(&self.entries.to_be_bytes());
         if let Some(tree) = &contents.tree {
-            self.extension(b"TREE", &nodes(tree));
+            self.extension(b"TREE", &nodes(self.kind, tree));
         }
         if let Some(undo) = &contents.undo {
             // The records have no other spelling than that of the file.
             self.extension(b"REUC", &contents.file[undo.data.clone()]);
         }
-        let digest = plain::sha1(&self.bytes);
-        self.bytes.extend(digest);
+        let digest = self.kind.hash(&self.bytes);
+        self.bytes.extend(&digest[..self.kind.width()]);
         (self.bytes.len() <= LONGEST).then_some(self.bytes)
     }
 
@@ -150,7 +150,7 @@ impl Writer {
         let mut before = Vec::new();
         for item in &entries.items {
             let name = entries.name(item, &mut before);
-            let fields = entries::fields(entries.body, item.place);
+            let fields = entries.fields(item);
             let order = compare(name, fields.stage, change);
             if order != Ordering::Less {
                 self.add(put.take());
@@ -200,7 +200,7 @@ impl Writer {
         ];
         self.bytes
             .extend(numbers.iter().flat_map(|n| n.to_be_bytes()));
-        self.bytes.extend(fields.object);
+        self.bytes.extend(&fields.object[..self.kind.width()]);
         let word = word(fields);
         let assume_valid = u16::from(fields.assume_valid) * ASSUME_VALID;
         let extended = u16::from(word != 0) * EXTENDED;
@@ -234,14 +234,14 @@ impl Writer {
 }
 
 /// The data of TREE.
-fn nodes(tree: &Tree) -> Vec<u8> {
+fn nodes(kind: Kind, tree: &Tree) -> Vec<u8> {
     let mut data = Vec::new();
     for (i, node) in tree.nodes.iter().enumerate() {
         data.extend_from_slice(tree.name(i));
         let count = node.count.map_or(-1, i64::from);
         data.extend(format!("\0{count} {}\n", node.subtrees.len()).bytes());
         if node.count.is_some() {
-            data.extend(tree.object(node));
+            data.extend(&tree.object(node)[..kind.width()]);
         }
     }
     data

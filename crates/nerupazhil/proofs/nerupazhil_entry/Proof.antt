@@ -14,9 +14,6 @@ shown-reply-requires c κs = search needs
 field-numbers-requires : tie.Need-field-numbers-requires
 field-numbers-requires c κs = search needs
 
-wide-object-requires : tie.Need-wide-object-requires
-wide-object-requires c κs = search needs
-
 same-length : tie.Need-same-length
 same-length c = search needs
 
@@ -31,6 +28,5 @@ nerupazhil-entry-spec =
     entry-requires
     shown-reply-requires
     field-numbers-requires
-    wide-object-requires
     same-length
     returns)

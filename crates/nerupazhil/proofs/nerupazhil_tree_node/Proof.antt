@@ -11,9 +11,6 @@ tree-node-requires c κs = search needs
 node-reply-requires : tie.Need-node-reply-requires
 node-reply-requires c κs = search needs
 
-wide-object-requires : tie.Need-wide-object-requires
-wide-object-requires c κs = search needs
-
 same-length : tie.Need-same-length
 same-length c = search needs
 
@@ -25,4 +22,8 @@ returns c =
 pub nerupazhil-tree-node-spec : {M : Type 1} → statement M
 nerupazhil-tree-node-spec =
     tie.close
-    (tie.spec tree-node-requires node-reply-requires wide-object-requires same-length returns)
+    (tie.spec
+    tree-node-requires
+    node-reply-requires
+    same-length
+    returns)

@@ -11,15 +11,6 @@ undo-record-requires c κs = search needs
 undo-reply-requires : tie.Need-undo-reply-requires
 undo-reply-requires c κs = search needs
 
-wide-object-requires : tie.Need-wide-object-requires
-wide-object-requires c κs = search needs
-
-wide-object-requires-2 : tie.Need-wide-object-requires-2
-wide-object-requires-2 c κs = search needs
-
-wide-object-requires-3 : tie.Need-wide-object-requires-3
-wide-object-requires-3 c κs = search needs
-
 same-length : tie.Need-same-length
 same-length c = search needs
 
@@ -34,8 +25,5 @@ nerupazhil-undo-record-spec =
     (tie.spec
     undo-record-requires
     undo-reply-requires
-    wide-object-requires
-    wide-object-requires-2
-    wide-object-requires-3
     same-length
     returns)

@@ -16,9 +16,6 @@ step-reply-requires c κs = search needs
 field-numbers-requires : tie.Need-field-numbers-requires
 field-numbers-requires c κs = search needs
 
-wide-object-requires : tie.Need-wide-object-requires
-wide-object-requires c κs = search needs
-
 returns : tie.Need-returns
 returns c =
     let step = c .before .before .before .before .before .before .step-at in
@@ -31,5 +28,4 @@ nerupazhil-walk-next-spec =
     step-at-requires
     step-reply-requires
     field-numbers-requires
-    wide-object-requires
     returns)

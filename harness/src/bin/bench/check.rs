@@ -1,12 +1,15 @@
-//! Check against the simple check in Rust, and against SHA-1 of the same bytes.
+//! Check against the simple check in Rust, and against the hash of the same bytes.
 
 use crate::part::{progress, Part};
 use crate::table::{mib, milliseconds, range, ratio, Table};
+use harness::ffi::{self, Hash, HASHES};
 use harness::index_file::{Order, Repository, FLAT, NESTED};
-use harness::{ffi, opponent, plain, timing};
+use harness::kind::Kind;
+use harness::replies::{CheckReply, WORKSPACE};
+use harness::{opponent, timing};
 use std::cell::Cell;
 
-const TEXT: &str = "Check against the simple check, and against SHA-1 of the same bytes, the plain one and ours. The \
+const TEXT: &str = "Check against the simple check, and against the hash of the same bytes, the plain one and ours. The \
     files have twenty entries a directory and full cache trees, the subtrees in the index's order or in Git's; the \
     directories are nested, three levels deep, or flat.";
 const WHY: &str = "The last column says how much of our time is the hash; the rest is done in a workspace of 8 KiB, where \
@@ -18,6 +21,7 @@ const AIM: f64 = 0.7;
 
 /// What was measured on a file.
 struct Row {
+    kind: Kind,
     version: u32,
     name: String,
     bytes: usize,
@@ -35,9 +39,11 @@ impl Row {
 
 pub fn figures() -> Result<Part, String> {
     let mut rows = Vec::new();
-    for most_bytes in [10 << 20, 16 << 20] {
-        for version in [2, 4] {
-            rows.extend(measure(version, most_bytes)?);
+    for hash in HASHES {
+        for most_bytes in [10 << 20, 16 << 20] {
+            for version in [2, 4] {
+                rows.extend(measure(hash, version, most_bytes)?);
+            }
         }
     }
     let mut part = Part::new("Check");
@@ -45,29 +51,39 @@ pub fn figures() -> Result<Part, String> {
     part.add(table(&rows));
     part.add(verdict(&rows));
     part.add(WHY);
+    for hash in HASHES {
+        let rows = rows.iter().filter(|row| row.kind == hash.kind);
+        add_short(&mut part, hash.kind.name(), &rows.collect::<Vec<_>>());
+    }
+    Ok(part)
+}
+
+/// Adds the ratios of a kind to the table at the page's head.
+fn add_short(part: &mut Part, name: &str, rows: &[&Row]) {
     for version in [2, 4] {
         let ratios = rows.iter().filter(|row| row.version == version);
         part.add_short(
-            &format!("check / the simple check in Rust, version {version}"),
-            range(ratios.map(Row::to_simple)),
+            &format!("check / the simple check in Rust, {name}, version {version}"),
+            range(ratios.map(|row| row.to_simple())),
             format!("{REQUIRED:.2} (aim {AIM:.2})"),
         );
     }
     let to_hash = range(rows.iter().map(|row| row.ours / row.our_hash));
     part.add_short(
-        "check / our SHA-1 of the same bytes",
+        &format!("check / our {name} of the same bytes"),
         to_hash,
         String::new(),
     );
-    Ok(part)
 }
 
-/// The rows of one version: both shapes of directories, and both orders of the cache tree.
-fn measure(version: u32, most_bytes: usize) -> Result<Vec<Row>, String> {
+/// The rows of one kind and version: both shapes of directories, and both orders of the cache tree.
+fn measure(hash: &Hash, version: u32, most_bytes: usize) -> Result<Vec<Row>, String> {
+    let kind = hash.kind;
     let mut rows = Vec::new();
     for (shape, widths) in [("nested", NESTED), ("flat", FLAT)] {
         for (order_name, order) in [("index order", Order::Index), ("Git's order", Order::Git)] {
             let (file, _) = Repository {
+                kind,
                 version,
                 widths,
                 order,
@@ -75,10 +91,11 @@ fn measure(version: u32, most_bytes: usize) -> Result<Vec<Row>, String> {
                 most_bytes,
             }
             .lay_out();
-            let name = format!("version {version}, {shape}, {order_name}");
+            let name = format!("{}, version {version}, {shape}, {order_name}", kind.name());
             progress("check", &format!("{name}, {:.0} MiB", mib(file.len())));
-            let [ours, simple, our_hash, plain_hash] = medians(&file)?;
+            let [ours, simple, our_hash, plain_hash] = medians(hash, &file)?;
             rows.push(Row {
+                kind,
                 version,
                 name,
                 bytes: file.len(),
@@ -92,19 +109,20 @@ fn measure(version: u32, most_bytes: usize) -> Result<Vec<Row>, String> {
     Ok(rows)
 }
 
-/// The median seconds of both checks, and of our SHA-1 and plain Rust's over what is before the checksum.
-fn medians(file: &[u8]) -> Result<[f64; 4], String> {
-    let (body, _) = file.split_at(file.len() - ffi::DIGEST);
-    let (mut work, mut simple_work) = (vec![0; ffi::WORKSPACE], vec![0; ffi::WORKSPACE]);
-    let ours = Cell::new(ffi::CheckReply::default());
+/// The median seconds of both checks, and of our hash and plain Rust's over what is before the checksum.
+fn medians(hash: &Hash, file: &[u8]) -> Result<[f64; 4], String> {
+    let kind = hash.kind.number();
+    let (body, _) = file.split_at(file.len() - hash.kind.width());
+    let (mut work, mut simple_work) = (vec![0; WORKSPACE], vec![0; WORKSPACE]);
+    let ours = Cell::new(CheckReply::default());
     let simple = Cell::default();
     let (our_hash, plain_hash) = (Cell::default(), Cell::default());
     timing::alternate(
         [
-            &mut || ours.set(ffi::check(file, &mut work)),
-            &mut || simple.set(opponent::check(file, &mut simple_work)),
-            &mut || our_hash.set(ffi::sha1(body)),
-            &mut || plain_hash.set(plain::sha1(body)),
+            &mut || ours.set(ffi::check(kind, file, &mut work)),
+            &mut || simple.set(opponent::check(kind, file, &mut simple_work)),
+            &mut || our_hash.set(hash.digest(body)),
+            &mut || plain_hash.set(hash.kind.hash(body)),
         ],
         || {
             timing::same("refusals", ours.get().refusal, 0)?;
@@ -121,8 +139,8 @@ fn table(rows: &[Row]) -> Table {
         "ours",
         "simple",
         "ours / simple",
-        "ours / plain SHA-1",
-        "ours / our SHA-1",
+        "ours / plain hash",
+        "ours / our hash",
     ]);
     for row in rows {
         table.row(vec![

@@ -3,9 +3,13 @@
 use crate::part::{progress, Part};
 use crate::table::{beside, mib, milliseconds, range, Table};
 use harness::index_file::{self, list_entry, Order, Repository};
+use harness::kind::Kind;
+use harness::replies::{WriteReply, WORKSPACE};
 use harness::{ffi, timing};
 use std::cell::{Cell, RefCell};
 
+/// The object names of the files.
+const KIND: Kind = Kind::Sha1;
 /// Version 2, since no entry needs the extended word.
 const ASKED: u32 = 0;
 
@@ -38,6 +42,7 @@ pub fn figures() -> Result<Part, String> {
 
 fn measure(version: u32, most_bytes: usize) -> Result<Row, String> {
     let (file, names) = Repository {
+        kind: KIND,
         version,
         widths: index_file::NESTED,
         order: Order::Index,
@@ -83,23 +88,24 @@ fn table(rows: &[Row]) -> Table {
 
 /// The median seconds of each call. A name is removed, and one beside it put.
 fn medians(file: &[u8], name: &[u8]) -> Result<[f64; 5], String> {
-    let buffers = RefCell::new((vec![0; ffi::WORKSPACE], vec![0; index_file::LARGEST]));
+    let buffers = RefCell::new((vec![0; WORKSPACE], vec![0; index_file::LARGEST]));
     let refused = Cell::new(0);
-    let write = |call: &dyn Fn(&mut [u8], &mut [u8]) -> ffi::WriteReply| {
+    let write = |call: &dyn Fn(&mut [u8], &mut [u8]) -> WriteReply| {
         let (work, out) = &mut *buffers.borrow_mut();
         refused.set(refused.get().max(call(work, out).refusal));
     };
     let new = [name, b".new"].concat();
+    let (kind, fields) = (KIND.number(), list_entry(KIND));
     timing::alternate(
         [
             &mut || {
-                let answer = ffi::check(file, &mut buffers.borrow_mut().0);
+                let answer = ffi::check(kind, file, &mut buffers.borrow_mut().0);
                 refused.set(refused.get().max(answer.refusal));
             },
-            &mut || write(&|work, out| ffi::rewrite(file, work, out, 2)),
-            &mut || write(&|work, out| ffi::rewrite(file, work, out, 4)),
-            &mut || write(&|work, out| ffi::put(file, work, out, ASKED, &new, list_entry())),
-            &mut || write(&|work, out| ffi::remove(file, work, out, ASKED, name, 0)),
+            &mut || write(&|work, out| ffi::rewrite(kind, file, work, out, 2)),
+            &mut || write(&|work, out| ffi::rewrite(kind, file, work, out, 4)),
+            &mut || write(&|work, out| ffi::put(kind, file, work, out, ASKED, &new, fields)),
+            &mut || write(&|work, out| ffi::remove(kind, file, work, out, ASKED, name, 0)),
         ],
         || timing::same("refusals", refused.get(), 0),
     )

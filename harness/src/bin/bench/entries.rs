@@ -2,11 +2,14 @@
 
 use crate::part::{progress, Part};
 use crate::table::{beside, milliseconds, nanoseconds, Table};
-use harness::ffi::{Fields, Name, StartReply, StepReply};
 use harness::index_file::{self, Order, Repository};
+use harness::kind::Kind;
+use harness::replies::{Fields, Name, StartReply, StepReply, WORKSPACE};
 use harness::{ffi, timing};
 use std::cell::{Cell, RefCell};
 
+/// The object names of the files.
+const KIND: Kind = Kind::Sha1;
 const ENTRIES: u32 = 100_000;
 /// Every entry whose number this divides is compared in a walk with those that entry k shows.
 const STRIDE: u32 = 1000;
@@ -35,6 +38,7 @@ fn single_entries() -> Result<Table, String> {
 
 fn file(version: u32) -> (Vec<u8>, Vec<Vec<u8>>) {
     Repository {
+        kind: KIND,
         version,
         widths: index_file::NESTED,
         order: Order::Index,
@@ -46,17 +50,19 @@ fn file(version: u32) -> (Vec<u8>, Vec<Vec<u8>>) {
 
 /// The median seconds of check, and of entry for the first, the middle and the last entry.
 fn any_entry(file: &[u8], names: &[Vec<u8>]) -> Result<[f64; 4], String> {
-    let work = RefCell::new(vec![0; ffi::WORKSPACE]);
+    let work = RefCell::new(vec![0; WORKSPACE]);
     let accepted = Cell::new(false);
     let all_right = Cell::new(true);
     let entry = |k: u32| {
-        let answer = ffi::entry(file, &mut work.borrow_mut(), k);
+        let answer = ffi::entry(KIND.number(), file, &mut work.borrow_mut(), k);
         let right = shown(file, &work.borrow(), answer.name) == names[k as usize];
         all_right.set(all_right.get() && right);
     };
     timing::alternate(
         [
-            &mut || accepted.set(ffi::check(file, &mut work.borrow_mut()).refusal == 0),
+            &mut || {
+                accepted.set(ffi::check(KIND.number(), file, &mut work.borrow_mut()).refusal == 0)
+            },
             &mut || entry(0),
             &mut || entry(ENTRIES / 2),
             &mut || entry(ENTRIES - 1),
@@ -104,12 +110,12 @@ fn walk() -> Result<Table, String> {
 
 /// The median seconds of the walk's start, of all its steps, and of entry k for each of those that are compared.
 fn walk_and_entries(file: &[u8]) -> Result<[f64; 3], String> {
-    let work = RefCell::new(vec![0; ffi::WORKSPACE]);
+    let work = RefCell::new(vec![0; WORKSPACE]);
     let start = Cell::default();
     let (walked, single) = (RefCell::default(), RefCell::default());
     timing::alternate(
         [
-            &mut || start.set(ffi::walk_start(file, &mut work.borrow_mut())),
+            &mut || start.set(ffi::walk_start(KIND.number(), file, &mut work.borrow_mut())),
             &mut || *walked.borrow_mut() = steps(file, start.get()),
             &mut || *single.borrow_mut() = entries(file, &mut work.borrow_mut()),
         ],
@@ -122,7 +128,7 @@ fn steps(file: &[u8], start: StartReply) -> Vec<(Name, Fields)> {
     let mut kept = Vec::new();
     let (mut at, mut left) = (start.at, start.left);
     while left > 0 {
-        let step: StepReply = ffi::walk_next(file, at, left);
+        let step: StepReply = ffi::walk_next(KIND.number(), file, at, left);
         if (ENTRIES - left) % STRIDE == 0 {
             kept.push((step.name, step.fields));
         }
@@ -134,6 +140,6 @@ fn steps(file: &[u8], start: StartReply) -> Vec<(Name, Fields)> {
 /// The same entries, one by one.
 fn entries(file: &[u8], work: &mut [u8]) -> Vec<(Name, Fields)> {
     let numbers = (0..ENTRIES).step_by(STRIDE as usize);
-    let answers = numbers.map(|k| ffi::entry(file, work, k));
+    let answers = numbers.map(|k| ffi::entry(KIND.number(), file, work, k));
     answers.map(|answer| (answer.name, answer.fields)).collect()
 }

@@ -5,7 +5,12 @@ use crate::part::progress;
 use crate::plot::{Limit, Line, Panel, Spacing, BLUE, RED};
 use crate::table::{kib, Table};
 use harness::deepest::{LEVELS, SHALLOW, SHORT};
+use harness::kind::Kind;
+use harness::replies::WORKSPACE;
 use harness::{ffi, hostile};
+
+/// The object names of the files.
+const KIND: Kind = Kind::Sha1;
 
 pub const TEXT: &str = "Check by the levels of the tree: on a plain file, with one entry on the last level, and on the \
     file that takes most. The plot shows the same figures.";
@@ -27,9 +32,9 @@ pub fn measure() -> Result<Vec<Level>, String> {
 
 fn level(levels: usize) -> Result<Level, String> {
     progress("stack", &format!("check on {levels} levels"));
-    let plain = check_depth(&hostile::entry_on_level(levels, 2))?;
-    let mut cases = hostile::deep_cases(levels, SHORT);
-    cases.extend(hostile::search_cases(levels));
+    let plain = check_depth(&hostile::entry_on_level(KIND, levels, 2))?;
+    let mut cases = hostile::deep_cases(KIND, levels, SHORT);
+    cases.extend(hostile::search_cases(KIND, levels));
     let depths: Result<Vec<usize>, String> =
         cases.iter().map(|case| check_depth(&case.bytes)).collect();
     Ok(Level {
@@ -40,9 +45,9 @@ fn level(levels: usize) -> Result<Level, String> {
 }
 
 fn check_depth(file: &[u8]) -> Result<usize, String> {
-    let mut work = vec![0; ffi::WORKSPACE];
+    let mut work = vec![0; WORKSPACE];
     let mut refusal = 0;
-    let bytes = depth(|| refusal = ffi::check(file, &mut work).refusal);
+    let bytes = depth(|| refusal = ffi::check(KIND.number(), file, &mut work).refusal);
     match refusal {
         0 => Ok(bytes),
         _ => Err(format!("a deep file is refused with {refusal}")),

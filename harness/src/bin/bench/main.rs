@@ -7,6 +7,7 @@ mod calls;
 mod check;
 mod edits;
 mod entries;
+mod hash;
 mod hostile;
 mod levels;
 mod machine;
@@ -14,7 +15,6 @@ mod page;
 mod part;
 mod plot;
 mod scale;
-mod sha1;
 mod size;
 mod stack;
 mod svg;
@@ -31,7 +31,7 @@ type Measure = (&'static str, fn() -> Result<Part, String>);
 const PARTS: [Measure; 7] = [
     ("size", size::figures),
     ("check", check::figures),
-    ("sha1", sha1::figures),
+    ("hash", hash::figures),
     ("entries", entries::figures),
     ("edits", edits::figures),
     ("stack", stack::figures),
@@ -88,7 +88,7 @@ fn all() -> Result<(), String> {
 
 fn usage() -> ! {
     eprintln!(
-        "usage: bench [size | check | sha1 | entries | edits | stack | hostile [KIB [NAME]]]"
+        "usage: bench [size | check | hash | entries | edits | stack | hostile [KIB [NAME]]]"
     );
     exit(2);
 }

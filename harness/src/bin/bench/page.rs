@@ -10,7 +10,7 @@ use std::fs;
 const PAGE: &str = "docs/SPEED.md";
 const PLOT: &str = "docs/speed.svg";
 
-const INTRODUCTION: &str = "`./bench` measured this, and wrote the page and its plot whole. `./bench size`, `check`, `sha1`, \
+const INTRODUCTION: &str = "`./bench` measured this, and wrote the page and its plot whole. `./bench size`, `check`, `hash`, \
     `entries`, `edits`, `stack` and `hostile` print one section each, in the page's order, and write nothing.";
 /// What the plot shows, for those who do not see it.
 const PLOT_WORDS: &str = "Left: the time of put, the simple check, check and SHA-1 against the size of the file. Right: \
@@ -76,8 +76,9 @@ fn how() -> String {
         - **Ours** is the static library of the proved crate `nerupazhil`.\n\
         - **The simple check** is `harness/src/opponent`: straightforward Rust with the same answers, which hashes \
         once and goes over the entries and the tree once each.\n\
-        - **The plain SHA-1** is `harness/src/plain.rs`: loops over 80 words in Rust. The simple check uses it.\n\n\
-        Both are built for release, and none of the three uses special processor instructions.\n",
+        - **The plain hash functions** are `harness/src/plain.rs`: loops over 80 words for SHA-1 and over 64 for \
+        SHA-256, in Rust. The simple check uses them.\n\n\
+        All are built for release, and none uses special processor instructions.\n",
         timing::RUNS
     )
 }

@@ -3,10 +3,15 @@
 use crate::part::{progress, Part};
 use crate::plot::{Line, Panel, Spacing, BLUE, GREEN, GREY, RED};
 use crate::table::{mib, milliseconds, ratio, Table};
+use harness::ffi::{self, Hash};
 use harness::index_file::{self, list_entry, Order, Repository};
-use harness::{ffi, opponent, timing};
+use harness::kind::Kind;
+use harness::replies::{CheckReply, WORKSPACE};
+use harness::{opponent, timing};
 use std::cell::Cell;
 
+/// The object names of the files, and their hash function.
+const KIND: Kind = Kind::Sha1;
 /// KiB of the files.
 const SIZES: [usize; 8] = [256, 512, 1024, 2048, 4096, 8192, 12288, 16384];
 
@@ -43,6 +48,7 @@ pub fn figures() -> Result<Part, String> {
 fn measure(kib: usize) -> Result<Row, String> {
     progress("size", &format!("{kib} KiB"));
     let (file, names) = Repository {
+        kind: KIND,
         version: 2,
         widths: index_file::NESTED,
         order: Order::Index,
@@ -60,22 +66,27 @@ fn measure(kib: usize) -> Result<Row, String> {
 
 /// The median seconds of each call on a file, where a name is put that it does not have.
 fn medians(file: &[u8], new: &[u8]) -> Result<[f64; LINES.len()], String> {
-    let (body, digest) = file.split_at(file.len() - ffi::DIGEST);
+    let hash_function = Hash::of(KIND).ok_or("there is no hash function")?;
+    let kind = KIND.number();
+    let (body, digest) = file.split_at(file.len() - KIND.width());
     let mut out = vec![0; index_file::LARGEST];
-    let [mut put_work, mut simple_work, mut work] = [(); 3].map(|()| vec![0; ffi::WORKSPACE]);
+    let [mut put_work, mut simple_work, mut work] = [(); 3].map(|()| vec![0; WORKSPACE]);
     let (put, simple) = (Cell::default(), Cell::default());
-    let (check, hash) = (Cell::new(ffi::CheckReply::default()), Cell::default());
+    let (check, hash) = (Cell::new(CheckReply::default()), Cell::default());
     timing::alternate(
         [
-            &mut || put.set(ffi::put(file, &mut put_work, &mut out, 0, new, list_entry()).refusal),
-            &mut || simple.set(opponent::check(file, &mut simple_work)),
-            &mut || check.set(ffi::check(file, &mut work)),
-            &mut || hash.set(ffi::sha1(body)),
+            &mut || {
+                let fields = list_entry(KIND);
+                put.set(ffi::put(kind, file, &mut put_work, &mut out, 0, new, fields).refusal);
+            },
+            &mut || simple.set(opponent::check(kind, file, &mut simple_work)),
+            &mut || check.set(ffi::check(kind, file, &mut work)),
+            &mut || hash.set(hash_function.digest(body)),
         ],
         || {
             timing::same("refusals", (put.get(), check.get().refusal), (0, 0))?;
             timing::same("checks", check.get(), simple.get())?;
-            timing::same("digests", &hash.get()[..], digest)
+            timing::same("digests", &hash.get()[..KIND.width()], digest)
         },
     )
 }

@@ -5,6 +5,7 @@ use crate::levels::{self, AIM, SHALLOW_AIM};
 use crate::part::{progress, Part};
 use crate::table::{kib, Table};
 use harness::deepest::{files, SHALLOW};
+use harness::kind::{Kind, KINDS};
 
 const TEXT: &str = "The deepest stack of each call in KiB: on files of every depth, whose cache trees have up to 128 levels, \
     and on those of at most 16 levels; the root is the first. The files are chains of directories, searches of every \
@@ -45,19 +46,31 @@ type Deepest = Vec<(usize, String)>;
 fn deepest() -> Result<(Deepest, Deepest), String> {
     let mut any = vec![(0, String::new()); CALLS.len()];
     let mut shallow = any.clone();
-    for file in files() {
-        progress("stack", &file.case.name);
-        let mut request = Request::new(&file.case, file.levels)?;
+    let files = KINDS
+        .iter()
+        .flat_map(|&kind| files(kind).into_iter().map(move |file| (kind, file)));
+    for (kind, file) in files {
+        let name = named(kind, &file.case.name);
+        progress("stack", &name);
+        let mut request = Request::new(kind, &file.case, file.levels)?;
         for asked in [2, 4] {
             request.asked = asked;
             let depths = CALLS.map(|(_, call)| call(&mut request));
-            keep(&mut any, &depths, &file.case.name);
+            keep(&mut any, &depths, &name);
             if file.levels <= SHALLOW {
-                keep(&mut shallow, &depths, &file.case.name);
+                keep(&mut shallow, &depths, &name);
             }
         }
     }
     Ok((any, shallow))
+}
+
+/// A file's name, with its kind where that is not SHA-1.
+fn named(kind: Kind, name: &str) -> String {
+    match kind {
+        Kind::Sha1 => name.to_string(),
+        _ => format!("{}: {name}", kind.name()),
+    }
 }
 
 fn keep(deepest: &mut Deepest, depths: &[usize], name: &str) {

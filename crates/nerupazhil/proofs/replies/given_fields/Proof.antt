@@ -33,23 +33,20 @@ element-copy-out-t29 c = search needs
 element-copy-out-t32 : tie.Need-element-copy-out-t32
 element-copy-out-t32 c = search needs
 
-object-at-requires : tie.Need-object-at-requires
-object-at-requires c κs = search needs
-
-element-copy-out-t38 : tie.Need-element-copy-out-t38
-element-copy-out-t38 c = search needs
-
-element-copy-out-t42 : tie.Need-element-copy-out-t42
-element-copy-out-t42 c = search needs
-
-element-copy-out-t45 : tie.Need-element-copy-out-t45
-element-copy-out-t45 c = search needs
-
-element-copy-out-t49 : tie.Need-element-copy-out-t49
-element-copy-out-t49 c = search needs
-
 returns : tie.Need-returns
 returns c = rw (c .before .before .before .before .object-at .ensures)
+
+element-copy-out-t36 : tie.Need-element-copy-out-t36
+element-copy-out-t36 c = search needs
+
+element-copy-out-t40 : tie.Need-element-copy-out-t40
+element-copy-out-t40 c = search needs
+
+element-copy-out-t43 : tie.Need-element-copy-out-t43
+element-copy-out-t43 c = search needs
+
+element-copy-out-t47 : tie.Need-element-copy-out-t47
+element-copy-out-t47 c = search needs
 
 pub given-fields-spec : {M : Type 1} → statement M
 given-fields-spec =
@@ -65,9 +62,8 @@ given-fields-spec =
     element-copy-out-t26
     element-copy-out-t29
     element-copy-out-t32
-    object-at-requires
-    element-copy-out-t38
-    element-copy-out-t42
-    element-copy-out-t45
-    element-copy-out-t49
+    element-copy-out-t36
+    element-copy-out-t40
+    element-copy-out-t43
+    element-copy-out-t47
     returns)
