@@ -118,8 +118,8 @@ fn fewer(left: u32) -> u32
     0
 }
 
-// The next entry of a file at a place, where left remain, and the place after it, with one fewer to come. Where there is none, the entry is 18 and the place stays; an unknown
-// kind is 29 before all else.
+// The next entry of a file at a place, where left remain, and the place after it, with one fewer to come. Where there is none, the entry is 18 and the
+// place stays; of an unknown kind it is 29, before all else.
 pub fn step_at(kind: u32, file: &[u8], at: usize, left: u32) -> Step
     ensures { λ r. ⌜ StepShows (widthOf kind) (namePlace (widthOf kind) at (bodyIn (widthOf kind) (now (file .entry)))) (walkAnswer kind (now (file .entry)) at left) (now (file .entry)) (r .answer) × (r .next ≡ placeAfter kind (now (file .entry)) at left) ⌝ }
 {
@@ -202,7 +202,7 @@ pub fn start(kind: u32, file: &[u8], work: &mut [u8]) -> Started
 
 // ---- the walk as one value
 
-// A walk before the first entry; entries is the number of all.
+// A walk before the first entry; entries is the number of all. Any kind is kept, and each step refuses an unknown one.
 pub fn new<'a>(kind: u32, file: &'a [u8], entries: u32) -> Walk<'a>
     ensures { λ r. ⌜ (r .kind ≡ kind) × (r .file ≡ file .entry) × (placeAt (r .at) (r .left) ≡ firstPlace entries) ⌝ }
 {
@@ -214,7 +214,7 @@ pub fn new<'a>(kind: u32, file: &'a [u8], entries: u32) -> Walk<'a>
     }
 }
 
-// The next entry; 18 where none remain.
+// The next entry; 18 where none remain, 29 of an unknown kind.
 pub fn next<'a>(walk: Walk<'a>) -> EntryAnswer
     ensures { λ r. ⌜ StepShows (widthOf (walk .entry .kind)) (namePlace (widthOf (walk .entry .kind)) (walk .entry .at) (bodyIn (widthOf (walk .entry .kind)) (now (walk .entry .file)))) (walkAnswer (walk .entry .kind) (now (walk .entry .file)) (walk .entry .at) (walk .entry .left)) (now (walk .entry .file)) r ⌝ }
 {

@@ -20,9 +20,9 @@ read : (c : tie.After-width-of) →
     let a = c .before .before .before .before .before .args in
     stepRead (a .kind) (a .file .now) (a .at) (a .left) ≡ walkRead (c .width-of .result) (a .file .now) (a .at) (a .left)
 read c =
-    let e = c .before in
-    let a = e .before .before .before .before .args in
-    step-known (a .kind) (a .file .now) (a .at) (a .left) (sym (e .before .is-known .ensures) ∙ not-false _ (e .if1 .left))
+    let t = c .before in
+    let a = t .before .before .before .before .args in
+    step-known (a .kind) (a .file .now) (a .at) (a .left) (sym (t .before .is-known .ensures) ∙ not-false _ (t .if1 .left))
     ∙ ap (λ (w : ℕ). walkRead w (a .file .now) (a .at) (a .left)) (sym (c .width-of .ensures .0))
 
 -- an entry is seen
