@@ -47,7 +47,7 @@ unused-of w o narrow e =
     drop-at o (replicate (32 - length o) 0) w long ∙ rw long refl
 
 -- an object name of the item that a view shows
-inView : {A : Type 0} → (A → List ℕ) → View A → List ℕ
+abbrev inView : {A : Type 0} → (A → List ℕ) → View A → List ℕ
 inView object (refused n p) = []
 inView object (inFile a) = object a
 inView object (inWorkspace a) = object a
@@ -70,9 +70,9 @@ module _ (w at : ℕ) (narrow : w ≤ 32) (f work : List ℕ) where
   unfolding undoSaid
   undo-unused (refused n p) e = (drop-zeros w 32, drop-zeros w 32, drop-zeros w 32)
   undo-unused (inFile x) e =
-      (unused-of w _ narrow (ap (inView (λ y. y .first .object)) e), unused-of w _ narrow (ap (inView (λ y. y .second .object)) e), unused-of w _ narrow (ap (inView (λ y. y .third .object)) e))
+      (unused-of w (x .first .object) narrow (ap (inView (λ y. y .first .object)) e), unused-of w (x .second .object) narrow (ap (inView (λ y. y .second .object)) e), unused-of w (x .third .object) narrow (ap (inView (λ y. y .third .object)) e))
   undo-unused (inWorkspace x) e =
-      (unused-of w _ narrow (ap (inView (λ y. y .first .object)) e), unused-of w _ narrow (ap (inView (λ y. y .second .object)) e), unused-of w _ narrow (ap (inView (λ y. y .third .object)) e))
+      (unused-of w (x .first .object) narrow (ap (inView (λ y. y .first .object)) e), unused-of w (x .second .object) narrow (ap (inView (λ y. y .second .object)) e), unused-of w (x .third .object) narrow (ap (inView (λ y. y .third .object)) e))
 
 -- a name that lies in its buffer
 pub name-inside : (s : Shown) (more f work : List ℕ) → Inside s f work → NameInside (shownReply s ++ more) f work

@@ -34,7 +34,7 @@ element-copy-out-t32 : tie.Need-element-copy-out-t32
 element-copy-out-t32 c = search needs
 
 returns : tie.Need-returns
-returns c = rw (c .before .before .before .before .object-at .ensures)
+returns c = search needs
 
 element-copy-out-t36 : tie.Need-element-copy-out-t36
 element-copy-out-t36 c = search needs
