@@ -154,7 +154,8 @@ def imports(path: str) -> tuple:
         module, listed, alias = match.groups()
         item = RATTLE_ITEM.match(module)
         if item:
-            names[item[2]] = (item_file(item[1], item[2]), item[2])
+            crate = path.split("/")[1] if item[1] == "crate" else item[1]
+            names[item[2]] = (item_file(crate, item[2]), item[2])
         elif alias:
             aliases[alias] = module
         for part in filter(None, (listed or "").split(", ")):
