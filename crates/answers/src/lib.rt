@@ -2,7 +2,6 @@
 ghost use mathlib.Core.Path.{_≡_};
 ghost use mathlib.Core.List.{List, []};
 ghost use Prim.Native.Nat.{ℕ, _+_};
-ghost use lib.ListN.{length};
 ghost use Rattle.answers.specs.Answers.{refused, partIn, nameIn, entrySaid, nodeSaid, undoSaid, refusedEntry, refusedNode, refusedUndo};
 use entries::record::Fields;
 use entries::record::no_fields;

@@ -5,9 +5,9 @@ use mathlib.Core.Bool.{Bool, true, false, _&&_, true≢false}
 use borrow.Author.Tests.{eq-eqb, ne-eqb}
 use Prim.Native.Nat.{ℕ, zero, suc, _+_, _-_, _≤_, _<_}
 use native.Mathlib.Omega.{arith}
-use lib.ListN.{take, drop}
+use lib.ListN.{drop}
 use lib.Seq.{drop-drop}
-use Rattle.format.specs.Bytes.{eqList, before}
+use Rattle.format.specs.Bytes.{eqList}
 use Rattle.tree_nodes.specs.Flat.{treesLength, nameOf, restOf, namesOf, hasName, namesDiffer}
 use Rattle.cache_tree.specs.Orders.{nameBelow, risesFrom, stillRises}
 use Rattle.cache_tree.proofs.Below.{rises-differ}

@@ -1,7 +1,6 @@
 // What is tested of a whole file before its entries are read: length, signature, version and checksum.
 ghost use mathlib.Core.Path.{_≡_};
 ghost use Prim.Native.Nat.{_≤_};
-ghost use lib.ListN.{length};
 ghost use Rattle.kinds.specs.Kinds.{widthOf, hashOf};
 ghost use Rattle.file_read.specs.Header.{isVersion, HeaderOf};
 

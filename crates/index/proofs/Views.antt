@@ -1,13 +1,13 @@
 -- Laws of parts of lists, of the answers' views, and of refusals.
 use mathlib.Core.Path.{_≡_, refl, sym, ap, _∙_}
 use mathlib.Core.List.{List, [], _∷_}
-use mathlib.Core.Bool.{Bool, true, false, cond}
+use mathlib.Core.Bool.{Bool, true, false}
 use mathlib.Core.Option.{Option, none, some}
 use Prim.Native.Nat.{ℕ, zero, suc, _-_, _≤_, _<_}
 use native.Mathlib.Omega.{arith}
 use lib.ListN.{length, getD, getElem?, length-take}
 use Rattle.format.specs.Records as F
-use Rattle.format.specs.Reading.{Read, bad}
+use Rattle.format.specs.Reading.{Read}
 use Rattle.format.specs.Reader.{Contents}
 use Rattle.format.specs.Places.{bodyIn}
 use Rattle.answers.specs.declared.Checked.the-variants as K

@@ -1,7 +1,7 @@
 -- What the requests answer: by their tests, and by the reading of the file.
 use mathlib.Core.Path.{_≡_, refl, sym, ap, _∙_}
 use mathlib.Core.List.{List, [], _∷_, _++_}
-use mathlib.Core.Bool.{Bool, true, false, cond}
+use mathlib.Core.Bool.{true, false}
 use Prim.Native.Nat.{ℕ, _≤_, _<_}
 use native.Mathlib.Omega.{arith}
 use lib.ListN.{length, drop, replicate}
@@ -16,7 +16,7 @@ use Rattle.format.specs.Reader.{Contents}
 use Rattle.format.specs.Places.{bodyIn}
 use Rattle.format.specs.Requests.{okAsked, putRecord, removeRecord, holds, writing, rewriteRequest, putRequest, removeRequest}
 use Rattle.format_laws.proofs.Tests.{and-inv, by-test}
-use Rattle.format_laws.proofs.Readings.{bad-good, good-inv}
+use Rattle.format_laws.proofs.Readings.{good-inv}
 use Rattle.kinds.specs.Kinds.{widthOf, hashOf, readKind}
 use Rattle.fields.specs.Workspace.{Frame}
 use Rattle.entries.specs.declared.record.Fields.{Fields}

@@ -8,7 +8,7 @@ ghost use lib.ListN.{length};
 ghost use Rattle.format.specs.Bytes.{fit32};
 ghost use Rattle.format.specs.Reading.{good};
 ghost use Rattle.format.specs.Reader.{Contents};
-ghost use Rattle.format.specs.Requests.{putRecord, removeRecord, okAsked, writing, rewriteRequest, putRequest, removeRequest};
+ghost use Rattle.format.specs.Requests.{putRecord, removeRecord, okAsked, writing};
 ghost use Rattle.kinds.specs.Kinds.{widthOf, hashOf, readKind};
 ghost use Rattle.answers.specs.Answers.{inRoom, cleared};
 ghost use Rattle.entries.specs.Record.{entryWith};

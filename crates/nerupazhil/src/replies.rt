@@ -1,6 +1,5 @@
 // Answers as arrays of numbers, and the fields of an entry from arrays that a caller lends.
 ghost use mathlib.Core.Path.{_≡_};
-ghost use lib.ListN.{length};
 ghost use Rattle.format.specs.Layout.{bit};
 ghost use Rattle.nerupazhil.specs.Replies.{isPresent, numberOf, checkReply, shownReply, fieldNumbers, givenFields, nodeReply, undoReply, stepReply, writeReply, startReply};
 use answers::Checked;

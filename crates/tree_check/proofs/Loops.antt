@@ -1,5 +1,5 @@
 -- The walk over all entries: bounds that each turn of its loop keeps, whatever the entries and the tree are.
-use mathlib.Core.Path.{_≡_, refl, sym, ap, _∙_}
+use mathlib.Core.Path.{_≡_, sym, ap, _∙_}
 use mathlib.Core.List.{List}
 use mathlib.Core.Bool.{Bool, true, false, _&&_, _||_}
 use Prim.Native.Nat.{ℕ, _+_, _-_, _≤_, _<_}
@@ -16,7 +16,7 @@ use Rattle.entries_directory.specs.declared.Front.{Front}
 use Rattle.entries_directory.specs.Ahead.{FrontFits}
 use Rattle.entries_directory.proofs.Ahead.{stays-some, stays-long}
 use Rattle.tree_check.specs.declared.walk.Directory.{Directory}
-use Rattle.tree_check.specs.Steps.{entered, WalkReady, PartPassed, PartEntered}
+use Rattle.tree_check.specs.Steps.{WalkReady, PartPassed, PartEntered}
 use Rattle.tree_check.proofs.Levels.{nowhere}
 use Rattle.tree_check.proofs.Turns.{turns, turns-most, turns-passed, turns-entered, turns-left}
 use Rattle.tree_check.proofs.Walks.{inDirectory}

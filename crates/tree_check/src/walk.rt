@@ -13,7 +13,6 @@ use tree_table::Table;
 ghost use mathlib.Core.Path.{_≡_};
 ghost use mathlib.Core.Bool.{true, cond, _&&_, _||_};
 ghost use Prim.Native.Nat.{_-_, _≤_, _<_};
-ghost use lib.ListN.{length};
 ghost use lib.Dec.{eqb, leb, ltb};
 ghost use Rattle.tree_search.specs.Table.{Known};
 ghost use Rattle.tree_check.specs.Steps.{entered, WalkReady, Taken, Walked};

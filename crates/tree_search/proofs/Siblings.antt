@@ -5,10 +5,10 @@ use mathlib.Core.Bool.{true, false, not}
 use mathlib.Core.Option.{none, some}
 use Prim.Native.Nat.{ℕ, _+_, _-_, _≤_, _<_}
 use native.Mathlib.Omega.{arith}
-use lib.ListN.{take, drop}
+use lib.ListN.{drop}
 use lib.Seq.{drop-drop}
 use borrow.Author.Tests.{not-true}
-use Rattle.format.specs.Bytes.{eqList, before}
+use Rattle.format.specs.Bytes.{eqList}
 use Rattle.format.specs.Records.{Node, Forest, nil, tree, Tree}
 use Rattle.format.specs.Layout.{has, distinct}
 use Rattle.tree_counts.specs.Counts.{child}

@@ -1,6 +1,5 @@
 use Rattle.extensions.proofs.Trees.{tree-refused, tree-miscounted, tree-added}
 use Rattle.extensions.proofs.Known.{known-seen}
-use native.Mathlib.Omega.{arith}
 use mathlib.Core.Path.{sym, _∙_}
 use Rattle.fields.proofs.Workspace.{frame-same}
 use borrow.Author.Needs.{needs}

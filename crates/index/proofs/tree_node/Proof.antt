@@ -1,8 +1,7 @@
 -- The proof that `tree_node` meets its contract.
 use Rattle.format.specs.Places.{bodyIn}
-use native.Mathlib.Omega.{arith}
 use Rattle.kinds.specs.Kinds.{widthOf, readKind}
-use Rattle.kinds.proofs.Laws.{width-least, width-most}
+use Rattle.kinds.proofs.Laws.{width-most}
 use Rattle.answers.specs.Answers.{inRoom}
 use Rattle.file_read.specs.Contents.{Contains}
 use Rattle.index.proofs.Views.{node-is, node-refused}
