@@ -36,6 +36,11 @@ pub fields-back : (w : ℕ) (x : Fields) (object : List ℕ) → Told w (x .obje
 fields-back w x object told =
     rw (told .same, flag-back (x .«assume_valid»), flag-back (x .«skip_worktree»), flag-back (x .«intent_to_add»)) refl
 
+-- of an object name that is given, what is after its w bytes is not read: put is given the same entry, and so writes the same file
+pub given-unread : (w : ℕ) (numbers object other name : List ℕ) → take w object ≡ take w other
+    → entryWith w (givenFields numbers object) name ≡ entryWith w (givenFields numbers other) name
+given-unread w numbers object other name e = rw e refl
+
 -- ---- what is told: v, by a refusal's number and place, or by 0 and the item x
 
 pub record Tells {A : Type 0} (v : View A) (refusal place : ℕ) (x : A) : Type 0 where
