@@ -29,8 +29,8 @@ WRONG_FIGURES = (
 WRONG_NAMES = (
     ("a field that is not declared", r"\[Demand3\.cuts\]", "[Demand3.cut]",
      "Statements.antt declares Demand3.cut 0 times"),
-    ("a theorem that is not declared", r"\[sha1-demand3\]", "[sha1-demand4]",
-     "Demands.antt declares sha1-demand4 0 times"),
+    ("a theorem that is not declared", r"\[sha1-demands\]", "[sha1-demand]",
+     "Demands.antt declares sha1-demand 0 times"),
     ("a function that is not declared", r"\[index::check\]", "[index::checks]", "lib.rt declares checks 0 times"),
     ("a definition that is not declared", r"`be64`, ", "`be64`, `be65`, ", "Padding.antt declares be65 0 times"),
     ("a statement of another file", r"(\[Spells\]\(.*?/)Layout", r"\1Reader", "Reader.antt declares Spells 0 times"),
@@ -195,9 +195,10 @@ def citing(report: Report) -> None:
     report.test("Spells does not rest on readFile", (reader, "readFile") not in spelling)
     records = "crates/format/specs/Records.antt"
     report.same("a constructor is its type's", "Count", definitions.owner(records, "invalid"))
-    cited = definitions.cited("crates/demands/proofs/Demands.antt", "sha1-demand3")
-    report.test("a theorem cites its type", (statements, "Demand3") in cited)
-    report.test("a theorem does not cite its proof", not any(name == "length-sha1" for _, name in cited))
+    demands = "crates/demands/proofs/Demands.antt"
+    cited = definitions.cited(demands, "sha1-demands")
+    report.test("a theorem cites its type", (demands, "Demands") in cited)
+    report.test("a theorem does not cite its proof", not any(name == "every-kind" for _, name in cited))
     for path, name in ((layout, "Spell"), (statements, "Demand3.cut"), ("crates/none/src/lib.rt", "none")):
         try:
             report.test(f"{name} is not there", False, definitions.line_of(path, name))
