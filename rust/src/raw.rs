@@ -319,4 +319,7 @@ extern "C" {
 
     /// Writes the SHA-1 digest of the bytes to `out`.
     pub fn nerupazhil_sha1(bytes: *const u8, length: usize, out: *mut [u8; DIGEST]);
+
+    /// Writes the SHA-256 digest of the bytes to `out`.
+    pub fn nerupazhil_sha256(bytes: *const u8, length: usize, out: *mut [u8; OBJECT]);
 }
