@@ -9,11 +9,17 @@
 //!
 //! Tests compare these declarations with the Rattle source and with the header.
 
-/// The kind of object names that are SHA-1 digests. Any other number is refused with 29.
+/// The kind of object names that are SHA-1 digests.
 pub const SHA1: u32 = 1;
 
-/// The number of bytes of an object name and of a digest.
+/// The kind of object names that are SHA-256 digests. Any other number is refused with 29.
+pub const SHA256: u32 = 2;
+
+/// The number of bytes of a SHA-1 digest, and of an object name that is one.
 pub const DIGEST: usize = 20;
+
+/// The number of bytes of a SHA-256 digest, and of an object name that is one.
+pub const DIGEST_SHA256: usize = 32;
 
 /// The number of bytes that are lent for an object name.
 pub const OBJECT: usize = 32;
@@ -321,5 +327,5 @@ extern "C" {
     pub fn nerupazhil_sha1(bytes: *const u8, length: usize, out: *mut [u8; DIGEST]);
 
     /// Writes the SHA-256 digest of the bytes to `out`.
-    pub fn nerupazhil_sha256(bytes: *const u8, length: usize, out: *mut [u8; OBJECT]);
+    pub fn nerupazhil_sha256(bytes: *const u8, length: usize, out: *mut [u8; DIGEST_SHA256]);
 }

@@ -29,7 +29,7 @@ use std::fmt;
 /// let cut = Index::read(&EMPTY[..31]).unwrap_err();
 /// assert_eq!(
 ///     format!("{cut:?}"),
-///     "Refusal(refused 1 at 0: the file is shorter than 32 bytes, the length of an empty index)"
+///     "Refusal(refused 1 at 0: the file is shorter than an empty index: 32 bytes with SHA-1 names, 44 with SHA-256)"
 /// );
 /// ```
 #[derive(Clone, Copy, PartialEq, Eq, Hash)]
@@ -121,7 +121,7 @@ macro_rules! reasons {
 }
 
 reasons! {
-    1 TooShort "the file is shorter than 32 bytes, the length of an empty index"
+    1 TooShort "the file is shorter than an empty index: 32 bytes with SHA-1 names, 44 with SHA-256"
     2 TooLong "the file, or the one that would be written, is longer than 16777216 bytes"
     3 Signature "the file does not begin with DIRC, as an index does"
     4 Version "the version of the file, or the one asked for, is not one that this call takes"
