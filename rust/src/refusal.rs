@@ -8,11 +8,11 @@ use std::fmt;
 /// The place is the first byte of that thing, and 0 where the refusal is about the whole file or about the request.
 ///
 /// ```
-/// use nerupazhil::{check, Reason, WORKSPACE};
+/// use nerupazhil::{check, Kind, Reason, WORKSPACE};
 ///
 /// let mut file = nerupazhil::EMPTY;
 /// file[31] ^= 1;
-/// let refusal = check(&file, &mut [0; WORKSPACE]).unwrap_err();
+/// let refusal = check(Kind::Sha1, &file, &mut [0; WORKSPACE]).unwrap_err();
 /// assert_eq!((refusal.number(), refusal.place()), (5, 12));
 /// assert_eq!(refusal.reason(), Reason::Checksum);
 /// assert_eq!(
@@ -142,7 +142,7 @@ reasons! {
     19 WorkspaceShort "the workspace is shorter than 8192 bytes"
     20 OutputShort "the output is too short for the result"
     21 NeedsVersion3 "version 2 was asked for, but an entry is marked skip-worktree or intent-to-add, which needs version 3 or 4"
-    29 Kind "the kind of object names is not one that the library knows"
+    29 Kind "the kind of object names is not one that the library knows, or not that of the record's object name"
 }
 
 impl fmt::Display for Reason {
