@@ -269,6 +269,13 @@ static void sha1(void)
     tell("sha1", file_length, 0, OBJECT);
 }
 
+static void sha256(void)
+{
+    begin(OBJECT);
+    nerupazhil_sha256(file, file_length, given.object[0]);
+    tell("sha256", file_length, 0, OBJECT);
+}
+
 /* ---- the calls on one file */
 
 static struct record a_record(const uint8_t *name, size_t length)
@@ -435,12 +442,14 @@ static void removals(void)
     out_length = room;
 }
 
-/* Too small a workspace, one that is longer than it must be, and kinds that there are not. */
+/* Too small a workspace, one that is longer than it must be, the other kind, and kinds that there are not. */
 static void other_settings(struct nerupazhil_check_reply counts)
 {
     work_length = NERUPAZHIL_WORKSPACE - 1;
     each_call(counts, 2);
     work_length = NERUPAZHIL_WORKSPACE + SPARE;
+    each_call(counts, 3);
+    kind = NERUPAZHIL_SHA1 + NERUPAZHIL_SHA256 - file_kind;
     each_call(counts, 3);
     kind = 0;
     each_call(counts, 4);
@@ -474,6 +483,7 @@ static void all_calls(uint64_t number)
     find_room();
     each_call(counts, 4);
     sha1();
+    sha256();
     if (file_length > LARGE) {
         put(2, named("new/in/folder"));
     } else {

@@ -1,7 +1,7 @@
 /*
- * Makes every call of the library from C or C++. All that a call may write to is filled with marks before it, and
- * compared whole after it: the reply, fields and object names, workspace, output, and the bytes around each. The files
- * are laid here byte for byte. The last line is 'N passed, M failed'.
+ * Makes every call of the library from C or C++, with each kind of object names. All that a call may write to is filled
+ * with marks before it, and compared whole after it: the reply, fields and object names, workspace, output, and the bytes
+ * around each. The files are laid here byte for byte. The last line is 'N passed, M failed'.
  */
 #include <stdio.h>
 #include <string.h>
@@ -13,6 +13,24 @@
 #define SPARE 64 /* bytes around what a call may write */
 #define ROOM 512 /* more than a file here has */
 
+/* The kinds of object names. In the example, which has entries 'a' and 'b/c', the second entry begins and the last one
+   ends at these bytes. */
+static const struct kind {
+    const char *name;
+    uint32_t number;
+    size_t width; /* of an object name, and of the checksum */
+    void (*hash)(const uint8_t *, size_t, uint8_t *);
+    size_t second, end;
+} kinds[] = {
+    {"SHA-1", NERUPAZHIL_SHA1, NERUPAZHIL_DIGEST, nerupazhil_sha1, 76, 148},
+    {"SHA-256", NERUPAZHIL_SHA256, NERUPAZHIL_DIGEST_SHA256, nerupazhil_sha256, 92, 172},
+};
+static const struct kind *kind; /* of the files and the calls */
+
+#define FIRST 12u                         /* the first byte of the first entry */
+#define NUMBERS 40u                       /* bytes of an entry before its object name */
+#define FIXED (NUMBERS + kind->width + 2) /* bytes of an entry before its name */
+
 static int passed, failed;
 
 static void test(const char *call, const char *what, int good)
@@ -22,7 +40,7 @@ static void test(const char *call, const char *what, int good)
     else
         failed++;
     if (!good)
-        printf("FAILED %s: %s\n", call, what);
+        printf("FAILED %s, %s: %s\n", kind->name, call, what);
 }
 
 /* ---- files */
@@ -62,8 +80,8 @@ static void lay_start(struct laid *file, uint32_t version, uint32_t entries)
 
 static void lay_checksum(struct laid *file)
 {
-    nerupazhil_sha1(file->bytes, file->length, file->bytes + file->length);
-    file->length += NERUPAZHIL_DIGEST;
+    kind->hash(file->bytes, file->length, file->bytes + file->length);
+    file->length += kind->width;
 }
 
 static void lay_flags(struct laid *file, const struct nerupazhil_fields *f, size_t name_length)
@@ -75,7 +93,7 @@ static void lay_flags(struct laid *file, const struct nerupazhil_fields *f, size
         lay_number(file, f->intent_to_add << 13 | f->skip_worktree << 14, 2);
 }
 
-/* The object name is one byte 20 times. In version 4, no name has a beginning of the one before it. */
+/* The object name is one byte many times. In version 4, no name has a beginning of the one before it. */
 static void lay_entry(struct laid *file, const struct nerupazhil_fields *f, uint8_t object, const char *name)
 {
     const uint32_t numbers[] = {f->ctime_seconds, f->ctime_nanoseconds, f->mtime_seconds, f->mtime_nanoseconds,
@@ -85,7 +103,7 @@ static void lay_entry(struct laid *file, const struct nerupazhil_fields *f, uint
 
     for (size_t k = 0; k < sizeof numbers / sizeof numbers[0]; k++)
         lay_number(file, numbers[k], 4);
-    lay_all(file, object, NERUPAZHIL_DIGEST);
+    lay_all(file, object, kind->width);
     lay_flags(file, f, strlen(name));
     if (file->bytes[7] == 4)
         lay_number(file, (uint32_t)file->last, 1);
@@ -109,21 +127,21 @@ static void lay_plain(struct laid *file, uint32_t mode, uint8_t object, const ch
 static void lay_tree(struct laid *file, int valid)
 {
     lay(file, "TREE", 4);
-    lay_number(file, valid ? 51 : 32, 4);
+    lay_number(file, (uint32_t)(valid ? 11 + 2 * kind->width : 12 + kind->width), 4);
     lay(file, valid ? "\0002 1\n" : "\0-1 1\n", valid ? 5 : 6);
-    lay_all(file, 0x44, valid ? NERUPAZHIL_DIGEST : 0);
+    lay_all(file, 0x44, valid ? kind->width : 0);
     lay(file, "b\0001 0\n", 6);
-    lay_all(file, 0x55, NERUPAZHIL_DIGEST);
+    lay_all(file, 0x55, kind->width);
 }
 
 /* A resolve-undo record without a second stage. */
 static void lay_undo(struct laid *file)
 {
     lay(file, "REUC", 4);
-    lay_number(file, 60, 4);
+    lay_number(file, (uint32_t)(20 + 2 * kind->width), 4);
     lay(file, "b/c\000100644\0000\000120000", 20);
-    lay_all(file, 0x66, NERUPAZHIL_DIGEST);
-    lay_all(file, 0x77, NERUPAZHIL_DIGEST);
+    lay_all(file, 0x66, kind->width);
+    lay_all(file, 0x77, kind->width);
 }
 
 static struct nerupazhil_fields full;             /* numbers that differ; the flags are set */
@@ -162,7 +180,7 @@ static void lay_added(struct laid *file)
 static void lay_extended(struct laid *file, const struct laid *entries, int valid)
 {
     memset(file, 0, sizeof *file);
-    lay(file, entries->bytes, entries->length - NERUPAZHIL_DIGEST);
+    lay(file, entries->bytes, entries->length - kind->width);
     lay_tree(file, valid);
     lay_undo(file);
     lay_checksum(file);
@@ -313,7 +331,7 @@ static void give_name(const char *name)
 static void give_example(void)
 {
     memset(&given, 0, sizeof given);
-    given.kind = NERUPAZHIL_SHA1;
+    given.kind = kind->number;
     give_file(&example);
     given.work = now.work;
     given.work_length = sizeof now.work;
@@ -322,8 +340,8 @@ static void give_example(void)
     given.asked = NERUPAZHIL_VERSION_LOWEST;
     give_name("a");
     given.fields.mode = NERUPAZHIL_MODE_LINK;
-    memset(given.object, 0x33, NERUPAZHIL_DIGEST);
-    given.at = 12;
+    memset(given.object, 0x33, kind->width);
+    given.at = FIRST;
     given.left = 2;
 }
 
@@ -384,7 +402,7 @@ static void expect_name(struct nerupazhil_name *name, uint64_t buffer, uint64_t 
 
 static void expect_object(size_t number, uint8_t byte)
 {
-    memset(expected.objects[number], byte, NERUPAZHIL_DIGEST);
+    memset(expected.objects[number], byte, kind->width);
 }
 
 static void write_file(const char *what, const struct laid *file)
@@ -453,7 +471,7 @@ static void empty_slices(void)
     refuse("no name", NERUPAZHIL_NOT_THERE, 0);
 }
 
-/* ---- kinds: 29 after 19 and before all that is wrong with file and request */
+/* ---- other kinds: 29 after 19 and before all that is wrong with file and request */
 
 static uint32_t other_kind;
 
@@ -490,7 +508,7 @@ static void kind_and_request(void)
     no_out();
 }
 
-static void kinds(void)
+static void unknown_kinds(void)
 {
     const uint32_t others[] = {0, 3, UINT32_MAX};
 
@@ -507,6 +525,15 @@ static void kinds(void)
     }
 }
 
+/* The kind that the file does not have: the checksum is looked for in other bytes. */
+static void exchanged_kinds(void)
+{
+    const struct kind *other = &kinds[kind == kinds];
+
+    other_kind = other->number;
+    all_refuse("the kind that the file does not have", kind_alone, NERUPAZHIL_CHECKSUM, example.length - other->width);
+}
+
 /* ---- files that are refused */
 
 static void damage(void)
@@ -516,13 +543,13 @@ static void damage(void)
 
 static void cut(void)
 {
-    given.file_length = 31;
+    given.file_length = FIRST + kind->width - 1;
 }
 
 static void refused_files(void)
 {
-    all_refuse("a wrong checksum", damage, NERUPAZHIL_CHECKSUM, 148);
-    all_refuse("31 bytes", cut, NERUPAZHIL_TOO_SHORT, 0);
+    all_refuse("a wrong checksum", damage, NERUPAZHIL_CHECKSUM, kind->end);
+    all_refuse("a byte less than an empty index", cut, NERUPAZHIL_TOO_SHORT, 0);
     begin(START);
     give_file(&example_4);
     refuse("version 4", NERUPAZHIL_VERSION, 0);
@@ -539,13 +566,13 @@ static void read_checked(void)
     given.work_length = NERUPAZHIL_WORKSPACE;
     expected.reply.check.version = 2;
     expected.reply.check.entries = 2;
-    expected.reply.check.end = 148;
+    expected.reply.check.end = kind->end;
     succeed("the example, with the least workspace");
     begin(CHECK);
     give_file(&extended);
     expected.reply.check.version = 2;
     expected.reply.check.entries = 2;
-    expected.reply.check.end = 148;
+    expected.reply.check.end = kind->end;
     expected.reply.check.has_tree = 1;
     expected.reply.check.nodes = 2;
     expected.reply.check.has_undo = 1;
@@ -556,18 +583,19 @@ static void read_checked(void)
 static void read_entries(void)
 {
     const struct nerupazhil_name *name = &now.reply.entry.name;
+    size_t place = kind->second + FIXED;
 
     begin(ENTRY);
     given.number = 1;
-    expect_name(&expected.reply.entry.name, NERUPAZHIL_IN_FILE, 138, 3);
+    expect_name(&expected.reply.entry.name, NERUPAZHIL_IN_FILE, place, 3);
     expected.fields.mode = NERUPAZHIL_MODE_EXECUTABLE;
     expect_object(0, 0x22);
     succeed("entry 1");
-    test("name_bytes", "in the file", nerupazhil_name_bytes(*name, given.file, NULL) == given.file + 138);
+    test("name_bytes", "in the file", nerupazhil_name_bytes(*name, given.file, NULL) == given.file + place);
     begin(ENTRY);
     give_file(&added);
     given.number = 1;
-    expect_name(&expected.reply.entry.name, NERUPAZHIL_IN_FILE, 140, 1);
+    expect_name(&expected.reply.entry.name, NERUPAZHIL_IN_FILE, place + 2, 1);
     expected.fields = full;
     expect_object(0, 0x33);
     succeed("all fields");
@@ -602,22 +630,24 @@ static void expect_node(uint64_t level, uint64_t valid, uint64_t count, uint64_t
 
 static void read_nodes(void)
 {
+    size_t root = kind->end + 8;
+
     begin(NODE);
     give_file(&extended);
-    expect_name(&expected.reply.node.name, NERUPAZHIL_IN_FILE, 156, 0);
+    expect_name(&expected.reply.node.name, NERUPAZHIL_IN_FILE, root, 0);
     expect_node(1, 1, 2, 1);
     expect_object(0, 0x44);
     succeed("the root");
     begin(NODE);
     give_file(&extended);
     given.number = 1;
-    expect_name(&expected.reply.node.name, NERUPAZHIL_IN_FILE, 181, 1);
+    expect_name(&expected.reply.node.name, NERUPAZHIL_IN_FILE, root + 5 + kind->width, 1);
     expect_node(2, 1, 1, 0);
     expect_object(0, 0x55);
     succeed("node 1");
     begin(NODE);
     give_file(&invalid);
-    expect_name(&expected.reply.node.name, NERUPAZHIL_IN_FILE, 156, 0);
+    expect_name(&expected.reply.node.name, NERUPAZHIL_IN_FILE, root, 0);
     expect_node(1, 0, 0, 1);
     succeed("an invalid root");
     begin(NODE);
@@ -632,7 +662,7 @@ static void read_records(void)
 {
     begin(UNDO);
     give_file(&extended);
-    expect_name(&expected.reply.undo.path, NERUPAZHIL_IN_FILE, 215, 3);
+    expect_name(&expected.reply.undo.path, NERUPAZHIL_IN_FILE, kind->end + 27 + 2 * kind->width, 3);
     expected.reply.undo.first_mode = NERUPAZHIL_MODE_REGULAR;
     expected.reply.undo.third_mode = NERUPAZHIL_MODE_LINK;
     expect_object(0, 0x66);
@@ -658,25 +688,25 @@ static void expect_step(uint64_t offset, uint64_t length, uint64_t at, uint64_t 
 static void walk(void)
 {
     begin(START);
-    expected.reply.start.at = 12;
+    expected.reply.start.at = FIRST;
     expected.reply.start.left = 2;
     succeed("the example");
     begin(STEP);
-    expect_step(74, 1, 76, 1);
+    expect_step(FIRST + FIXED, 1, kind->second, 1);
     expected.fields.mode = NERUPAZHIL_MODE_REGULAR;
     expect_object(0, 0x11);
     succeed("entry 0");
     begin(STEP);
-    given.at = 76;
+    given.at = kind->second;
     given.left = 1;
-    expect_step(138, 3, 148, 0);
+    expect_step(kind->second + FIXED, 3, kind->end, 0);
     expected.fields.mode = NERUPAZHIL_MODE_EXECUTABLE;
     expect_object(0, 0x22);
     succeed("entry 1");
     begin(STEP);
     give_file(&added);
-    given.at = 76;
-    expect_step(140, 1, 148, 1);
+    given.at = kind->second;
+    expect_step(kind->second + FIXED + 2, 1, kind->end, 1);
     expected.fields = full;
     expect_object(0, 0x33);
     succeed("all fields");
@@ -685,7 +715,7 @@ static void walk(void)
 static void walk_past_the_end(void)
 {
     begin(STEP);
-    given.at = 148;
+    given.at = kind->end;
     given.left = 0;
     refuse("none left", NERUPAZHIL_NOT_THERE, 0);
     begin(STEP);
@@ -734,11 +764,11 @@ static void write_changed(void)
     write_file("what was put", &example);
 }
 
-/* The last 12 bytes of an object name are not read. */
+/* The bytes after an object name, 12 or none, are not read. */
 static void write_other_object_bytes(void)
 {
     begin(PUT);
-    memset(given.object + NERUPAZHIL_DIGEST, 0xee, NERUPAZHIL_OBJECT - NERUPAZHIL_DIGEST);
+    memset(given.object + kind->width, 0xee, NERUPAZHIL_OBJECT - kind->width);
     write_file("other bytes after the object name", &changed);
 }
 
@@ -780,7 +810,7 @@ static void put_wrong_fields(void)
 
 static void write_wrong_output(void)
 {
-    const size_t needed[] = {example.length, changed.length, example.length - 64};
+    const size_t needed[] = {example.length, changed.length, example.length - (kind->second - FIRST)};
 
     for (int call = REWRITE; call <= REMOVE; call++) {
         begin(call);
@@ -792,19 +822,24 @@ static void write_wrong_output(void)
     }
 }
 
-/* ---- the hash */
+/* ---- the hashes */
+
+/* The digests of no bytes. */
+static const uint8_t sha1_of_nothing[NERUPAZHIL_DIGEST] = {0xda, 0x39, 0xa3, 0xee, 0x5e, 0x6b, 0x4b, 0x0d, 0x32, 0x55,
+                                                           0xbf, 0xef, 0x95, 0x60, 0x18, 0x90, 0xaf, 0xd8, 0x07, 0x09};
+static const uint8_t sha256_of_nothing[NERUPAZHIL_DIGEST_SHA256] = {
+    0xe3, 0xb0, 0xc4, 0x42, 0x98, 0xfc, 0x1c, 0x14, 0x9a, 0xfb, 0xf4, 0xc8, 0x99, 0x6f, 0xb9, 0x24,
+    0x27, 0xae, 0x41, 0xe4, 0x64, 0x9b, 0x93, 0x4c, 0xa4, 0x95, 0x99, 0x1b, 0x78, 0x52, 0xb8, 0x55};
 
 static void hash(void)
 {
-    uint8_t digest[NERUPAZHIL_DIGEST + SPARE], marks[NERUPAZHIL_DIGEST + SPARE];
-    const uint8_t empty[NERUPAZHIL_DIGEST] = {0xda, 0x39, 0xa3, 0xee, 0x5e, 0x6b, 0x4b, 0x0d, 0x32, 0x55,
-                                              0xbf, 0xef, 0x95, 0x60, 0x18, 0x90, 0xaf, 0xd8, 0x07, 0x09};
+    uint8_t digest[NERUPAZHIL_OBJECT + SPARE], marks[NERUPAZHIL_OBJECT + SPARE];
 
     memset(digest, MARK, sizeof digest);
     memset(marks, MARK, sizeof marks);
-    memcpy(marks, empty, sizeof empty);
-    nerupazhil_sha1(NULL, 0, digest);
-    test("sha1", "nothing", memcmp(digest, marks, sizeof digest) == 0);
+    memcpy(marks, kind == kinds ? sha1_of_nothing : sha256_of_nothing, kind->width);
+    kind->hash(NULL, 0, digest);
+    test("the hash", "nothing", memcmp(digest, marks, sizeof digest) == 0);
 }
 
 /* ---- sentences */
@@ -827,11 +862,12 @@ static void sentences(void)
     }
 }
 
-int main(void)
+static void test_kind(void)
 {
     lay_files();
     empty_slices();
-    kinds();
+    unknown_kinds();
+    exchanged_kinds();
     refused_files();
     read_checked();
     read_entries();
@@ -848,6 +884,12 @@ int main(void)
     write_wrong_output();
     hash();
     sentences();
+}
+
+int main(void)
+{
+    for (kind = kinds; kind < kinds + sizeof kinds / sizeof kinds[0]; kind++)
+        test_kind();
     printf("%d passed, %d failed\n", passed, failed);
     return failed == 0 && passed > 0 ? 0 : 1;
 }

@@ -6,7 +6,7 @@
 
 The form is that of Rust: a function is its result and a list of (parameter, type), and a slice of Rattle is two
 parameters. A struct of C is the array of its numbers. A pointer to bytes of C that no length follows is an array: of
-NERUPAZHIL_DIGEST bytes if it is called out, else of NERUPAZHIL_OBJECT.
+a digest's bytes in a hash function, else of NERUPAZHIL_OBJECT.
 """
 
 import glob
@@ -15,7 +15,11 @@ import re
 from typing import NamedTuple
 
 ROOT = os.path.join(os.path.dirname(os.path.abspath(__file__)), "..")
-SOURCES = {"Rattle": "crates/nerupazhil/src/*.rt", "Rust": "rust/src/raw.rs", "C": "c/include/nerupazhil.h"}
+SOURCES = {
+    "Rattle": ("crates/nerupazhil/src/*.rt", "crates/kinds/src/lib.rt"),
+    "Rust": ("rust/src/raw.rs",),
+    "C": ("c/include/nerupazhil.h",),
+}
 
 CALL = r"(?P<name>nerupazhil_\w+)\((?P<rows>[^)]*)\)"
 FUNCTION = {
@@ -24,15 +28,16 @@ FUNCTION = {
     "C": rf"\n(?P<result>\w[\w ]*?) {CALL};",
 }
 CONSTANT = {
-    "Rattle": r"\nconst (\w+): \w+ = (\d+);",
+    "Rattle": r"\n(?:pub )?const (\w+): \w+ = (\d+);",
     "Rust": r"\npub const (\w+): \w+ = (\d+);",
     "C": r"\n#define NERUPAZHIL_(\w+) (\d+)u\b",
 }
 SHARED = {  # the constants of each that are compared
-    "Rattle": ("SHA1",),
-    "Rust": ("SHA1", "DIGEST", "OBJECT", "WORKSPACE"),
-    "C": ("SHA1", "DIGEST", "OBJECT", "WORKSPACE"),
+    "Rattle": ("SHA1", "SHA256"),
+    "Rust": ("SHA1", "SHA256", "DIGEST", "DIGEST_SHA256", "OBJECT", "WORKSPACE"),
+    "C": ("SHA1", "SHA256", "DIGEST", "DIGEST_SHA256", "OBJECT", "WORKSPACE"),
 }
+DIGESTS = {"nerupazhil_sha1": "DIGEST", "nerupazhil_sha256": "DIGEST_SHA256"}  # the length of what each writes
 STRUCT = r"\nstruct nerupazhil_(\w+) \{(.*?)\n\};"
 TYPES = {"uint64_t": "u64", "uint32_t": "u32", "uint8_t": "u8", "size_t": "usize", "void": "()"}
 LENGTHS = {"bytes": "length"}  # the length of a slice is called NAME_length, but for this one
@@ -45,9 +50,9 @@ class Declared(NamedTuple):
 
 def texts() -> dict:
     result = {}
-    for language, pattern in SOURCES.items():
+    for language, patterns in SOURCES.items():
         result[language] = ""
-        for path in sorted(glob.glob(os.path.join(ROOT, pattern))):
+        for path in sorted(path for pattern in patterns for path in glob.glob(os.path.join(ROOT, pattern))):
             with open(path, encoding="utf-8") as stream:
                 result[language] += stream.read()
     return result
@@ -60,7 +65,7 @@ def read(language: str, text: str) -> Declared:
     structs = structs_of(text)
     functions = {}
     for one in re.finditer(FUNCTION[language], text):
-        rows = PARAMETERS[language](split(one["rows"]), constants, structs)
+        rows = PARAMETERS[language](one, constants, structs)
         functions[one["name"]] = (TYPES.get(one["result"] or "void", one["result"]), rows)
     return Declared(constants, functions)
 
@@ -86,9 +91,9 @@ def differences(left: Declared, right: Declared):
 # ---- Rattle and Rust
 
 
-def rattle_parameters(rows: list, _constants: dict, _structs: dict) -> list:
+def rattle_parameters(function: re.Match, _constants: dict, _structs: dict) -> list:
     result = []
-    for row in rows:
+    for row in split(function["rows"]):
         name, kind = row.split(": ", 1)
         kind = re.sub(r"^&(?=\[)", "*const ", re.sub(r"^&mut (?=\[)", "*mut ", kind))
         part = re.fullmatch(r"(\*\w+ )\[(\w+)\]", kind)
@@ -99,9 +104,9 @@ def rattle_parameters(rows: list, _constants: dict, _structs: dict) -> list:
     return result
 
 
-def rust_parameters(rows: list, constants: dict, _structs: dict) -> list:
-    split_rows = (row.split(": ", 1) for row in rows)
-    return [(name, re.sub(r"\b[A-Z]+\b", lambda one: str(constants.get(one[0])), kind)) for name, kind in split_rows]
+def rust_parameters(function: re.Match, constants: dict, _structs: dict) -> list:
+    rows = (row.split(": ", 1) for row in split(function["rows"]))
+    return [(name, re.sub(r"\b[A-Z]\w+\b", lambda one: str(constants.get(one[0])), kind)) for name, kind in rows]
 
 
 # ---- C
@@ -136,8 +141,8 @@ def array(numbers: list) -> str:
     return f"[{kinds[0]}; {len(kinds)}]" if len(set(kinds)) == 1 else str(kinds)
 
 
-def c_parameters(rows: list, constants: dict, structs: dict) -> list:
-    result = []
+def c_parameters(function: re.Match, constants: dict, structs: dict) -> list:
+    result, rows = [], split(function["rows"])
     for row, following in zip(rows, rows[1:] + [""]):
         kind, name = re.fullmatch(r"(.*\W)(\w+)", row).groups()
         pointer = re.fullmatch(r"(const )?(uint8_t|struct nerupazhil_(\w+)) \*", kind)
@@ -149,7 +154,7 @@ def c_parameters(rows: list, constants: dict, structs: dict) -> list:
         elif following == f"size_t {LENGTHS.get(name, f'{name}_length')}":
             target = "u8"
         else:
-            target = f"[u8; {constants['DIGEST' if name == 'out' else 'OBJECT']}]"
+            target = f"[u8; {constants[DIGESTS.get(function['name'], 'OBJECT')]}]"
         result.append((name, f"*{'const' if pointer[1] else 'mut'} {target}"))
     return result
 

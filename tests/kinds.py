@@ -19,7 +19,7 @@ SHA256 = Kind(2, "sha256", 32, hashlib.sha256)
 ALL = (SHA1, SHA256)
 
 # The kinds that the proved library takes. Of the others the independent library is asked alone.
-PROVED = (SHA1,)
+PROVED = ALL
 
 
 def by_number(text: str) -> Kind:

@@ -84,7 +84,7 @@ def header(report: Report, _folder: str, _session: Session) -> None:
             built(report, name, lambda: build_c.build_object("header.o", source, standard))
     texts = declarations.texts()
     declared = {language: declarations.read(language, text) for language, text in texts.items()}
-    same = report.same("the number of functions", 10, len(declared["Rattle"].functions))
+    same = report.same("the number of functions", 11, len(declared["Rattle"].functions))
     for left, right in (("Rattle", "Rust"), ("Rattle", "C"), ("Rust", "C")):
         for name, one, other in declarations.differences(declared[left], declared[right]):
             same &= report.same(f"{name} in {left} and {right}", one, other)

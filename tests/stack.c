@@ -129,6 +129,12 @@ static void sha1(void)
     reply.numbers[0] = 0;
 }
 
+static void sha256(void)
+{
+    nerupazhil_sha256(file, file_length, object[0]);
+    reply.numbers[0] = 0;
+}
+
 static const struct call {
     const char *name;
     void (*make)(void);
@@ -146,6 +152,7 @@ static const struct call {
     {"walk_start", walk_start},
     {"walk_next", walk_next},
     {"sha1", sha1},
+    {"sha256", sha256},
 };
 
 /* ---- the request for a file */

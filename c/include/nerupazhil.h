@@ -7,7 +7,10 @@
  * array of numbers; its size and the place of each member are asserted. Bindings from Swift, Kotlin or Dart can lend
  * plain arrays: of uint64_t for a reply, of uint32_t for the fields of an entry, of uint8_t for bytes.
  *
- * Kind. Which function gives the object names of a repository: NERUPAZHIL_SHA1. Any other number is refused with 29.
+ * Kind. The hash function that gives the object names of a repository, and the checksum of its index: NERUPAZHIL_SHA1
+ * or NERUPAZHIL_SHA256. A digest has 20 bytes or 32; all else holds for both. The index does not say of which kind it
+ * is, but its repository does (`git rev-parse --show-object-format`): a caller has to know, and passes the same number
+ * with a file in every call. Any other number is refused with 29.
  *
  * Slices. A buffer is a pointer and its number of bytes. NULL with length 0 is an empty slice.
  *   file    the whole index, as its bytes are on the disk
@@ -15,13 +18,13 @@
  *   out     where a call that writes puts the new index; NERUPAZHIL_FILE bytes are always enough
  *   name    the name of an entry, 1 to NERUPAZHIL_NAME bytes, no NUL at its end
  *
- * Replies. Each call but nerupazhil_sha1 writes all of its `reply`, whatever was there. `refusal` is 0 of a success;
+ * Replies. Each call but the hashes writes all of its `reply`, whatever was there. `refusal` is 0 of a success;
  * else it is a number of enum nerupazhil_refusal and `place` says where: the first byte of the entry, extension or
  * checksum in the file, or 0. All members that do not apply are 0; on a refusal that is all but these two, `fields` and
  * object names included. A member that says yes or no is 1 or 0.
  *
- * Object names. NERUPAZHIL_OBJECT bytes are lent for each. A SHA-1 name is the first 20 of them, and the last 12 are
- * zero; in a record that is given to nerupazhil_put these 12 are not read.
+ * Object names. NERUPAZHIL_OBJECT bytes are lent for each. A SHA-256 name is all of them. A SHA-1 name is the first 20,
+ * and the last 12 are zero; in a record that is given to nerupazhil_put these 12 are not read.
  *
  * Workspace. On refusal 19 nothing is written. On every other answer the first NERUPAZHIL_WORKSPACE bytes are zero,
  * but for the name of an entry of version 4, which nerupazhil_entry leaves at the start, with zeros after it. Bytes
@@ -29,8 +32,8 @@
  *
  * Output. A refusal leaves it as it was. A success fills the first `length` bytes, and no more.
  *
- * Cost. Each call but nerupazhil_walk_next and nerupazhil_sha1 checks the whole file first, so reading all entries by
- * their numbers takes a check for each; a step of a walk reads one entry. Nothing is allocated.
+ * Cost. Each call but nerupazhil_walk_next and the hashes checks the whole file first, so reading all entries by their
+ * numbers takes a check for each; a step of a walk reads one entry. Nothing is allocated.
  *
  * Threads. There is no global state: calls may run at the same time as long as they write to different buffers.
  *
@@ -44,9 +47,9 @@
  *     and one with 32 KiB on those whose cache tree has at most 16 levels, the root included (Linux on x86-64, and on
  *     AArch64 under an emulator; a thread's start takes 4 to 6 KiB of these)
  *
- * What can be added without a change of a prototype or a struct: another kind; another version that may be asked for,
- * and a wish beside it as a bit of the same number (every number above 4 is refused with 4); what check tells more, in
- * the last numbers of its reply, which are 0. So ask for the lowest version by its name, not by its number.
+ * What can be added without a change of a prototype or a struct: another version that may be asked for, and a wish
+ * beside it as a bit of the same number (every number above 4 is refused with 4); what check tells more, in the last
+ * numbers of its reply, which are 0. So ask for the lowest version by its name, not by its number.
  */
 #ifndef NERUPAZHIL_H
 #define NERUPAZHIL_H
@@ -60,14 +63,16 @@ extern "C" {
 
 /* ---- numbers */
 
-#define NERUPAZHIL_WORKSPACE 8192u /* least length of a workspace */
-#define NERUPAZHIL_FILE 16777216u  /* greatest length of an index */
-#define NERUPAZHIL_NAME 8192u      /* greatest length of an entry's name */
-#define NERUPAZHIL_DIGEST 20u      /* length of a SHA-1 digest, and of an object name that is one */
-#define NERUPAZHIL_OBJECT 32u      /* bytes that are lent for an object name */
+#define NERUPAZHIL_WORKSPACE 8192u   /* least length of a workspace */
+#define NERUPAZHIL_FILE 16777216u    /* greatest length of an index */
+#define NERUPAZHIL_NAME 8192u        /* greatest length of an entry's name */
+#define NERUPAZHIL_DIGEST 20u        /* length of a SHA-1 digest, and of an object name that is one */
+#define NERUPAZHIL_DIGEST_SHA256 32u /* length of a SHA-256 digest, and of an object name that is one */
+#define NERUPAZHIL_OBJECT 32u        /* bytes that are lent for an object name of either kind */
 
 /* The kinds of object names. */
 #define NERUPAZHIL_SHA1 1u
+#define NERUPAZHIL_SHA256 2u
 
 /* The versions that may be asked for. */
 #define NERUPAZHIL_VERSION_LOWEST 0u /* 2 if no entry needs the extended word, else 3 */
@@ -342,10 +347,13 @@ void nerupazhil_remove(uint32_t kind, const uint8_t *file, size_t file_length, u
                        uint8_t *out, size_t out_length, uint32_t asked, const uint8_t *name, size_t name_length,
                        uint32_t stage, struct nerupazhil_write_reply *reply);
 
-/* ---- the hash */
+/* ---- the hashes: the digest of bytes, of any number; they refuse nothing */
 
-/* Writes the SHA-1 digest of the bytes, of any number, to the NERUPAZHIL_DIGEST bytes at `out`. It refuses nothing. */
+/* Writes the SHA-1 digest to the NERUPAZHIL_DIGEST bytes at `out`. */
 void nerupazhil_sha1(const uint8_t *bytes, size_t length, uint8_t *out);
+
+/* Writes the SHA-256 digest to the NERUPAZHIL_DIGEST_SHA256 bytes at `out`. */
+void nerupazhil_sha256(const uint8_t *bytes, size_t length, uint8_t *out);
 
 /* ---- helpers, which are C and not proved */
 
@@ -366,7 +374,7 @@ static inline const char *nerupazhil_refusal_text(uint64_t refusal)
 {
     static const char *const text[] = {
         "done: nothing was refused",
-        "the file is shorter than 32 bytes, the length of an empty index",
+        "the file is shorter than an empty index: 32 bytes with SHA-1 names, 44 with SHA-256",
         "the file, or the one that would be written, is longer than 16777216 bytes",
         "the file does not begin with DIRC, as an index does",
         "the version of the file, or the one asked for, is not one that this call takes",

@@ -212,10 +212,16 @@ pub struct Hash {
 }
 
 /// The hash functions that the library exports.
-pub const HASHES: &[Hash] = &[Hash {
-    kind: Kind::Sha1,
-    call: |bytes, length, out| unsafe { raw::nerupazhil_sha1(bytes, length, out.cast()) },
-}];
+pub const HASHES: &[Hash] = &[
+    Hash {
+        kind: Kind::Sha1,
+        call: |bytes, length, out| unsafe { raw::nerupazhil_sha1(bytes, length, out.cast()) },
+    },
+    Hash {
+        kind: Kind::Sha256,
+        call: |bytes, length, out| unsafe { raw::nerupazhil_sha256(bytes, length, out.cast()) },
+    },
+];
 
 impl Hash {
     /// The exported hash function of a kind, where there is one.

@@ -9,7 +9,7 @@ pub const OBJECT: usize = 32;
 pub type Object = [u8; OBJECT];
 
 /// The kinds that the proved library takes: these are drawn, compared and measured. The independent library takes all.
-pub const KINDS: &[Kind] = &[Kind::Sha1];
+pub const KINDS: &[Kind] = &Kind::ALL;
 
 /// Numbers that no kind has.
 const UNKNOWN: [u32; 5] = [0, 3, 20, 0x0100_0000, u32::MAX];

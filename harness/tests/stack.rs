@@ -7,7 +7,7 @@ use harness::hostile::{self, Case};
 use harness::kind::{Kind, Object, KINDS};
 use harness::replies::{Fields, WORKSPACE};
 use harness::{ffi, index_file};
-use nerupazhil::{Index, Refusal, Version};
+use nerupazhil::{Index, ObjectName, Refusal, Version};
 use std::thread;
 
 /// KiB of a thread that runs every call on every file.
@@ -68,13 +68,14 @@ fn calls(file: &[u8], request: &Request, work: &mut [u8], out: &mut [u8]) -> [u3
     refusals
 }
 
-/// The refusals of Index, which takes SHA-1 names: of the file, or of a rewrite, a put and a removal in version 4.
-fn of_index(file: &[u8], first: &[u8]) -> Vec<u32> {
+/// The refusals of Index: of the file, or of a rewrite, a put and a removal in version 4.
+fn of_index(kind: nerupazhil::Kind, file: &[u8], first: &[u8]) -> Vec<u32> {
     let fields = nerupazhil::Fields {
         mode: 0o100644,
+        object: ObjectName::zero(kind),
         ..nerupazhil::Fields::default()
     };
-    let index = match Index::read(file) {
+    let index = match Index::read_kind(kind, file) {
         Ok(index) => index,
         Err(refusal) => return vec![refusal.number()],
     };
@@ -107,14 +108,15 @@ fn run(kib: usize, kind: Kind, case: Case) {
     let request = Request::of(kind, &file, &mut work);
     let refusals = in_thread(kib, || calls(&file, &request, &mut work, &mut out));
     assert_eq!(refusals[0], case.refusal, "{name}");
-    if kind != Kind::Sha1 {
-        return;
-    }
     let expected = match case.refusal {
         0 => &refusals[9..],
         _ => &refusals[..1],
     };
-    let shown = in_thread(kib + MORE, || of_index(&file, &request.first));
+    let kind = match kind {
+        Kind::Sha1 => nerupazhil::Kind::Sha1,
+        Kind::Sha256 => nerupazhil::Kind::Sha256,
+    };
+    let shown = in_thread(kib + MORE, || of_index(kind, &file, &request.first));
     assert_eq!(shown, expected, "{name}");
 }
 

@@ -76,11 +76,12 @@ fn print_one_by_one(index: &Index<'_>, out: &mut impl Write) -> Result<(), Failu
 
 /// Mode, object name, stage, tab, name.
 fn print_entry(entry: &Entry<'_>, out: &mut impl Write) -> io::Result<()> {
-    write!(out, "{:06o} ", entry.fields.mode)?;
-    for byte in entry.fields.object {
-        write!(out, "{byte:02x}")?;
-    }
-    write!(out, " {}\t", entry.fields.stage)?;
+    let fields = &entry.fields;
+    write!(
+        out,
+        "{:06o} {} {}\t",
+        fields.mode, fields.object, fields.stage
+    )?;
     for &byte in entry.name {
         print_byte(byte, out)?;
     }

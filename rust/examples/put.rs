@@ -17,7 +17,7 @@ use std::os::unix::ffi::OsStrExt;
 use std::path::Path;
 use std::process::ExitCode;
 
-use nerupazhil::{Fields, Index, ObjectName};
+use nerupazhil::{Fields, Index, ObjectName, DIGEST};
 use save::SaveError;
 
 fn main() -> ExitCode {
@@ -81,7 +81,7 @@ fn parse_number(text: &OsStr, base: u32) -> Option<u32> {
 }
 
 fn parse_object(text: &OsStr) -> Option<ObjectName> {
-    let mut object = ObjectName::default();
+    let mut object = [0; DIGEST];
     let digits = text.as_bytes();
     if digits.len() != 2 * object.len() {
         return None;
@@ -89,7 +89,7 @@ fn parse_object(text: &OsStr) -> Option<ObjectName> {
     for (byte, pair) in object.iter_mut().zip(digits.chunks(2)) {
         *byte = hex_digit(pair[0])? * 16 + hex_digit(pair[1])?;
     }
-    Some(object)
+    Some(object.into())
 }
 
 fn hex_digit(digit: u8) -> Option<u8> {

@@ -5,8 +5,8 @@ use std::fmt;
 
 use crate::raw::Fields;
 use crate::{
-    check, entry, put, remove, rewrite, tree_node, undo_record, Entry, Reason, Refusal, Summary,
-    TreeNode, UndoRecord, Version, Walk, MAX_FILE, WORKSPACE,
+    check, entry, put, remove, rewrite, tree_node, undo_record, Entry, Kind, Reason, Refusal,
+    Summary, TreeNode, UndoRecord, Version, Walk, MAX_FILE, WORKSPACE,
 };
 
 /// A file that was checked. It allocates what the calls need, and borrows the file.
@@ -22,6 +22,7 @@ use crate::{
 /// ```
 #[derive(Clone)]
 pub struct Index<'a> {
+    kind: Kind,
     file: &'a [u8],
     summary: Summary,
     /// The same entries in version 2 or 3, over which a walk can go, or why there is no such file.
@@ -29,7 +30,8 @@ pub struct Index<'a> {
 }
 
 impl<'a> Index<'a> {
-    /// Checks a file. One of version 4 is also rewritten in version 2 or 3, for [`entries`](Self::entries).
+    /// Checks a file with SHA-1 names. One of version 4 is also rewritten in version 2 or 3, for
+    /// [`entries`](Self::entries).
     ///
     /// ```
     /// use nerupazhil::{Index, Reason};
@@ -38,16 +40,45 @@ impl<'a> Index<'a> {
     /// assert_eq!(refusal.reason(), Reason::Signature);
     /// ```
     pub fn read(file: &'a [u8]) -> Result<Self, Refusal> {
-        let summary = check(file, &mut [0; WORKSPACE])?;
+        Self::read_kind(Kind::Sha1, file)
+    }
+
+    /// Checks a file with object names of a kind, as [`read`](Self::read) does for SHA-1.
+    ///
+    /// ```
+    /// use nerupazhil::{mode, Fields, Index, Kind, Reason, EMPTY_SHA256};
+    ///
+    /// let index = Index::read_kind(Kind::Sha256, &EMPTY_SHA256)?;
+    /// let fields = Fields { mode: mode::REGULAR, object: [0x11; 32].into(), ..Fields::default() };
+    /// let file = index.with(b"saw/cut.txt", &fields, index.summary().version_kept())?;
+    ///
+    /// let index = Index::read_kind(Kind::Sha256, &file)?;
+    /// assert_eq!(index.entries()?.next().unwrap().fields.object, [0x11; 32].into());
+    ///
+    /// // It is no index with SHA-1 names, nor does it take one.
+    /// assert_eq!(Index::read(&file).unwrap_err().reason(), Reason::Checksum);
+    /// let fields = Fields { object: [0x11; 20].into(), ..fields };
+    /// let refusal = index.with(b"plan", &fields, index.summary().version_kept()).unwrap_err();
+    /// assert_eq!(refusal.reason(), Reason::Kind);
+    /// # Ok::<(), nerupazhil::Refusal>(())
+    /// ```
+    pub fn read_kind(kind: Kind, file: &'a [u8]) -> Result<Self, Refusal> {
+        let summary = check(kind, file, &mut [0; WORKSPACE])?;
         let plain = match summary.version {
-            4 => rewritten(file, Version::Lowest).map(Cow::Owned),
+            4 => rewritten(kind, file, Version::Lowest).map(Cow::Owned),
             _ => Ok(Cow::Borrowed(file)),
         };
         Ok(Self {
+            kind,
             file,
             summary,
             plain,
         })
+    }
+
+    /// The kind of its object names.
+    pub fn kind(&self) -> Kind {
+        self.kind
     }
 
     /// The file.
@@ -76,7 +107,7 @@ impl<'a> Index<'a> {
     /// ```
     pub fn entries(&self) -> Result<Walk<'_>, Refusal> {
         match &self.plain {
-            Ok(plain) => Ok(Walk::over(plain, self.summary.entries)),
+            Ok(plain) => Ok(Walk::over(self.kind, plain, self.summary.entries)),
             Err(refusal) => Err(*refusal),
         }
     }
@@ -92,7 +123,7 @@ impl<'a> Index<'a> {
     /// # Ok::<(), nerupazhil::Refusal>(())
     /// ```
     pub fn entry<'b>(&'b self, work: &'b mut [u8], k: u32) -> Result<Entry<'b>, Refusal> {
-        entry(self.file, work, k)
+        entry(self.kind, self.file, work, k)
     }
 
     /// Node `k` of the cache tree, from 0. This reads and checks the whole file, so that there is no iterator of them:
@@ -109,7 +140,7 @@ impl<'a> Index<'a> {
     /// # Ok::<(), nerupazhil::Refusal>(())
     /// ```
     pub fn tree_node(&self, k: u32) -> Result<TreeNode<'a>, Refusal> {
-        tree_node(self.file, &mut [0; WORKSPACE], k)
+        tree_node(self.kind, self.file, &mut [0; WORKSPACE], k)
     }
 
     /// Resolve-undo record `k`, from 0. This reads and checks the whole file.
@@ -125,7 +156,7 @@ impl<'a> Index<'a> {
     /// # Ok::<(), nerupazhil::Refusal>(())
     /// ```
     pub fn undo_record(&self, k: u32) -> Result<UndoRecord<'a>, Refusal> {
-        undo_record(self.file, &mut [0; WORKSPACE], k)
+        undo_record(self.kind, self.file, &mut [0; WORKSPACE], k)
     }
 
     /// A new file with the same records, in a version.
@@ -138,7 +169,7 @@ impl<'a> Index<'a> {
     /// # Ok::<(), nerupazhil::Refusal>(())
     /// ```
     pub fn rewritten(&self, version: Version) -> Result<Vec<u8>, Refusal> {
-        rewritten(self.file, version)
+        rewritten(self.kind, self.file, version)
     }
 
     /// A new file with one entry more, or with another one of its name and stage: see [`put`].
@@ -147,7 +178,7 @@ impl<'a> Index<'a> {
     /// use nerupazhil::{mode, Fields, Index, EMPTY};
     ///
     /// let index = Index::read(&EMPTY)?;
-    /// let fields = Fields { mode: mode::REGULAR, object: [0x11; 20], ..Fields::default() };
+    /// let fields = Fields { mode: mode::REGULAR, object: [0x11; 20].into(), ..Fields::default() };
     /// let file = index.with(b"saw/cut.txt", &fields, index.summary().version_kept())?;
     /// assert_eq!(Index::read(&file)?.summary().entries, 1);
     /// # Ok::<(), nerupazhil::Refusal>(())
@@ -155,7 +186,7 @@ impl<'a> Index<'a> {
     pub fn with(&self, name: &[u8], fields: &Fields, version: Version) -> Result<Vec<u8>, Refusal> {
         let start = usual(self.file.len() + name.len());
         growing(start, |work, out| {
-            put(self.file, work, out, version, name, fields).map(|file| file.len())
+            put(self.kind, self.file, work, out, version, name, fields).map(|file| file.len())
         })
     }
 
@@ -172,7 +203,7 @@ impl<'a> Index<'a> {
     /// ```
     pub fn without(&self, name: &[u8], stage: u32, version: Version) -> Result<Vec<u8>, Refusal> {
         growing(usual(self.file.len()), |work, out| {
-            remove(self.file, work, out, version, name, stage).map(|file| file.len())
+            remove(self.kind, self.file, work, out, version, name, stage).map(|file| file.len())
         })
     }
 }
@@ -180,14 +211,15 @@ impl<'a> Index<'a> {
 impl fmt::Debug for Index<'_> {
     fn fmt(&self, f: &mut fmt::Formatter<'_>) -> fmt::Result {
         f.debug_struct("Index")
+            .field("kind", &self.kind)
             .field("summary", &self.summary)
             .finish_non_exhaustive()
     }
 }
 
-fn rewritten(file: &[u8], version: Version) -> Result<Vec<u8>, Refusal> {
+fn rewritten(kind: Kind, file: &[u8], version: Version) -> Result<Vec<u8>, Refusal> {
     growing(usual(file.len()), |work, out| {
-        rewrite(file, work, out, version).map(|file| file.len())
+        rewrite(kind, file, work, out, version).map(|file| file.len())
     })
 }
 

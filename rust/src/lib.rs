@@ -2,7 +2,7 @@
 //!
 //! An index names every file of the next commit, so a damaged one that still opens as a shorter list records the
 //! missing files as deleted. Here each call first checks the whole file, and answers what is in it or refuses it
-//! with a number and a place. Versions 2, 3 and 4 with SHA-1 names are taken, up to 16 MiB.
+//! with a number and a place. Versions 2, 3 and 4 with SHA-1 or SHA-256 names are taken, up to 16 MiB.
 //!
 //! # A tour
 //!
@@ -27,7 +27,7 @@
 //!     println!("{:o} {}", entry.fields.mode, String::from_utf8_lossy(entry.name));
 //! }
 //!
-//! let fields = Fields { mode: mode::REGULAR, object: [0x11; 20], ..Fields::default() };
+//! let fields = Fields { mode: mode::REGULAR, object: [0x11; 20].into(), ..Fields::default() };
 //! let new = index.with(b"saw/cut.txt", &fields, index.summary().version_kept())?;
 //!
 //! // Never over the index itself: a device that dies then would have neither.
@@ -43,6 +43,23 @@
 //! A save has to see to more: to failures on the way, permission bits, links, and the folder on the disk.
 //! `examples/save` does, for programs to copy; `examples/put.rs` is one that uses it, `examples/list.rs` one that lists
 //! an index.
+//!
+//! # Kinds
+//!
+//! A [`Kind`] is the hash function that gives the object names of a repository. [`Index::read`] takes a file with SHA-1
+//! names, [`Index::read_kind`] one of either kind; the calls below take the kind first, as those of C do. An
+//! [`ObjectName`] knows its kind, and one of another kind than the file's is refused:
+//!
+//! ```
+//! use nerupazhil::{Index, Kind, EMPTY_SHA256};
+//!
+//! # let file = EMPTY_SHA256;
+//! let index = Index::read_kind(Kind::Sha256, &file)?;
+//! for entry in index.entries()? {
+//!     println!("{} {}", entry.fields.object, String::from_utf8_lossy(entry.name));
+//! }
+//! # Ok::<(), nerupazhil::Refusal>(())
+//! ```
 //!
 //! # Buffers
 //!
@@ -81,6 +98,7 @@ pub mod raw;
 
 mod index;
 mod numbers;
+mod objects;
 mod read;
 mod records;
 mod refusal;
@@ -88,9 +106,10 @@ mod walk;
 mod write;
 
 pub use index::Index;
-pub use raw::{Fields, Stage, DIGEST, WORKSPACE};
+pub use objects::{Kind, ObjectName, WrongLength};
+pub use raw::{Fields, Stage, DIGEST, DIGEST_SHA256, WORKSPACE};
 pub use read::{check, entry, tree_node, undo_record};
-pub use records::{mode, Entry, ObjectName, Summary, Tree, TreeNode, UndoRecord, Version};
+pub use records::{mode, Entry, Summary, Tree, TreeNode, UndoRecord, Version};
 pub use refusal::{Reason, Refusal};
 pub use walk::{walk, Walk};
 pub use write::{put, remove, rewrite};
@@ -98,7 +117,7 @@ pub use write::{put, remove, rewrite};
 /// The most bytes that a file may have.
 pub const MAX_FILE: usize = 16_777_216;
 
-/// The index without entries, of version 2: a new one begins with it.
+/// The index without entries, of version 2 and with SHA-1 names: a new one begins with it.
 ///
 /// ```
 /// use nerupazhil::{sha1, EMPTY};
@@ -108,14 +127,35 @@ pub const MAX_FILE: usize = 16_777_216;
 pub const EMPTY: [u8; 32] = *b"DIRC\0\0\0\x02\0\0\0\0\
     \x39\xd8\x90\x13\x9e\xe5\x35\x6c\x7e\xf5\x72\x21\x6c\xeb\xcd\x27\xaa\x41\xf9\xdf";
 
-/// The SHA-1 of bytes, by which Git names objects.
+/// The index without entries, of version 2 and with SHA-256 names: a new one begins with it.
+///
+/// ```
+/// use nerupazhil::{sha256, EMPTY_SHA256};
+///
+/// assert_eq!(EMPTY_SHA256[12..], sha256(&EMPTY_SHA256[..12]));
+/// ```
+pub const EMPTY_SHA256: [u8; 44] = *b"DIRC\0\0\0\x02\0\0\0\0\
+    \xc9\xba\xea\xdf\x90\x51\x12\xbf\x6c\x17\xae\xfb\xd7\xd0\x22\x67\
+    \xaf\xd7\x0d\xed\x61\x3c\x30\xca\xfe\xd2\xd4\x0c\xb5\x06\xe1\xed";
+
+/// The SHA-1 digest of bytes. [`Kind::hash`] answers it as an object name.
 ///
 /// ```
 /// use nerupazhil::sha1;
 ///
-/// // The name of the empty file's object.
-/// assert_eq!(sha1(b"blob 0\0")[..4], [0xe6, 0x9d, 0xe2, 0x9b]);
+/// assert_eq!(sha1(b"abc")[..4], [0xa9, 0x99, 0x3e, 0x36]);
 /// ```
-pub fn sha1(bytes: &[u8]) -> ObjectName {
+pub fn sha1(bytes: &[u8]) -> [u8; DIGEST] {
     calls::sha1(bytes)
+}
+
+/// The SHA-256 digest of bytes. [`Kind::hash`] answers it as an object name.
+///
+/// ```
+/// use nerupazhil::sha256;
+///
+/// assert_eq!(sha256(b"abc")[..4], [0xba, 0x78, 0x16, 0xbf]);
+/// ```
+pub fn sha256(bytes: &[u8]) -> [u8; DIGEST_SHA256] {
+    calls::sha256(bytes)
 }

@@ -4,8 +4,9 @@
 
 use crate::raw::{
     CheckReply, EntryReply, Fields, Name, NodeReply, Stage, StartReply, StepReply, UndoReply,
-    WriteReply, DIGEST, OBJECT,
+    WriteReply, OBJECT,
 };
+use crate::{Kind, ObjectName};
 
 #[cfg(not(target_pointer_width = "64"))]
 compile_error!(
@@ -30,24 +31,6 @@ fn narrow(number: u64) -> u32 {
 #[inline]
 fn yes(number: u64) -> bool {
     number != 0
-}
-
-// ---- object names
-
-/// The object name in the bytes that are lent for one. The others are zero.
-#[inline]
-fn object_name(lent: [u8; OBJECT]) -> [u8; DIGEST] {
-    let mut name = [0; DIGEST];
-    name.copy_from_slice(&lent[..DIGEST]);
-    name
-}
-
-/// The bytes that are lent for an object name.
-#[inline]
-fn lent_object(name: [u8; DIGEST]) -> [u8; OBJECT] {
-    let mut lent = [0; OBJECT];
-    lent[..DIGEST].copy_from_slice(&name);
-    lent
 }
 
 // ---- replies
@@ -83,7 +66,7 @@ impl Name {
 
 impl Fields {
     #[inline]
-    fn of(numbers: [u32; 14], object: [u8; OBJECT]) -> Self {
+    fn of(kind: Kind, numbers: [u32; 14], object: [u8; OBJECT]) -> Self {
         Self {
             ctime_seconds: numbers[0],
             ctime_nanoseconds: numbers[1],
@@ -95,7 +78,7 @@ impl Fields {
             uid: numbers[7],
             gid: numbers[8],
             size: numbers[9],
-            object: object_name(object),
+            object: ObjectName::of(kind, object),
             assume_valid: numbers[10] != 0,
             stage: numbers[11],
             skip_worktree: numbers[12] != 0,
@@ -122,26 +105,26 @@ impl Fields {
             u32::from(self.skip_worktree),
             u32::from(self.intent_to_add),
         ];
-        (numbers, lent_object(self.object))
+        (numbers, self.object.lent())
     }
 }
 
 impl EntryReply {
     #[inline]
-    pub(crate) fn of(reply: [u64; 5], fields: [u32; 14], object: [u8; OBJECT]) -> Self {
+    pub(crate) fn of(kind: Kind, reply: [u64; 5], fields: [u32; 14], object: [u8; OBJECT]) -> Self {
         let [refusal, place, buffer, offset, length] = reply;
         Self {
             refusal: narrow(refusal),
             place: wide(place),
             name: Name::of(buffer, offset, length),
-            fields: Fields::of(fields, object),
+            fields: Fields::of(kind, fields, object),
         }
     }
 }
 
 impl NodeReply {
     #[inline]
-    pub(crate) fn of(reply: [u64; 9], object: [u8; OBJECT]) -> Self {
+    pub(crate) fn of(kind: Kind, reply: [u64; 9], object: [u8; OBJECT]) -> Self {
         let [refusal, place, buffer, offset, length, level, valid, count, subtrees] = reply;
         Self {
             refusal: narrow(refusal),
@@ -151,33 +134,33 @@ impl NodeReply {
             count: narrow(count),
             subtrees: narrow(subtrees),
             valid: yes(valid),
-            object: object_name(object),
+            object: ObjectName::of(kind, object),
         }
     }
 }
 
 impl Stage {
     #[inline]
-    fn of(mode: u64, object: [u8; OBJECT]) -> Self {
+    fn of(kind: Kind, mode: u64, object: [u8; OBJECT]) -> Self {
         Self {
             mode: narrow(mode),
-            object: object_name(object),
+            object: ObjectName::of(kind, object),
         }
     }
 }
 
 impl UndoReply {
     #[inline]
-    pub(crate) fn of(reply: [u64; 8], objects: [[u8; OBJECT]; 3]) -> Self {
+    pub(crate) fn of(kind: Kind, reply: [u64; 8], objects: [[u8; OBJECT]; 3]) -> Self {
         let [refusal, place, buffer, offset, length, first_mode, second_mode, third_mode] = reply;
         let [first, second, third] = objects;
         Self {
             refusal: narrow(refusal),
             place: wide(place),
             path: Name::of(buffer, offset, length),
-            first: Stage::of(first_mode, first),
-            second: Stage::of(second_mode, second),
-            third: Stage::of(third_mode, third),
+            first: Stage::of(kind, first_mode, first),
+            second: Stage::of(kind, second_mode, second),
+            third: Stage::of(kind, third_mode, third),
         }
     }
 }
@@ -207,13 +190,13 @@ impl StartReply {
 
 impl StepReply {
     #[inline]
-    pub(crate) fn of(reply: [u64; 7], fields: [u32; 14], object: [u8; OBJECT]) -> Self {
+    pub(crate) fn of(kind: Kind, reply: [u64; 7], fields: [u32; 14], object: [u8; OBJECT]) -> Self {
         let [refusal, place, buffer, offset, length, at, left] = reply;
         Self {
             refusal: narrow(refusal),
             place: wide(place),
             name: Name::of(buffer, offset, length),
-            fields: Fields::of(fields, object),
+            fields: Fields::of(kind, fields, object),
             at: wide(at),
             left: narrow(left),
         }

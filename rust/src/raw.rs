@@ -1,21 +1,29 @@
 //! The exported functions of the proved library, as C sees them, and their replies, as the functions of
 //! [`calls`](crate::calls) answer them.
 //!
-//! An exported function takes the kind of object names first, which is [`SHA1`]. A slice is a pointer and a length,
+//! An exported function takes the kind of object names first: [`SHA1`] or [`SHA256`]. A slice is a pointer and a length,
 //! where a null pointer with length 0 is an empty one. A reply is written, whole, to arrays that the caller lends: of
-//! numbers for the reply itself and for the fields of an entry, and of [`OBJECT`] bytes for an object name, whose last
-//! 12 are zero. `c/include/nerupazhil.h` says what each number is. The first is 0 of a success or else the number of
-//! the refusal, the second its place, and all that does not apply is 0.
+//! numbers for the reply itself and for the fields of an entry, and of [`OBJECT`] bytes for an object name, of which the
+//! last 12 are zero for SHA-1. `c/include/nerupazhil.h` says what each number is. The first is 0 of a success or else
+//! the number of the refusal, the second its place, and all that does not apply is 0.
 //!
 //! Tests compare these declarations with the Rattle source and with the header.
 
-/// The kind of object names that are SHA-1 digests. Any other number is refused with 29.
+use crate::ObjectName;
+
+/// The kind of object names that are SHA-1 digests.
 pub const SHA1: u32 = 1;
 
-/// The number of bytes of an object name and of a digest.
+/// The kind of object names that are SHA-256 digests. Any other number is refused with 29.
+pub const SHA256: u32 = 2;
+
+/// The number of bytes of a SHA-1 digest, and of an object name that is one.
 pub const DIGEST: usize = 20;
 
-/// The number of bytes that are lent for an object name.
+/// The number of bytes of a SHA-256 digest, and of an object name that is one.
+pub const DIGEST_SHA256: usize = 32;
+
+/// The number of bytes that are lent for an object name of either kind.
 pub const OBJECT: usize = 32;
 
 /// The least number of bytes of a workspace.
@@ -80,7 +88,7 @@ pub struct Fields {
     /// The number of bytes of the file in the worktree, modulo 2^32.
     pub size: u32,
     /// The name of the object.
-    pub object: [u8; DIGEST],
+    pub object: ObjectName,
     /// Whether Git is to take the file in the worktree for unchanged.
     pub assume_valid: bool,
     /// 0, or 1 to 3 of a merge that is not resolved.
@@ -122,7 +130,7 @@ pub struct NodeReply {
     /// Whether the count and the object name are known.
     pub valid: bool,
     /// The name of the tree object.
-    pub object: [u8; DIGEST],
+    pub object: ObjectName,
 }
 
 /// A stage of a resolve-undo record: mode 0 and zeros where it is missing.
@@ -131,7 +139,7 @@ pub struct Stage {
     /// The mode.
     pub mode: u32,
     /// The name of the object.
-    pub object: [u8; DIGEST],
+    pub object: ObjectName,
 }
 
 /// The reply of undo_record.
@@ -319,4 +327,7 @@ extern "C" {
 
     /// Writes the SHA-1 digest of the bytes to `out`.
     pub fn nerupazhil_sha1(bytes: *const u8, length: usize, out: *mut [u8; DIGEST]);
+
+    /// Writes the SHA-256 digest of the bytes to `out`.
+    pub fn nerupazhil_sha256(bytes: *const u8, length: usize, out: *mut [u8; DIGEST_SHA256]);
 }

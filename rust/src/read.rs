@@ -2,25 +2,25 @@
 
 use crate::calls;
 use crate::raw::{Name, Stage};
-use crate::{Entry, Refusal, Summary, Tree, TreeNode, UndoRecord};
+use crate::{Entry, Kind, Refusal, Summary, Tree, TreeNode, UndoRecord};
 
 /// Checks a whole file.
 ///
 /// The workspace has at least [`WORKSPACE`](crate::WORKSPACE) bytes; they are overwritten.
 ///
 /// ```
-/// use nerupazhil::{check, EMPTY, WORKSPACE};
+/// use nerupazhil::{check, Kind, EMPTY, WORKSPACE};
 ///
 /// let mut work = [0; WORKSPACE];
-/// let summary = check(&EMPTY, &mut work)?;
+/// let summary = check(Kind::Sha1, &EMPTY, &mut work)?;
 /// assert_eq!((summary.version, summary.entries), (2, 0));
 ///
 /// // A file that is cut short is refused.
-/// assert_eq!(check(&EMPTY[..31], &mut work).unwrap_err().number(), 1);
+/// assert_eq!(check(Kind::Sha1, &EMPTY[..31], &mut work).unwrap_err().number(), 1);
 /// # Ok::<(), nerupazhil::Refusal>(())
 /// ```
-pub fn check(file: &[u8], work: &mut [u8]) -> Result<Summary, Refusal> {
-    let reply = calls::check(file, work);
+pub fn check(kind: Kind, file: &[u8], work: &mut [u8]) -> Result<Summary, Refusal> {
+    let reply = calls::check(kind.number(), file, work);
     Refusal::unless_zero(reply.refusal, reply.place)?;
     Ok(Summary::of(&reply))
 }
@@ -32,14 +32,14 @@ pub fn check(file: &[u8], work: &mut [u8]) -> Result<Summary, Refusal> {
 ///
 /// ```
 /// # let file = include_bytes!(concat!(env!("CARGO_MANIFEST_DIR"), "/../tests/vectors/real/v4-committed.index"));
-/// use nerupazhil::{entry, mode, Reason, WORKSPACE};
+/// use nerupazhil::{entry, mode, Kind, Reason, WORKSPACE};
 ///
 /// let mut work = [0; WORKSPACE];
-/// let first = entry(file, &mut work, 0)?;
+/// let first = entry(Kind::Sha1, file, &mut work, 0)?;
 /// assert_eq!(first.name, b"a-b");
 /// assert_eq!(first.fields.mode, mode::REGULAR);
 ///
-/// let refusal = entry(file, &mut work, 1_000_000).unwrap_err();
+/// let refusal = entry(Kind::Sha1, file, &mut work, 1_000_000).unwrap_err();
 /// assert_eq!(refusal.reason(), Reason::NotThere);
 /// # Ok::<(), nerupazhil::Refusal>(())
 /// ```
@@ -47,15 +47,20 @@ pub fn check(file: &[u8], work: &mut [u8]) -> Result<Summary, Refusal> {
 /// A name can't outlive the buffers:
 ///
 /// ```compile_fail,E0597
-/// # use nerupazhil::{entry, EMPTY, WORKSPACE};
+/// # use nerupazhil::{entry, Kind, EMPTY, WORKSPACE};
 /// let name = {
 ///     let mut work = [0; WORKSPACE];
-///     entry(&EMPTY, &mut work, 0).unwrap().name
+///     entry(Kind::Sha1, &EMPTY, &mut work, 0).unwrap().name
 /// };
 /// println!("{name:?}");
 /// ```
-pub fn entry<'a>(file: &'a [u8], work: &'a mut [u8], k: u32) -> Result<Entry<'a>, Refusal> {
-    let reply = calls::entry(file, work, k);
+pub fn entry<'a>(
+    kind: Kind,
+    file: &'a [u8],
+    work: &'a mut [u8],
+    k: u32,
+) -> Result<Entry<'a>, Refusal> {
+    let reply = calls::entry(kind.number(), file, work, k);
     Refusal::unless_zero(reply.refusal, reply.place)?;
     let buffer = match reply.name.buffer {
         2 => work,
@@ -71,16 +76,21 @@ pub fn entry<'a>(file: &'a [u8], work: &'a mut [u8], k: u32) -> Result<Entry<'a>
 ///
 /// ```
 /// # let file = include_bytes!(concat!(env!("CARGO_MANIFEST_DIR"), "/../tests/vectors/real/v2-committed.index"));
-/// use nerupazhil::{tree_node, WORKSPACE};
+/// use nerupazhil::{tree_node, Kind, WORKSPACE};
 ///
 /// let mut work = [0; WORKSPACE];
-/// let root = tree_node(file, &mut work, 0)?;
+/// let root = tree_node(Kind::Sha1, file, &mut work, 0)?;
 /// let tree = root.tree.expect("Git knows the tree of a commit");
 /// assert_eq!((root.name, root.level, tree.entries), (&b""[..], 1, 20));
 /// # Ok::<(), nerupazhil::Refusal>(())
 /// ```
-pub fn tree_node<'a>(file: &'a [u8], work: &mut [u8], k: u32) -> Result<TreeNode<'a>, Refusal> {
-    let reply = calls::tree_node(file, work, k);
+pub fn tree_node<'a>(
+    kind: Kind,
+    file: &'a [u8],
+    work: &mut [u8],
+    k: u32,
+) -> Result<TreeNode<'a>, Refusal> {
+    let reply = calls::tree_node(kind.number(), file, work, k);
     Refusal::unless_zero(reply.refusal, reply.place)?;
     Ok(TreeNode {
         name: part(file, reply.name),
@@ -97,15 +107,20 @@ pub fn tree_node<'a>(file: &'a [u8], work: &mut [u8], k: u32) -> Result<TreeNode
 ///
 /// ```
 /// # let file = include_bytes!(concat!(env!("CARGO_MANIFEST_DIR"), "/../tests/vectors/real/v2-resolve-undo.index"));
-/// use nerupazhil::{undo_record, WORKSPACE};
+/// use nerupazhil::{undo_record, Kind, WORKSPACE};
 ///
 /// let mut work = [0; WORKSPACE];
-/// let record = undo_record(file, &mut work, 0)?;
+/// let record = undo_record(Kind::Sha1, file, &mut work, 0)?;
 /// assert!(record.stages.iter().any(Option::is_some));
 /// # Ok::<(), nerupazhil::Refusal>(())
 /// ```
-pub fn undo_record<'a>(file: &'a [u8], work: &mut [u8], k: u32) -> Result<UndoRecord<'a>, Refusal> {
-    let reply = calls::undo_record(file, work, k);
+pub fn undo_record<'a>(
+    kind: Kind,
+    file: &'a [u8],
+    work: &mut [u8],
+    k: u32,
+) -> Result<UndoRecord<'a>, Refusal> {
+    let reply = calls::undo_record(kind.number(), file, work, k);
     Refusal::unless_zero(reply.refusal, reply.place)?;
     Ok(UndoRecord {
         path: part(file, reply.path),

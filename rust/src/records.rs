@@ -1,9 +1,7 @@
 //! What the calls show and take.
 
-use crate::raw::{CheckReply, Fields, Stage, DIGEST};
-
-/// The name of an object: its SHA-1.
-pub type ObjectName = [u8; DIGEST];
+use crate::raw::{CheckReply, Fields, Stage};
+use crate::ObjectName;
 
 /// The modes that an entry may have.
 pub mod mode {
@@ -62,9 +60,9 @@ impl Summary {
     /// The version that Git would write after an edit: 4 stays 4, else the lowest.
     ///
     /// ```
-    /// use nerupazhil::{check, Version, EMPTY, WORKSPACE};
+    /// use nerupazhil::{check, Kind, Version, EMPTY, WORKSPACE};
     ///
-    /// let summary = check(&EMPTY, &mut [0; WORKSPACE])?;
+    /// let summary = check(Kind::Sha1, &EMPTY, &mut [0; WORKSPACE])?;
     /// assert_eq!(summary.version_kept(), Version::Lowest);
     /// # Ok::<(), nerupazhil::Refusal>(())
     /// ```

@@ -8,11 +8,11 @@ use std::fmt;
 /// The place is the first byte of that thing, and 0 where the refusal is about the whole file or about the request.
 ///
 /// ```
-/// use nerupazhil::{check, Reason, WORKSPACE};
+/// use nerupazhil::{check, Kind, Reason, WORKSPACE};
 ///
 /// let mut file = nerupazhil::EMPTY;
 /// file[31] ^= 1;
-/// let refusal = check(&file, &mut [0; WORKSPACE]).unwrap_err();
+/// let refusal = check(Kind::Sha1, &file, &mut [0; WORKSPACE]).unwrap_err();
 /// assert_eq!((refusal.number(), refusal.place()), (5, 12));
 /// assert_eq!(refusal.reason(), Reason::Checksum);
 /// assert_eq!(
@@ -29,7 +29,7 @@ use std::fmt;
 /// let cut = Index::read(&EMPTY[..31]).unwrap_err();
 /// assert_eq!(
 ///     format!("{cut:?}"),
-///     "Refusal(refused 1 at 0: the file is shorter than 32 bytes, the length of an empty index)"
+///     "Refusal(refused 1 at 0: the file is shorter than an empty index: 32 bytes with SHA-1 names, 44 with SHA-256)"
 /// );
 /// ```
 #[derive(Clone, Copy, PartialEq, Eq, Hash)]
@@ -121,7 +121,7 @@ macro_rules! reasons {
 }
 
 reasons! {
-    1 TooShort "the file is shorter than 32 bytes, the length of an empty index"
+    1 TooShort "the file is shorter than an empty index: 32 bytes with SHA-1 names, 44 with SHA-256"
     2 TooLong "the file, or the one that would be written, is longer than 16777216 bytes"
     3 Signature "the file does not begin with DIRC, as an index does"
     4 Version "the version of the file, or the one asked for, is not one that this call takes"
@@ -142,7 +142,7 @@ reasons! {
     19 WorkspaceShort "the workspace is shorter than 8192 bytes"
     20 OutputShort "the output is too short for the result"
     21 NeedsVersion3 "version 2 was asked for, but an entry is marked skip-worktree or intent-to-add, which needs version 3 or 4"
-    29 Kind "the kind of object names is not one that the library knows"
+    29 Kind "the kind of object names is not one that the library knows, or not that of the record's object name"
 }
 
 impl fmt::Display for Reason {

@@ -2,7 +2,7 @@
 
 use crate::calls;
 use crate::raw::{Fields, WriteReply};
-use crate::{Refusal, Version};
+use crate::{Kind, Refusal, Version};
 
 /// Writes the records of a file in a version, and answers the part of the output that was written.
 ///
@@ -10,38 +10,41 @@ use crate::{Refusal, Version};
 ///
 /// ```
 /// # let file = include_bytes!(concat!(env!("CARGO_MANIFEST_DIR"), "/../tests/vectors/real/v4-committed.index"));
-/// use nerupazhil::{check, rewrite, Version, WORKSPACE};
+/// use nerupazhil::{check, rewrite, Kind, Version, WORKSPACE};
 ///
 /// let (mut work, mut out) = ([0; WORKSPACE], [0; 4096]);
-/// let written = rewrite(file, &mut work, &mut out, Version::Lowest)?;
-/// assert_eq!(check(written, &mut work)?.version, 2);
+/// let written = rewrite(Kind::Sha1, file, &mut work, &mut out, Version::Lowest)?;
+/// assert_eq!(check(Kind::Sha1, written, &mut work)?.version, 2);
 /// # Ok::<(), nerupazhil::Refusal>(())
 /// ```
 pub fn rewrite<'a>(
+    kind: Kind,
     file: &[u8],
     work: &mut [u8],
     out: &'a mut [u8],
     version: Version,
 ) -> Result<&'a mut [u8], Refusal> {
-    let reply = calls::rewrite(file, work, out, version.asked());
+    let reply = calls::rewrite(kind.number(), file, work, out, version.asked());
     written(out, reply)
 }
 
 /// The same as [`rewrite`] with one entry: in place of the one of its name and stage, or added.
 ///
 /// The root of the cache tree and each node on the way to the entry's directory become invalid. That the name is not
-/// also a directory of other entries is for the caller to see to.
+/// also a directory of other entries is for the caller to see to. An object name of another kind than the file's is
+/// refused with 29, before anything of the file.
 ///
 /// ```
-/// use nerupazhil::{entry, mode, put, Fields, Version, EMPTY, WORKSPACE};
+/// use nerupazhil::{entry, mode, put, Fields, Kind, Version, EMPTY, WORKSPACE};
 ///
 /// let (mut work, mut out) = ([0; WORKSPACE], [0; 256]);
-/// let fields = Fields { mode: mode::REGULAR, object: [0x11; 20], ..Fields::default() };
-/// let file = put(&EMPTY, &mut work, &mut out, Version::Lowest, b"saw/cut.txt", &fields)?;
-/// assert_eq!(entry(file, &mut work, 0)?.name, b"saw/cut.txt");
+/// let fields = Fields { mode: mode::REGULAR, object: [0x11; 20].into(), ..Fields::default() };
+/// let file = put(Kind::Sha1, &EMPTY, &mut work, &mut out, Version::Lowest, b"saw/cut.txt", &fields)?;
+/// assert_eq!(entry(Kind::Sha1, file, &mut work, 0)?.name, b"saw/cut.txt");
 /// # Ok::<(), nerupazhil::Refusal>(())
 /// ```
 pub fn put<'a>(
+    kind: Kind,
     file: &[u8],
     work: &mut [u8],
     out: &'a mut [u8],
@@ -49,7 +52,15 @@ pub fn put<'a>(
     name: &[u8],
     fields: &Fields,
 ) -> Result<&'a mut [u8], Refusal> {
-    let reply = calls::put(file, work, out, version.asked(), name, *fields);
+    let reply = calls::put(
+        kind.number(),
+        file,
+        work,
+        out,
+        version.asked(),
+        name,
+        *fields,
+    );
     written(out, reply)
 }
 
@@ -59,17 +70,18 @@ pub fn put<'a>(
 ///
 /// ```
 /// # let file = include_bytes!(concat!(env!("CARGO_MANIFEST_DIR"), "/../tests/vectors/real/v2-committed.index"));
-/// use nerupazhil::{entry, remove, Reason, Version, WORKSPACE};
+/// use nerupazhil::{entry, remove, Kind, Reason, Version, WORKSPACE};
 ///
 /// let (mut work, mut out) = ([0; WORKSPACE], [0; 4096]);
-/// let file = remove(file, &mut work, &mut out, Version::Lowest, b"a-b", 0)?;
-/// assert_ne!(entry(file, &mut work, 0)?.name, b"a-b");
+/// let file = remove(Kind::Sha1, file, &mut work, &mut out, Version::Lowest, b"a-b", 0)?;
+/// assert_ne!(entry(Kind::Sha1, file, &mut work, 0)?.name, b"a-b");
 ///
-/// let again = remove(file, &mut work, &mut [], Version::Lowest, b"a-b", 0);
+/// let again = remove(Kind::Sha1, file, &mut work, &mut [], Version::Lowest, b"a-b", 0);
 /// assert_eq!(again.unwrap_err().reason(), Reason::NotThere);
 /// # Ok::<(), nerupazhil::Refusal>(())
 /// ```
 pub fn remove<'a>(
+    kind: Kind,
     file: &[u8],
     work: &mut [u8],
     out: &'a mut [u8],
@@ -77,7 +89,7 @@ pub fn remove<'a>(
     name: &[u8],
     stage: u32,
 ) -> Result<&'a mut [u8], Refusal> {
-    let reply = calls::remove(file, work, out, version.asked(), name, stage);
+    let reply = calls::remove(kind.number(), file, work, out, version.asked(), name, stage);
     written(out, reply)
 }
 

@@ -7,8 +7,8 @@ use std::cell::Cell;
 
 use common::{regular, stored};
 use nerupazhil::{
-    check, entry, put, remove, rewrite, sha1, tree_node, undo_record, walk, Index, Version,
-    WORKSPACE,
+    check, entry, put, remove, rewrite, sha1, sha256, tree_node, undo_record, walk, Index, Kind,
+    Version, WORKSPACE,
 };
 
 thread_local! {
@@ -44,17 +44,19 @@ fn asked(run: impl FnOnce()) -> usize {
 fn calls_with_buffers_allocate_nothing() {
     let (work, out) = (&mut [0; WORKSPACE], &mut [0; 4096]);
     for name in ["real/v2-resolve-undo", "real/v4-resolve-undo"] {
-        let file = &stored(name)[..];
+        let (kind, file) = (Kind::Sha1, &stored(name)[..]);
+        let fields = regular(kind);
         let bytes = asked(|| {
-            check(file, work).unwrap();
-            entry(file, work, 0).unwrap();
-            tree_node(file, work, 0).unwrap();
-            undo_record(file, work, 0).unwrap();
-            let _ = walk(file, work).map(Iterator::count);
-            rewrite(file, work, out, Version::V4).unwrap();
-            put(file, work, out, Version::V4, b"new", &regular()).unwrap();
-            remove(file, work, out, Version::V4, b"plan", 0).unwrap();
+            check(kind, file, work).unwrap();
+            entry(kind, file, work, 0).unwrap();
+            tree_node(kind, file, work, 0).unwrap();
+            undo_record(kind, file, work, 0).unwrap();
+            let _ = walk(kind, file, work).map(Iterator::count);
+            rewrite(kind, file, work, out, Version::V4).unwrap();
+            put(kind, file, work, out, Version::V4, b"new", &fields).unwrap();
+            remove(kind, file, work, out, Version::V4, b"plan", 0).unwrap();
             sha1(file);
+            sha256(file);
         });
         assert_eq!(bytes, 0);
     }
@@ -66,7 +68,9 @@ fn the_owner_allocates_little_for_a_small_file() {
     let file = stored("real/v4-committed");
     let bytes = asked(|| {
         let index = Index::read(&file).unwrap();
-        let new = index.with(b"new", &regular(), Version::V4).unwrap();
+        let new = index
+            .with(b"new", &regular(Kind::Sha1), Version::V4)
+            .unwrap();
         assert_eq!(new.capacity(), new.len());
     });
     assert!(bytes < 10 * file.len(), "{bytes}");

@@ -9,7 +9,7 @@ use std::path::{Path, PathBuf};
 use std::process::{Command, Output};
 
 use common::{folder, regular, stored, vectors};
-use nerupazhil::{Fields, Index};
+use nerupazhil::{Fields, Index, Kind};
 
 const OBJECT: &str = "5a5a5a5a5a5a5a5a5a5a5a5a5a5a5a5a5a5a5a5a";
 
@@ -115,7 +115,7 @@ fn put_saves_a_record() {
         let index = Index::read(&file).unwrap();
         let fields = Fields {
             stage: 2,
-            ..regular()
+            ..regular(Kind::Sha1)
         };
         let version = index.summary().version_kept();
         let expected = index.with(b"saw/cut.txt", &fields, version);

@@ -5,15 +5,17 @@ mod common;
 use std::panic::{RefUnwindSafe, UnwindSafe};
 use std::thread;
 
-use common::{accepted, laid_out, number, regular, stored, Records};
+use common::{accepted, laid_out, number, regular, stored, Records, KINDS};
 use nerupazhil::{
-    check, put, rewrite, Entry, Index, Refusal, Summary, Version, Walk, EMPTY, MAX_FILE, WORKSPACE,
+    check, put, rewrite, Entry, Index, Kind, ObjectName, Refusal, Summary, Version, Walk, EMPTY,
+    MAX_FILE, WORKSPACE,
 };
+use Kind::{Sha1, Sha256};
 
 /// A file of version 4 with so many names that share their first bytes.
-fn shared_beginning(entries: usize, length: usize) -> Vec<u8> {
+fn shared_beginning(kind: Kind, entries: usize, length: usize) -> Vec<u8> {
     let name = |k| [&vec![b'n'; length][..], format!("{k:05}").as_bytes()].concat();
-    laid_out(4, &(0..entries).map(name).collect::<Vec<_>>())
+    laid_out(kind, 4, &(0..entries).map(name).collect::<Vec<_>>())
 }
 
 /// The owner answers what the calls answer with buffers that are large enough.
@@ -21,19 +23,24 @@ fn shared_beginning(entries: usize, length: usize) -> Vec<u8> {
 fn it_answers_what_the_calls_answer() {
     let (work, out) = (&mut [0; WORKSPACE], &mut vec![0; 1 << 17]);
     for vector in accepted() {
-        let (file, index) = (&vector.file, Index::read(&vector.file).unwrap());
-        assert_eq!(Ok(index.summary()), check(file, work));
+        let (kind, file) = (vector.kind, &vector.file);
+        let index = Index::read_kind(kind, file).unwrap();
+        assert_eq!(
+            (Ok(index.summary()), index.kind()),
+            (check(kind, file, work), kind)
+        );
         assert_eq!(index.file(), &file[..]);
         for version in [Version::Lowest, Version::V2, Version::V3, Version::V4] {
-            let expected = rewrite(file, work, out, version).map(|file| file.to_vec());
+            let expected = rewrite(kind, file, work, out, version).map(|file| file.to_vec());
             assert_eq!(index.rewritten(version), expected);
-            let expected = put(file, work, out, version, b"m", &regular());
+            let fields = regular(kind);
+            let expected = put(kind, file, work, out, version, b"m", &fields);
             assert_eq!(
-                index.with(b"m", &regular(), version),
+                index.with(b"m", &fields, version),
                 expected.map(|file| file.to_vec())
             );
         }
-        let records = Records::of(file);
+        let records = Records::of(kind, file);
         for (k, node) in (0..).zip(records.nodes.unwrap_or_default()) {
             assert_eq!(index.tree_node(k).unwrap().tree, node.3);
         }
@@ -61,49 +68,58 @@ fn the_version_is_kept() {
 /// Without is the inverse of with, but for the cache tree; what is not there can't be taken out.
 #[test]
 fn with_and_without() {
-    let index = Index::read(&EMPTY).unwrap();
-    let one = index.with(b"a/b", &regular(), Version::Lowest).unwrap();
-    let one = Index::read(&one).unwrap();
-    assert_eq!(one.without(b"a/b", 0, Version::Lowest), Ok(EMPTY.to_vec()));
-    assert_eq!(number(one.without(b"a/b", 1, Version::Lowest)), 18);
-    assert_eq!(number(index.with(b"a//b", &regular(), Version::Lowest)), 9);
+    for kind in KINDS {
+        let (version, fields) = (Version::Lowest, regular(kind));
+        let index = Index::read_kind(kind, kind.empty()).unwrap();
+        let one = index.with(b"a/b", &fields, version).unwrap();
+        let one = Index::read_kind(kind, &one).unwrap();
+        assert_eq!(one.without(b"a/b", 0, version), Ok(kind.empty().to_vec()));
+        assert_eq!(number(one.without(b"a/b", 1, version)), 18);
+        assert_eq!(number(index.with(b"a//b", &fields, version)), 9);
+    }
 }
 
 /// Names of version 4 that take forty times the bytes in version 2: the output grows until they fit.
 #[test]
 fn a_result_of_many_times_the_length_fits() {
-    let file = shared_beginning(100, 4000);
-    let index = Index::read(&file).unwrap();
-    let new = index.rewritten(Version::V2).unwrap();
-    assert!(new.len() > 30 * file.len());
-    assert_eq!(index.entries().unwrap().len(), 100);
-    assert!(index
-        .entries()
-        .unwrap()
-        .eq(Index::read(&new).unwrap().entries().unwrap()));
+    for kind in KINDS {
+        let file = shared_beginning(kind, 100, 4000);
+        let index = Index::read_kind(kind, &file).unwrap();
+        let new = index.rewritten(Version::V2).unwrap();
+        assert!(new.len() > 30 * file.len());
+        assert_eq!(index.entries().unwrap().len(), 100);
+        let again = Index::read_kind(kind, &new).unwrap();
+        assert!(index.entries().unwrap().eq(again.entries().unwrap()));
+    }
 }
 
 /// A file of version 4 that would be longer than the limit in version 2: entries are shown one by one.
 #[test]
 fn names_too_long_for_a_walk() {
-    let file = shared_beginning(2100, 8000);
-    let index = Index::read(&file).unwrap();
-    assert_eq!(index.entries().err(), Some(Refusal::new(2, 0)));
-    assert_eq!(index.rewritten(Version::V3).err(), Some(Refusal::new(2, 0)));
-    let mut work = [0; WORKSPACE];
-    let last = index.entry(&mut work, 2099).unwrap();
-    assert_eq!(last.name[8000..], *b"02099");
-    assert_eq!(index.rewritten(Version::V4), Ok(file.clone()));
+    for kind in KINDS {
+        let file = shared_beginning(kind, 2100, 8000);
+        let index = Index::read_kind(kind, &file).unwrap();
+        assert_eq!(index.entries().err(), Some(Refusal::new(2, 0)));
+        assert_eq!(index.rewritten(Version::V3).err(), Some(Refusal::new(2, 0)));
+        let mut work = [0; WORKSPACE];
+        let last = index.entry(&mut work, 2099).unwrap();
+        assert_eq!(last.name[8000..], *b"02099");
+        assert_eq!(index.rewritten(Version::V4), Ok(file.clone()));
+    }
 }
 
 /// A put of a name of 8,192 bytes fits, whatever the file.
 #[test]
 fn a_long_name_fits() {
     let name = vec![b'n'; 8192];
-    for version in [Version::Lowest, Version::V3, Version::V4] {
-        let index = Index::read(&EMPTY).unwrap();
-        let file = index.with(&name, &regular(), version).unwrap();
-        let entries = Index::read(&file).unwrap();
+    for (kind, version) in KINDS
+        .map(|kind| (kind, Version::Lowest))
+        .into_iter()
+        .chain([(Sha1, Version::V3), (Sha256, Version::V4)])
+    {
+        let index = Index::read_kind(kind, kind.empty()).unwrap();
+        let file = index.with(&name, &regular(kind), version).unwrap();
+        let entries = Index::read_kind(kind, &file).unwrap();
         assert_eq!(entries.entries().unwrap().next().unwrap().name, name);
     }
 }
@@ -111,22 +127,26 @@ fn a_long_name_fits() {
 /// A file at the limit: one more entry would be one too many.
 #[test]
 fn a_file_at_the_limit() {
-    let file = full();
-    let index = Index::read(&file).unwrap();
-    assert_eq!(index.file().len(), MAX_FILE);
-    assert_eq!(index.rewritten(Version::V2).as_deref(), Ok(&file[..]));
-    assert_eq!(number(index.with(b"a", &regular(), Version::V2)), 2);
-    assert!(index.with(b"a", &regular(), Version::V4).is_ok());
+    for kind in KINDS {
+        let file = full(kind);
+        let index = Index::read_kind(kind, &file).unwrap();
+        assert!(MAX_FILE - index.file().len() < 8);
+        assert_eq!(index.rewritten(Version::V2).as_deref(), Ok(&file[..]));
+        assert_eq!(number(index.with(b"a", &regular(kind), Version::V2)), 2);
+        assert!(index.with(b"a", &regular(kind), Version::V4).is_ok());
+    }
 }
 
-/// A file of version 2 of exactly 16 MiB: 2,100 entries, the first 1,348 of 7,992 bytes and the others of 7,984.
-fn full() -> Vec<u8> {
+/// A file of version 2 of 16 MiB, or up to 7 bytes less: 2,100 entries, some of 7,992 bytes and the others of 7,984.
+fn full(kind: Kind) -> Vec<u8> {
+    let longer = (MAX_FILE - 12 - kind.width() - 2100 * 7984) / 8;
     let name = |k| {
         let mut name = format!("{k:05}").into_bytes();
-        name.resize(if k < 1348 { 7926 } else { 7918 }, b'n');
+        let length = if k < longer { 7992 } else { 7984 };
+        name.resize(length - 46 - kind.width(), b'n');
         name
     };
-    laid_out(2, &(0..2100).map(name).collect::<Vec<_>>())
+    laid_out(kind, 2, &(0..2100).map(name).collect::<Vec<_>>())
 }
 
 /// All types can be sent to other threads and shared with them.
@@ -138,6 +158,7 @@ fn types_are_send_and_sync() {
     plain::<Entry<'_>>();
     plain::<Summary>();
     plain::<Refusal>();
+    plain::<ObjectName>();
 }
 
 #[test]
@@ -166,7 +187,7 @@ fn little_stack_is_enough() {
         let file = stored("real/deep-127");
         let index = Index::read(&file)?;
         let deepest = index.tree_node(127)?;
-        let new = index.with(b"new", &regular(), Version::V4)?;
+        let new = index.with(b"new", &regular(Sha1), Version::V4)?;
         Ok((deepest.level, Index::read(&new)?.summary().entries))
     };
     let thread = thread::Builder::new().stack_size(128 << 10).spawn(edit);
@@ -179,5 +200,8 @@ fn little_stack_is_enough() {
 fn debug_does_not_show_the_file() {
     let index = Index::read(&EMPTY).unwrap();
     let shown = format!("{index:?}");
-    assert!(shown.starts_with("Index { summary: Summary { version: 2,") && shown.len() < 200);
+    assert!(
+        shown.starts_with("Index { kind: Sha1, summary: Summary { version: 2,")
+            && shown.len() < 200
+    );
 }

@@ -5,11 +5,11 @@ mod common;
 use std::iter::FusedIterator;
 
 use common::{number, stored};
-use nerupazhil::raw::StepReply;
-use nerupazhil::{calls, walk, Walk, EMPTY, WORKSPACE};
+use nerupazhil::raw::{StepReply, SHA1};
+use nerupazhil::{calls, walk, Kind, Walk, EMPTY, WORKSPACE};
 
 fn start(file: &[u8]) -> Walk<'_> {
-    walk(file, &mut [0; WORKSPACE]).unwrap()
+    walk(Kind::Sha1, file, &mut [0; WORKSPACE]).unwrap()
 }
 
 #[test]
@@ -58,7 +58,7 @@ fn names_last_as_long_as_the_file() {
 #[test]
 fn version_4_is_refused() {
     let file = stored("real/v4-committed");
-    assert_eq!(number(walk(&file, &mut [0; WORKSPACE])), 4);
+    assert_eq!(number(walk(Kind::Sha1, &file, &mut [0; WORKSPACE])), 4);
 }
 
 /// A step where no entry remains, or where none is, has its number alone.
@@ -70,9 +70,9 @@ fn a_refused_step_shows_no_place() {
         ..StepReply::default()
     };
     for (at, left) in [(12, 0), (file.len(), 7), (usize::MAX, u32::MAX)] {
-        assert_eq!(calls::walk_next(&file, at, left), refused);
+        assert_eq!(calls::walk_next(SHA1, &file, at, left), refused);
     }
-    let first = calls::walk_next(&file, 12, 20);
+    let first = calls::walk_next(SHA1, &file, 12, 20);
     assert_eq!((first.refusal, first.at, first.left), (0, 84, 19));
 }
 

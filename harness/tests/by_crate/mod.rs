@@ -1,35 +1,45 @@
-//! The calls of the crate, which are for SHA-1, and their replies as the harness has them.
+//! The calls of the crate, and their replies as the harness has them.
 
 use harness::comparison::Reply;
 use harness::inputs::requests::Call;
 use harness::kind::{Kind, Object};
 use harness::replies;
-use nerupazhil::{calls, raw};
+use nerupazhil::{calls, raw, ObjectName};
 
-/// What the crate answers to a call; none where it has none.
-pub fn by_crate(call: &Call, file: &[u8], work: &mut [u8], out: &mut [u8]) -> Option<Reply> {
-    let reply = match call {
-        Call::Check => check(calls::check(file, work)),
-        Call::Entry(k) => entry(calls::entry(file, work, *k)),
-        Call::TreeNode(k) => node(calls::tree_node(file, work, *k)),
-        Call::UndoRecord(k) => undo(calls::undo_record(file, work, *k)),
-        Call::Rewrite(asked) => write(calls::rewrite(file, work, out, *asked)),
+/// What the crate answers to a call.
+pub fn by_crate(kind: Kind, call: &Call, file: &[u8], work: &mut [u8], out: &mut [u8]) -> Reply {
+    let number = kind.number();
+    match call {
+        Call::Check => check(calls::check(number, file, work)),
+        Call::Entry(k) => entry(calls::entry(number, file, work, *k)),
+        Call::TreeNode(k) => node(calls::tree_node(number, file, work, *k)),
+        Call::UndoRecord(k) => undo(calls::undo_record(number, file, work, *k)),
+        Call::Rewrite(asked) => write(calls::rewrite(number, file, work, out, *asked)),
         Call::Put(asked, name, fields) => {
-            write(calls::put(file, work, out, *asked, name, given(fields)))
+            let given = given(kind, fields);
+            write(calls::put(number, file, work, out, *asked, name, given))
         }
         Call::Remove(asked, name, stage) => {
-            write(calls::remove(file, work, out, *asked, name, *stage))
+            write(calls::remove(number, file, work, out, *asked, name, *stage))
         }
-        Call::WalkStart => start(calls::walk_start(file, work)),
-        Call::WalkNext(at, left) => step(calls::walk_next(file, *at, *left)),
-        Call::Hash(Kind::Sha1) => Reply::Digest(Kind::Sha1, object(&calls::sha1(file))),
-        Call::Hash(_) => return None,
-    };
-    Some(reply)
+        Call::WalkStart => start(calls::walk_start(number, file, work)),
+        Call::WalkNext(at, left) => step(calls::walk_next(number, file, *at, *left)),
+        Call::Hash(kind) => Reply::Digest(*kind, digest(*kind, file)),
+    }
 }
 
-fn object(name: &[u8]) -> Object {
-    Kind::Sha1.object(name)
+fn digest(kind: Kind, file: &[u8]) -> Object {
+    match kind {
+        Kind::Sha1 => kind.object(&calls::sha1(file)),
+        Kind::Sha256 => kind.object(&calls::sha256(file)),
+    }
+}
+
+/// The bytes of an object name, and zeros after them.
+fn object(name: ObjectName) -> Object {
+    let mut object = Object::default();
+    object[..name.as_bytes().len()].copy_from_slice(name.as_bytes());
+    object
 }
 
 fn name(name: raw::Name) -> replies::Name {
@@ -52,7 +62,7 @@ fn fields(fields: raw::Fields) -> replies::Fields {
         uid: fields.uid,
         gid: fields.gid,
         size: fields.size,
-        object: object(&fields.object),
+        object: object(fields.object),
         assume_valid: fields.assume_valid,
         stage: fields.stage,
         skip_worktree: fields.skip_worktree,
@@ -61,10 +71,8 @@ fn fields(fields: raw::Fields) -> replies::Fields {
 }
 
 /// The fields as the crate takes them.
-fn given(fields: &replies::Fields) -> raw::Fields {
-    let mut object = raw::Fields::default().object;
-    let width = Kind::Sha1.width();
-    object[..width].copy_from_slice(&fields.object[..width]);
+fn given(kind: Kind, fields: &replies::Fields) -> raw::Fields {
+    let object = ObjectName::try_from(&fields.object[..kind.width()]).expect("an object name");
     raw::Fields {
         ctime_seconds: fields.ctime_seconds,
         ctime_nanoseconds: fields.ctime_nanoseconds,
@@ -116,7 +124,7 @@ fn node(reply: raw::NodeReply) -> Reply {
         count: reply.count,
         subtrees: reply.subtrees,
         valid: reply.valid,
-        object: object(&reply.object),
+        object: object(reply.object),
     })
 }
 
@@ -128,7 +136,7 @@ fn undo(reply: raw::UndoReply) -> Reply {
         path: name(reply.path),
         stages: stages.map(|stage| replies::Stage {
             mode: stage.mode,
-            object: object(&stage.object),
+            object: object(stage.object),
         }),
     })
 }

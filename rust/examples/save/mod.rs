@@ -20,7 +20,7 @@ use std::io::{self, Write};
 use std::os::unix::fs::OpenOptionsExt;
 use std::path::{Path, PathBuf};
 
-use nerupazhil::{check, Refusal, WORKSPACE};
+use nerupazhil::{check, Kind, Refusal, WORKSPACE};
 
 /// Replaces an index, which has to be there, by what a change makes of its bytes.
 pub fn edit<F>(index: &Path, change: F) -> Result<(), SaveError>
@@ -83,7 +83,7 @@ impl Place {
         let old = load::load(&self.index).map_err(failed("read the index"))?;
         let new = change(&old).map_err(SaveError::Refused)?;
         // Whatever made these bytes: what is no sound index does not replace one.
-        check(&new, &mut [0; WORKSPACE]).map_err(SaveError::NewRefused)?;
+        check(Kind::Sha1, &new, &mut [0; WORKSPACE]).map_err(SaveError::NewRefused)?;
         self.write(file, &new)?;
         lock.rename(&self.index)
             .map_err(failed("rename the new index"))?;

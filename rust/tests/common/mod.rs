@@ -5,16 +5,19 @@ use std::fs;
 use std::path::PathBuf;
 
 use nerupazhil::{
-    check, entry, mode, sha1, tree_node, undo_record, Fields, Refusal, Stage, Summary, Tree,
-    WORKSPACE,
+    check, entry, mode, tree_node, undo_record, Fields, Kind, ObjectName, Refusal, Stage, Summary,
+    Tree, WORKSPACE,
 };
+
+/// The kinds of object names.
+pub const KINDS: [Kind; 2] = [Kind::Sha1, Kind::Sha256];
 
 /// Where the vectors are stored.
 pub fn folder() -> PathBuf {
     PathBuf::from(concat!(env!("CARGO_MANIFEST_DIR"), "/../tests/vectors"))
 }
 
-/// A stored file, as real/v2-committed.
+/// A stored file with SHA-1 names, as real/v2-committed.
 pub fn stored(name: &str) -> Vec<u8> {
     let path = folder().join(format!("{name}.index"));
     fs::read(&path).unwrap_or_else(|error| panic!("{}: {error}", path.display()))
@@ -22,6 +25,7 @@ pub fn stored(name: &str) -> Vec<u8> {
 
 /// A stored file with what check answers.
 pub struct Vector {
+    pub kind: Kind,
     pub name: String,
     pub file: Vec<u8>,
     pub expected: Result<Summary, Refusal>,
@@ -29,9 +33,12 @@ pub struct Vector {
 
 /// All stored files.
 pub fn vectors() -> Vec<Vector> {
-    let table = fs::read_to_string(folder().join("expected.tsv")).unwrap();
-    let vectors: Vec<_> = table.lines().map(vector).collect();
-    assert_eq!(vectors.len(), 192);
+    let mut vectors = Vec::new();
+    for (kind, below) in [(Kind::Sha1, ""), (Kind::Sha256, "sha256/")] {
+        let table = fs::read_to_string(folder().join(below).join("expected.tsv")).unwrap();
+        vectors.extend(table.lines().map(|line| vector(kind, below, line)));
+    }
+    assert_eq!(vectors.len(), 192 + 79);
     vectors
 }
 
@@ -39,16 +46,17 @@ pub fn vectors() -> Vec<Vector> {
 pub fn accepted() -> Vec<Vector> {
     let mut vectors = vectors();
     vectors.retain(|vector| vector.expected.is_ok());
-    assert_eq!(vectors.len(), 50);
+    assert_eq!(vectors.len(), 50 + 5);
     vectors
 }
 
-fn vector(line: &str) -> Vector {
+fn vector(kind: Kind, below: &str, line: &str) -> Vector {
     let (path, answer) = line.split_once('\t').unwrap();
-    let name = path.strip_suffix(".index").unwrap();
+    let name = format!("{below}{}", path.strip_suffix(".index").unwrap());
     Vector {
-        name: name.to_string(),
-        file: stored(name),
+        kind,
+        file: stored(&name),
+        name,
         expected: expected(&answer.split(' ').collect::<Vec<_>>()),
     }
 }
@@ -83,46 +91,51 @@ pub type Node = (Vec<u8>, u32, u32, Option<Tree>);
 pub type Undo = (Vec<u8>, [Option<Stage>; 3]);
 
 impl Records {
-    pub fn of(file: &[u8]) -> Self {
+    pub fn of(kind: Kind, file: &[u8]) -> Self {
         let work = &mut [0; WORKSPACE];
-        let summary = check(file, work).unwrap();
+        let summary = check(kind, file, work).unwrap();
         let entries = (0..summary.entries).map(|k| {
-            let shown = entry(file, work, k).unwrap();
+            let shown = entry(kind, file, work, k).unwrap();
             (shown.name.to_vec(), shown.fields)
         });
         Self {
             entries: entries.collect(),
-            nodes: summary.nodes.map(|n| nodes(file, n)),
-            undo: summary.records.map(|n| undo(file, n)),
+            nodes: summary.nodes.map(|n| nodes(kind, file, n)),
+            undo: summary.records.map(|n| undo(kind, file, n)),
         }
     }
 }
 
-fn nodes(file: &[u8], count: u32) -> Vec<Node> {
-    let nodes = (0..count).map(|k| tree_node(file, &mut [0; WORKSPACE], k).unwrap());
+fn nodes(kind: Kind, file: &[u8], count: u32) -> Vec<Node> {
+    let nodes = (0..count).map(|k| tree_node(kind, file, &mut [0; WORKSPACE], k).unwrap());
     nodes
         .map(|node| (node.name.to_vec(), node.level, node.subtrees, node.tree))
         .collect()
 }
 
-fn undo(file: &[u8], count: u32) -> Vec<Undo> {
-    let records = (0..count).map(|k| undo_record(file, &mut [0; WORKSPACE], k).unwrap());
+fn undo(kind: Kind, file: &[u8], count: u32) -> Vec<Undo> {
+    let records = (0..count).map(|k| undo_record(kind, file, &mut [0; WORKSPACE], k).unwrap());
     records
         .map(|record| (record.path.to_vec(), record.stages))
         .collect()
 }
 
+/// An object name that has one value in all its bytes.
+pub fn object(kind: Kind, value: u8) -> ObjectName {
+    ObjectName::try_from(&vec![value; kind.width()][..]).unwrap()
+}
+
 /// A regular file of some object.
-pub fn regular() -> Fields {
+pub fn regular(kind: Kind) -> Fields {
     Fields {
         mode: mode::REGULAR,
-        object: [0x5a; 20],
+        object: object(kind, 0x5a),
         ..Fields::default()
     }
 }
 
 /// A file of version 2 or 4 with entries of these names, which rise.
-pub fn laid_out(version: u32, names: &[Vec<u8>]) -> Vec<u8> {
+pub fn laid_out(kind: Kind, version: u32, names: &[Vec<u8>]) -> Vec<u8> {
     let mut file = b"DIRC".to_vec();
     file.extend(version.to_be_bytes());
     file.extend((names.len() as u32).to_be_bytes());
@@ -130,7 +143,7 @@ pub fn laid_out(version: u32, names: &[Vec<u8>]) -> Vec<u8> {
     for name in names {
         file.extend([0; 24]);
         file.extend(mode::REGULAR.to_be_bytes());
-        file.extend([0; 32]);
+        file.extend(vec![0; 12 + kind.width()]);
         file.extend((name.len().min(4095) as u16).to_be_bytes());
         match version {
             4 => shortened(&mut file, previous, name),
@@ -138,13 +151,12 @@ pub fn laid_out(version: u32, names: &[Vec<u8>]) -> Vec<u8> {
         }
         previous = name;
     }
-    with_checksum(file)
+    with_checksum(kind, file)
 }
 
 /// The file with its checksum.
-pub fn with_checksum(mut file: Vec<u8>) -> Vec<u8> {
-    let digest = sha1(&file);
-    file.extend(digest);
+pub fn with_checksum(kind: Kind, mut file: Vec<u8>) -> Vec<u8> {
+    file.extend(kind.hash(&file).as_bytes());
     file
 }
 
