@@ -28,7 +28,7 @@ import build_c
 import make_files
 import processors
 import run_listing
-from kinds import PROVED, SHA1
+from kinds import ALL, SHA1
 from processors import OTHER, OURS, PROCESSORS, File, run, source, stream
 from report import Program, Report
 
@@ -252,7 +252,7 @@ def answers(report: Report, given: Given) -> None:
         return
     vectors = [File(case.name, SHA1, case.data) for case in run_listing.vectors()]
     seeds = make_files.seed_range("0-59")
-    made = [File(file.name, kind, file.data) for kind in PROVED for file in make_files.every(seeds, kind=kind)]
+    made = [File(file.name, kind, file.data) for kind in ALL for file in make_files.every(seeds, kind=kind)]
     # A search on each of many levels takes seconds a call under the emulator.
     slow = re.compile(r"searches on all levels to (64|128)")
     deep = [file for file in given.deep if not slow.match(file.name)]
