@@ -72,10 +72,10 @@ def decode_answer(stream: BinaryIO) -> tuple:
 class Session:
     """The program under test, which gets one request after the other. Once it has failed, it is not asked again."""
 
-    def __init__(self, path: str, *options: str):
+    def __init__(self, path: str):
         self.errors = tempfile.TemporaryFile()
-        command, pipe = [path, *options], subprocess.PIPE
-        self.child = subprocess.Popen(command, stdin=pipe, stdout=pipe, stderr=self.errors)
+        pipe = subprocess.PIPE
+        self.child = subprocess.Popen([path], stdin=pipe, stdout=pipe, stderr=self.errors)
         self.failed = False
 
     def __call__(self, request: Request) -> tuple:

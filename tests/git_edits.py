@@ -1,10 +1,9 @@
 """Has index files of the installed Git listed, rewritten and edited by a program, and lets Git go on from the results.
 
-    git_edits.py PROGRAM [--only SCENE]
+    git_edits.py PROGRAM [--kind 1|2] [--only SCENE]
 
-PROGRAM answers the requests of edit_requests. The files are those of git_files, of each kind of object names; for a kind
-that the proved library does not take (see kinds), PROGRAM is run with --independent. Each file is listed and held against
-Git as git_files does it. Then, with a copy of its repository:
+PROGRAM answers the requests of edit_requests. The files are those of git_files, of a kind of object names, or of each.
+Each file is listed and held against Git as git_files does it. Then, with a copy of its repository:
 
     rewritten in its own version and without other extensions, the file has Git's bytes; rewritten in each version, Git
     sees the same entries, resolve undo and status, fsck complains of nothing new, and write-tree gives the same tree;
@@ -32,7 +31,7 @@ import index_reader
 from edit_requests import Request, Session
 from git_files import Repository, Snapshot
 from index_reader import Entry, Index
-from kinds import ALL, PROVED, Kind
+from kinds import ALL, Kind, by_number
 from report import Program, ProgramFailed, Report
 
 ROOM = 1 << 20  # more than any of these files takes
@@ -280,6 +279,7 @@ def main() -> int:
     scenes = {scene.__name__: scene for scene in git_files.GIT_SCENES}
     parser = argparse.ArgumentParser(description="Let Git go on from index files that a program rewrote and edited.")
     parser.add_argument("program", help="the program, which answers the requests of edit_requests")
+    parser.add_argument("--kind", type=by_number, help="the kind of object names: 1 or 2; each where it is not told")
     parser.add_argument("--only", choices=scenes, help="make the files of one scene")
     options = parser.parse_args()
 
@@ -287,8 +287,8 @@ def main() -> int:
     program = Program(options.program)
     if not program.usable(report):
         return report.finish()
-    for kind in ALL:
-        session = Session(program.path, *(() if kind in PROVED else ("--independent",)))
+    for kind in (options.kind,) if options.kind else ALL:
+        session = Session(program.path)
         run(session, kind, report, (scenes[options.only],) if options.only else git_files.GIT_SCENES)
         session.finish(report)
     return report.finish()

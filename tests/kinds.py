@@ -18,9 +18,6 @@ SHA1 = Kind(1, "sha1", 20, hashlib.sha1)
 SHA256 = Kind(2, "sha256", 32, hashlib.sha256)
 ALL = (SHA1, SHA256)
 
-# The kinds that the proved library takes. Of the others the independent library is asked alone.
-PROVED = ALL
-
 
 def by_number(text: str) -> Kind:
     """The kind of a number that is given as an argument."""

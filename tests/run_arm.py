@@ -28,7 +28,7 @@ import build_c
 import make_files
 import processors
 import run_listing
-from kinds import PROVED, SHA1
+from kinds import ALL, SHA1
 from processors import OTHER, OURS, PROCESSORS, File, run, source, stream
 from report import Program, Report
 
@@ -251,8 +251,7 @@ def answers(report: Report, given: Given) -> None:
     if commands is None:
         return
     vectors = [File(case.name, SHA1, case.data) for case in run_listing.vectors()]
-    seeds = make_files.seed_range("0-59")
-    made = [File(file.name, kind, file.data) for kind in PROVED for file in make_files.every(seeds, kind=kind)]
+    made = made_files()
     # A search on each of many levels takes seconds a call under the emulator.
     slow = re.compile(r"searches on all levels to (64|128)")
     deep = [file for file in given.deep if not slow.match(file.name)]
@@ -263,6 +262,15 @@ def answers(report: Report, given: Given) -> None:
     with ThreadPoolExecutor(os.cpu_count()) as pool:
         for block, outs in zip(blocks, pool.map(lambda block: both(commands, block), blocks)):
             compare(report, block, *outs)
+
+
+def made_files() -> list:
+    """Made files of each kind of object names. The emulator is slow: the kinds share the seeds."""
+    files = []
+    for kind, seeds in zip(ALL, ("0-29", "30-59")):
+        every = make_files.every(make_files.seed_range(seeds), kind=kind)
+        files += [File(f"{kind.name}: {file.name}", kind, file.data) for file in every]
+    return files
 
 
 def both(commands: dict, files: list) -> list:

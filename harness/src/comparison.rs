@@ -174,12 +174,6 @@ impl Comparison {
         &buffer[name.offset..name.offset + name.length]
     }
 
-    /// Makes a call of the independent library alone, with a workspace and an output of these lengths.
-    pub fn independent(&mut self, kind: u32, call: &Call, work: usize, room: usize) -> Reply {
-        self.blank(work, room);
-        self.theirs_of(kind, call)
-    }
-
     /// Makes a call to both, with workspaces and outputs of these lengths, and compares all.
     pub fn both(
         &mut self,

@@ -8,11 +8,8 @@ pub const OBJECT: usize = 32;
 /// An object name with room for any kind.
 pub type Object = [u8; OBJECT];
 
-/// The kinds that the proved library takes: these are drawn, compared and measured. The independent library takes all.
-pub const KINDS: &[Kind] = &Kind::ALL;
-
 /// Numbers that no kind has.
-const UNKNOWN: [u32; 5] = [0, 3, 20, 0x0100_0000, u32::MAX];
+pub const UNKNOWN: [u32; 5] = [0, 3, 20, 0x0100_0000, u32::MAX];
 
 #[derive(Clone, Copy, Debug, PartialEq, Eq, PartialOrd, Ord)]
 pub enum Kind {
@@ -76,10 +73,4 @@ impl Kind {
     pub fn object_of(self, value: u8) -> Object {
         self.object(&[value; OBJECT])
     }
-}
-
-/// Numbers that the proved library refuses as a kind.
-pub fn refused() -> impl Iterator<Item = u32> {
-    let others = Kind::ALL.into_iter().filter(|kind| !KINDS.contains(kind));
-    UNKNOWN.into_iter().chain(others.map(Kind::number))
 }

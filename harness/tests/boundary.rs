@@ -8,7 +8,7 @@ use harness::comparison::Comparison;
 use harness::index_file::{list_entry, File};
 use harness::inputs::requests::{self, Call};
 use harness::inputs::{self, Input};
-use harness::kind::{self, Kind, Object, KINDS, OBJECT};
+use harness::kind::{Kind, Object, OBJECT, UNKNOWN};
 use harness::lent::{Edge, Lent, Place};
 use harness::random::Random;
 use harness::replies::{Fields, WORKSPACE};
@@ -28,7 +28,7 @@ answers!(by_harness, ffi);
 
 /// The vectors and some drawn inputs, each with calls of every sort.
 fn questions() -> impl Iterator<Item = (Input, Vec<Call>)> {
-    let stored = KINDS.iter().flat_map(|&kind| {
+    let stored = Kind::ALL.into_iter().flat_map(|kind| {
         let vectors = vectors::all(kind).into_iter();
         vectors.map(move |vector| inputs::stored(kind, &vector.file))
     });
@@ -105,7 +105,7 @@ fn unknown_kinds_are_refused() {
     for (input, calls) in questions() {
         for call in &calls {
             lend(&mut comparison, &input.bytes, call, Edge::End);
-            for kind in kind::refused() {
+            for kind in UNKNOWN {
                 for work in [0, WORKSPACE - 1, WORKSPACE, WORKSPACE + 9] {
                     let refusal = comparison.unknown_kind(kind, call, work, 100).unwrap();
                     let short = call.works() && work < WORKSPACE;
@@ -124,7 +124,7 @@ fn unknown_kinds_are_refused() {
 /// The same written out, with nothing lent but a workspace and arrays.
 #[test]
 fn an_unknown_kind_without_a_file() {
-    for kind in kind::refused() {
+    for kind in UNKNOWN {
         let mut work = [0xa5; WORKSPACE + 1];
         let (mut reply, mut fields) = ([7; 5], [7; 14]);
         let mut object = [7; OBJECT];
@@ -159,7 +159,7 @@ fn an_unknown_kind_without_a_file() {
 /// A step has no workspace: 29 comes first.
 #[test]
 fn an_unknown_kind_of_a_step() {
-    for kind in kind::refused() {
+    for kind in UNKNOWN {
         let (mut reply, mut fields) = ([7; 7], [7; 14]);
         let mut object = [7; OBJECT];
         // SAFETY: the file has no byte, and the others are arrays.
@@ -221,7 +221,10 @@ fn expected(kind: Kind, fields: Fields) -> Vec<u8> {
 
 #[test]
 fn any_number_but_0_sets_a_flag() {
-    for (&kind, flags) in KINDS.iter().flat_map(|kind| (0..8).map(move |n| (kind, n))) {
+    for (kind, flags) in Kind::ALL
+        .into_iter()
+        .flat_map(|kind| (0..8).map(move |n| (kind, n)))
+    {
         let fields = Fields {
             assume_valid: flags & 1 > 0,
             skip_worktree: flags & 2 > 0,
@@ -239,7 +242,7 @@ fn any_number_but_0_sets_a_flag() {
 #[test]
 fn bytes_after_an_object_name_play_no_part() {
     let mut random = Random(17);
-    for &kind in KINDS {
+    for kind in Kind::ALL {
         let fields = list_entry(kind);
         let (numbers, width) = (fields.numbers(1), kind.width());
         let written = expected(kind, fields);

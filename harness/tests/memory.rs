@@ -5,7 +5,7 @@
 use harness::boundary::Boundary;
 use harness::ffi::HASHES;
 use harness::inputs::requests::Call;
-use harness::kind::{Kind, KINDS};
+use harness::kind::Kind;
 use harness::lent::{Edge, Lent, Place};
 use harness::replies::{Fields, WORKSPACE};
 use harness::vectors;
@@ -123,8 +123,8 @@ impl Lending {
 #[track_caller]
 fn every_call_stays_within(edge: Edge) {
     let mut lending = Lending::new(edge);
-    let vectors = |&kind| vectors::all(kind).into_iter().map(move |v| (kind, v.file));
-    for (kind, file) in KINDS.iter().flat_map(vectors) {
+    let vectors = |kind| vectors::all(kind).into_iter().map(move |v| (kind, v.file));
+    for (kind, file) in Kind::ALL.into_iter().flat_map(vectors) {
         lending.kind = kind;
         lending.file.read_only(&file, edge);
         lending.calls_that_read();

@@ -4,7 +4,7 @@
 
 use harness::ffi::HASHES;
 use harness::hostile::{self, Case};
-use harness::kind::{Kind, Object, KINDS};
+use harness::kind::{Kind, Object};
 use harness::replies::{Fields, WORKSPACE};
 use harness::{ffi, index_file};
 use nerupazhil::{Index, ObjectName, Refusal, Version};
@@ -122,7 +122,7 @@ fn run(kib: usize, kind: Kind, case: Case) {
 
 #[test]
 fn every_call_runs_on_shallow_trees_with_little_stack() {
-    for &kind in KINDS {
+    for kind in Kind::ALL {
         let mut cases = Vec::new();
         for levels in [1, 2, 4, SHALLOW] {
             cases.extend(hostile::deep_cases(kind, levels, SHORT));
@@ -139,7 +139,7 @@ fn every_call_runs_on_shallow_trees_with_little_stack() {
 
 #[test]
 fn every_call_runs_on_deep_trees_with_little_stack() {
-    for &kind in KINDS {
+    for kind in Kind::ALL {
         for levels in [64, 128] {
             let mut cases = hostile::deep_cases(kind, levels, SHORT);
             cases.extend(hostile::search_cases(kind, levels));

@@ -4,7 +4,7 @@
 #![deny(warnings)]
 
 use harness::index_file::{letters, node, File};
-use harness::kind::{Kind, KINDS};
+use harness::kind::Kind;
 use harness::random::Random;
 use harness::replies::WORKSPACE;
 use harness::{ffi, opponent};
@@ -113,7 +113,7 @@ fn wide_directories_get_the_simple_answers() {
         }
         arrange(&mut random, &mut nodes);
         let version = *random.pick(&[2, 4]);
-        let kind = KINDS[number as usize % KINDS.len()];
+        let kind = Kind::ALL[number as usize % Kind::ALL.len()];
         let bytes = file(&mut random, kind, version, &nodes);
         let (mut ours, mut theirs) = (vec![1; WORKSPACE], vec![1; WORKSPACE]);
         let reply = ffi::check(kind.number(), &bytes, &mut ours);

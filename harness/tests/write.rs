@@ -6,7 +6,7 @@
 use harness::comparison::{Comparison, Reply};
 use harness::index_file::{self, list_entry};
 use harness::inputs::requests::Call;
-use harness::kind::{Kind, KINDS};
+use harness::kind::Kind;
 use harness::lent::{Edge, Place};
 use harness::replies::{Fields, WriteReply, WORKSPACE};
 use harness::{ffi, hostile};
@@ -94,7 +94,7 @@ fn regular(kind: Kind) -> Fields {
 
 #[test]
 fn a_plain_file_is_rewritten_as_it_is() {
-    for &kind in KINDS {
+    for kind in Kind::ALL {
         let file = example(kind);
         assert_eq!(written(kind, &file, Call::Rewrite(0), file.len()), Ok(file));
     }
@@ -102,7 +102,7 @@ fn a_plain_file_is_rewritten_as_it_is() {
 
 #[test]
 fn a_put_of_the_record_that_is_there() {
-    for &kind in KINDS {
+    for kind in Kind::ALL {
         let put = || Call::Put(0, b"a/c".to_vec(), regular(kind));
         let tree = b"TREE\0\0\0\x0d\x00-1 1\na\x00-1 0\n";
         let rows = [b"a-b", b"a/b", b"a/c"].map(|name| row(kind, name));
@@ -115,7 +115,7 @@ fn a_put_of_the_record_that_is_there() {
 
 #[test]
 fn a_remove_beside_a_directory() {
-    for &kind in KINDS {
+    for kind in Kind::ALL {
         let head = b"DIRC\0\0\0\x02\0\0\0\x02";
         let tree = tree(kind, &[(b"\x00-1 1\n", None), (b"a\x002 0\n", Some(0x34))]);
         let after = with_checksum(kind, &[head, &row(kind, b"a/b"), &row(kind, b"a/c"), &tree]);
@@ -127,7 +127,7 @@ fn a_remove_beside_a_directory() {
 
 #[test]
 fn a_put_that_needs_the_extended_word() {
-    for &kind in KINDS {
+    for kind in Kind::ALL {
         let fields = Fields {
             mode: 0o100755,
             object: kind.object_of(0x22),
@@ -176,7 +176,7 @@ fn null_pointers_are_empty_slices() {
 #[test]
 fn empty_slices_are_refused_by_number() {
     let mut work = vec![0; WORKSPACE];
-    for &kind in KINDS {
+    for kind in Kind::ALL {
         let file = index_file::File::new(kind, 2).finish();
         let (number, entry) = (kind.number(), list_entry(kind));
         assert_eq!(ffi::rewrite(number, &[], &mut work, &mut [], 0), refused(1));

@@ -16,7 +16,7 @@
 use harness::comparison::{Comparison, Reply};
 use harness::inputs::requests::{self, Call};
 use harness::inputs::{self, Input, Shape};
-use harness::kind::{self, Kind, KINDS};
+use harness::kind::{Kind, UNKNOWN};
 use harness::lent::{Edge, Place};
 use harness::random::Random;
 use harness::replies::{CheckReply, WriteReply, WORKSPACE};
@@ -288,7 +288,7 @@ impl Questions {
         calls: &[Call],
         input: &Input,
     ) -> Result<(), String> {
-        for &kind in KINDS.iter().filter(|kind| **kind != input.kind) {
+        for kind in Kind::ALL.into_iter().filter(|kind| *kind != input.kind) {
             let call = random.pick(calls);
             self.kind = kind;
             self.lend(random, &input.bytes, call.name());
@@ -302,15 +302,14 @@ impl Questions {
         Ok(())
     }
 
-    /// Makes one of the calls with a kind of object names that the proved library does not take.
+    /// Makes one of the calls with a number that no kind has.
     fn unknown_kind(
         &mut self,
         random: &mut Random,
         calls: &[Call],
         input: &Input,
     ) -> Result<(), String> {
-        let unknown: Vec<u32> = kind::refused().collect();
-        let (kind, call) = (*random.pick(&unknown), random.pick(calls));
+        let (kind, call) = (*random.pick(&UNKNOWN), random.pick(calls));
         self.lend(random, &input.bytes, call.name());
         let (work, room) = (requests::workspace(random), random.below(100));
         if let Some(refusal) = self.comparison.unknown_kind(kind, call, work, room)? {

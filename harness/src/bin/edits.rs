@@ -13,7 +13,7 @@
 use harness::comparison::{Comparison, Reply};
 use harness::edits::{drawn, Answer, Case, GROUPS, LARGE};
 use harness::inputs::requests::Call;
-use harness::kind::{Kind, KINDS};
+use harness::kind::Kind;
 use harness::lent::{Edge, Place};
 use harness::replies::WORKSPACE;
 use std::env;
@@ -38,7 +38,7 @@ fn main() {
         passed: 0,
         failed: 0,
     };
-    for &kind in KINDS {
+    for kind in Kind::ALL {
         tests.kind(kind, first..first + count);
     }
     println!("{} passed, {} failed", tests.passed, tests.failed);

@@ -1,10 +1,6 @@
 //! Answers requests to list, rewrite and edit index files; `tests/edit_requests.py` says how they are spelled. Each is
 //! answered by the proved library and by the independent one: the program ends with status 1 where these differ or a
 //! call did more than it may.
-//!
-//!     serve [--independent]
-//!
-//! With --independent the independent library is asked alone.
 
 #![deny(warnings)]
 
@@ -14,7 +10,6 @@ use harness::kind::{Kind, Object, OBJECT};
 use harness::lent::{Edge, Place};
 use harness::listing;
 use harness::replies::{Fields, WORKSPACE};
-use std::env;
 use std::fmt::Display;
 use std::io::{self, BufRead, BufReader, BufWriter, Read, Write};
 use std::process::exit;
@@ -24,17 +19,10 @@ use std::str::{FromStr, SplitWhitespace};
 const WORK: usize = WORKSPACE + 100;
 
 fn main() {
-    let words: Vec<String> = env::args().skip(1).collect();
-    let alone = match &words[..] {
-        [] => false,
-        [option] if option == "--independent" => true,
-        _ => die("usage: serve [--independent]"),
-    };
     let mut input = BufReader::new(io::stdin().lock());
     let mut output = BufWriter::new(io::stdout().lock());
     let mut server = Server {
         comparison: Comparison::new(Place::Pages),
-        alone,
     };
     while let Some(request) = Request::read(&mut input) {
         let sent = server.answer(&request, &mut output);
@@ -53,8 +41,6 @@ fn die(why: impl Display) -> ! {
 
 struct Server {
     comparison: Comparison,
-    /// Whether the independent library is asked alone.
-    alone: bool,
 }
 
 impl Server {
@@ -98,14 +84,11 @@ impl Server {
         })
     }
 
-    /// The reply of a call, of both libraries where both are asked.
+    /// The reply of a call, by both libraries.
     fn reply(&mut self, request: &Request, call: &Call) -> Reply {
         let comparison = &mut self.comparison;
         comparison.lend_name(call.name(), Edge::End);
         let (kind, room) = (request.kind.number(), request.room);
-        if self.alone {
-            return comparison.independent(kind, call, WORK, room);
-        }
         let asked = comparison.both(kind, call, WORK, room);
         let stay = comparison.inputs_stay(&request.file, call.name());
         match asked.and_then(|reply| stay.and(Ok(reply))) {

@@ -8,7 +8,7 @@
 #![deny(warnings)]
 
 use harness::deepest;
-use harness::kind::KINDS;
+use harness::kind::Kind;
 use std::path::Path;
 use std::process::exit;
 use std::{env, fs, io};
@@ -16,8 +16,8 @@ use std::{env, fs, io};
 fn write(folder: &Path) -> io::Result<()> {
     fs::create_dir_all(folder)?;
     let mut rows = String::new();
-    for kind in KINDS {
-        for (number, file) in deepest::files(*kind).iter().enumerate() {
+    for kind in Kind::ALL {
+        for (number, file) in deepest::files(kind).iter().enumerate() {
             let (levels, what, kind) = (file.levels, &file.case.name, kind.number());
             let name = format!("{kind}-{number:03}.index");
             fs::write(folder.join(&name), &file.case.bytes)?;

@@ -9,7 +9,7 @@ pub mod records;
 pub mod requests;
 
 use crate::index_file::{letters, padding, LARGEST};
-use crate::kind::{Kind, KINDS};
+use crate::kind::Kind;
 use crate::opponent;
 use crate::random::Random;
 use crate::replies::WORKSPACE;
@@ -139,9 +139,9 @@ fn kind(seed: u64, number: u64, shape: Shape, nth: u64) -> Kind {
     let drawn = match shape {
         Shape::Cut => (nth / (2 * CUTS)) as usize,
         Shape::Limit => (nth / LIMITS) as usize,
-        _ => Random::of(!seed, !number).below(KINDS.len()),
+        _ => Random::of(!seed, !number).below(Kind::ALL.len()),
     };
-    KINDS[drawn % KINDS.len()]
+    Kind::ALL[drawn % Kind::ALL.len()]
 }
 
 /// The shape of a number, and how many of that shape are before it.

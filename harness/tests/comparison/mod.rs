@@ -3,7 +3,7 @@
 use std::fmt::Debug;
 
 use harness::index_file::{letters, list_entry, node, object, File, LARGEST};
-use harness::kind::{Kind, KINDS};
+use harness::kind::Kind;
 use harness::replies::{Fields, StepReply, WORKSPACE};
 use harness::{ffi, opponent, vectors};
 
@@ -176,7 +176,7 @@ fn small(kind: Kind, version: u32, valid: bool) -> Vec<u8> {
 /// Small files of each kind.
 fn small_files() -> Vec<(Kind, Vec<u8>)> {
     let mut files = Vec::new();
-    for &kind in KINDS {
+    for kind in Kind::ALL {
         let sorts = [(2, true), (3, false), (4, true), (4, false)];
         files.extend(sorts.map(|(version, valid)| (kind, small(kind, version, valid))));
     }
@@ -185,7 +185,7 @@ fn small_files() -> Vec<(Kind, Vec<u8>)> {
 
 #[test]
 fn stored_files() {
-    for &kind in KINDS {
+    for kind in Kind::ALL {
         for vector in vectors::all(kind) {
             all_calls(kind, &vector.file);
         }
@@ -194,7 +194,7 @@ fn stored_files() {
 
 #[test]
 fn files_for_single_rules() {
-    for &kind in KINDS {
+    for kind in Kind::ALL {
         for (file, _) in cases::all(kind) {
             all_calls(kind, &file);
         }
@@ -215,7 +215,7 @@ fn all_cuts_of_small_files() {
 
 #[test]
 fn results_at_the_limit() {
-    for &kind in KINDS {
+    for kind in Kind::ALL {
         // With SHA-256 the bytes around entries are 44, so that no file of entries alone has just the longest length.
         let (longest, most) = match kind {
             Kind::Sha1 => (929, LARGEST),

@@ -5,7 +5,7 @@ use crate::levels::{self, AIM, SHALLOW_AIM};
 use crate::part::{progress, Part};
 use crate::table::{kib, Table};
 use harness::deepest::{files, SHALLOW};
-use harness::kind::{Kind, KINDS};
+use harness::kind::Kind;
 
 const TEXT: &str = "The deepest stack of each call in KiB: on files of every depth, whose cache trees have up to 128 levels, \
     and on those of at most 16 levels; the root is the first. The files are chains of directories, searches of every \
@@ -46,9 +46,9 @@ type Deepest = Vec<(usize, String)>;
 fn deepest() -> Result<(Deepest, Deepest), String> {
     let mut any = vec![(0, String::new()); CALLS.len()];
     let mut shallow = any.clone();
-    let files = KINDS
-        .iter()
-        .flat_map(|&kind| files(kind).into_iter().map(move |file| (kind, file)));
+    let files = Kind::ALL
+        .into_iter()
+        .flat_map(|kind| files(kind).into_iter().map(move |file| (kind, file)));
     for (kind, file) in files {
         let name = named(kind, &file.case.name);
         progress("stack", &name);
