@@ -4,9 +4,9 @@ mod common;
 
 use std::iter::FusedIterator;
 
-use common::{number, stored};
+use common::{laid_out, number, stored};
 use nerupazhil::raw::{StepReply, SHA1};
-use nerupazhil::{calls, walk, Kind, Walk, EMPTY, WORKSPACE};
+use nerupazhil::{calls, walk, Kind, ObjectName, Walk, EMPTY, WORKSPACE};
 
 fn start(file: &[u8]) -> Walk<'_> {
     walk(Kind::Sha1, file, &mut [0; WORKSPACE]).unwrap()
@@ -44,6 +44,25 @@ fn a_clone_goes_its_own_way() {
     assert!(start(&file).skip(1).eq(rest.iter().copied()));
     assert_eq!(start(&file).next(), first);
     assert_eq!(walk.count(), rest.len());
+}
+
+/// Steps of either kind, whose entries have other lengths: 72 bytes with SHA-1 names, 88 with SHA-256 names.
+#[test]
+fn a_walk_goes_over_both_kinds() {
+    let names = [&b"saw/cut"[..], b"saw/old"].map(<[u8]>::to_vec);
+    for (kind, second) in [(Kind::Sha1, 12 + 72), (Kind::Sha256, 12 + 88)] {
+        let file = laid_out(kind, 2, &names);
+        let mut walk = walk(kind, &file, &mut [0; WORKSPACE]).unwrap();
+        for (name, at) in names.iter().zip([second, file.len() - kind.width()]) {
+            let entry = walk.next().unwrap();
+            assert_eq!(
+                (entry.name, entry.fields.object),
+                (&name[..], ObjectName::zero(kind))
+            );
+            assert!(format!("{walk:?}").starts_with(&format!("Walk {{ at: {at},")));
+        }
+        assert!(walk.next().is_none());
+    }
 }
 
 /// The workspace is free again, and names outlive the walk.
