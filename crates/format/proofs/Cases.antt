@@ -10,6 +10,7 @@ use Rattle.format.specs.Bytes.{put16, put32, put32s, putN, be16, be32, b
 use Rattle.format.specs.Names.{componentsFrom, components, okComponent, okComponents, okName, lengthField, compare, common}
 use Rattle.format.specs.Records.{modeOf, valid, invalid, nil, tree, Tree, width, Records}
 use Rattle.format.specs.Layout.{okMode, fixedLength, entryLength, flagsOf, wordOf, okNodeName, has, distinct, under, inside, files, allValid, sum, okCount, okCounts, okTreeCounts, optional, trees, undos, names}
+use Rattle.format.specs.Checksum.{matches, checksumOf, checksumIn}
 use Rattle.format.specs.Reading.{good, need, shift, bind}
 use Rattle.format.specs.Reader.{isSet, okWord, plainLength, readPlain, readN, joined, readName, entryOf, readTail, readFixed, readEntry, readEntries, readText, countIn, needSome, readCount, readSubtrees, readObject, readNode, readSiblings, readForest, readNodes, readTree, readData, readExtension, readExtensions, readBody, readFile}
 use Rattle.format.specs.Writer.{needsWord, writePlain, writePacked, writeName, writeRest, writeEntry, writeEntries, digitsOf, decimalOf, writeCount, writeObject, writeNode, writeForest, writeTree, writeExtension, writeCacheTree, writeResolveUndo, writeExtensions, writeHeader, writeBody, writeFile}
@@ -99,13 +100,13 @@ Table =
     × (compare a/b a-b ≡ Above)
     × (length wholeBytes ≡ 51)
     × (writeTree whole ≡ wholeBytes)
-    × (readFile 20 hash (indexBytes 5 wholeBytes) ≡ good (record { version = 2; end = 228; records = index 5 whole }) 287)
+    × (readFile 20 hash (indexBytes 5 wholeBytes) ≡ good (record { version = 2; checksum = matches; end = 228; records = index 5 whole }) 287)
     × (length clearedBytes ≡ 13)
     × (writeTree cleared ≡ clearedBytes)
     × (putRecord 20 (fileEntry 0x81a4 6 a/c) (index 5 whole) ≡ index 6 cleared)
     × (putRequest 20 hash 0 (fileEntry 0x81a4 6 a/c) 269 (index 5 whole) ≡ good (indexBytes 6 clearedBytes) 269)
-    × (readFile 20 hash (indexBytes 6 clearedBytes) ≡ good (record { version = 2; end = 228; records = index 6 cleared }) 249)
+    × (readFile 20 hash (indexBytes 6 clearedBytes) ≡ good (record { version = 2; checksum = matches; end = 228; records = index 6 cleared }) 249)
 
 table : Table
-unfolding whole wholeBytes cleared clearedBytes cut cutter rest hash put16 put32 put32s putN be16 be32 be32s two eqList before lacks zeros digits decimal valueFrom value componentsFrom components okComponent okComponents okName lengthField compare common modeOf width okMode fixedLength entryLength flagsOf wordOf okNodeName has distinct under inside files allValid sum okCount okCounts okTreeCounts optional trees undos names need shift bind isSet okWord plainLength readPlain readN joined readName entryOf readTail readFixed readEntry readEntries readText countIn needSome readCount readSubtrees readObject readNode readSiblings readForest readNodes readTree readData readExtension readExtensions readBody readFile needsWord writePlain writePacked writeName writeRest writeEntry writeEntries digitsOf decimalOf writeCount writeObject writeNode writeForest writeTree writeExtension writeCacheTree writeResolveUndo writeExtensions writeHeader writeBody writeFile goesBefore sameKey putEntry invalidNode invalidPath invalidTree invalidCacheTree putRecord anyWord okAsked versionFor fitting writing putRequest
+unfolding whole wholeBytes cleared clearedBytes cut cutter rest hash put16 put32 put32s putN be16 be32 be32s two eqList before lacks zeros digits decimal valueFrom value componentsFrom components okComponent okComponents okName lengthField compare common modeOf width okMode fixedLength entryLength flagsOf wordOf okNodeName has distinct under inside files allValid sum okCount okCounts okTreeCounts optional trees undos names need shift bind isSet okWord plainLength readPlain readN joined readName entryOf readTail readFixed readEntry readEntries readText countIn needSome readCount readSubtrees readObject readNode readSiblings readForest readNodes readTree readData readExtension readExtensions checksumOf checksumIn readBody readFile needsWord writePlain writePacked writeName writeRest writeEntry writeEntries digitsOf decimalOf writeCount writeObject writeNode writeForest writeTree writeExtension writeCacheTree writeResolveUndo writeExtensions writeHeader writeBody writeFile goesBefore sameKey putEntry invalidNode invalidPath invalidTree invalidCacheTree putRecord anyWord okAsked versionFor fitting writing putRequest
 table = (refl, refl, refl, refl, refl, refl, refl, refl, refl, refl, refl, refl, refl, refl, refl, refl, refl, refl, refl, refl, refl, refl, refl, refl, refl, refl, refl, refl, refl, refl, refl, refl)

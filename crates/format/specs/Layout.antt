@@ -3,6 +3,7 @@ use mathlib.Core.Path.{_≡_}
 use mathlib.Core.List.{List, [], _∷_, _++_, map}
 use mathlib.Core.Bool.{Bool, true, false, cond, not, _&&_, _||_}
 use mathlib.Core.Option.{Option, none, some}
+use mathlib.Core.Logic.{_⊎_}
 use Prim.Native.Nat.{ℕ, suc, _+_, _-_, _*_, _/_, _≤_, _<_}
 use lib.ListN.{length, take, drop, getD, replicate}
 use lib.Dec.{eqb, leb}
@@ -302,9 +303,11 @@ pub record Body (w : ℕ) (r : Records) (b : List ℕ) : Type 0 where
   pub undo-is : undos extensions ≡ only (r .resolveUndo)
   pub bytes : b ≡ DIRC ++ (put32 version ++ (put32 (length (r .entries)) ++ (entryBytes ++ extensionBytes)))
 
--- the records r spell the file f: at most 16,777,216 bytes, ended by the hash of all before
+-- the records r spell the file f: at most 16,777,216 bytes, ended by a checksum, which is the hash of all before or was left out: w zeros
 pub record Spells (w : ℕ) (hash : List ℕ → List ℕ) (r : Records) (f : List ℕ) : Type 0 where
   pub body : List ℕ
   pub body-is : Body w r body
-  pub file-is : f ≡ body ++ hash body
+  pub checksum : List ℕ
+  pub right-or-left-out : (checksum ≡ hash body) ⊎ (checksum ≡ replicate w 0)
+  pub file-is : f ≡ body ++ checksum
   pub short : length f ≤ 16777216

@@ -10,6 +10,7 @@ use Rattle.format.specs.Bytes.{be16, be32, be32s, two, eqList, before, z
 use Rattle.format.specs.Names.{okName, lengthField, compare, isBelow, rises}
 use Rattle.format.specs.Records.{Entry, Key, keyOf, start, Count, valid, invalid, Node, Forest, nil, tree, Tree, Stage, Undo, Records}
 use Rattle.format.specs.Layout.{okMode, fixedLength, entryLength, okNodeName, distinct, okTreeCounts, modeText, someStage, Extension, cacheTree, resolveUndo, other, TREE, REUC, DIRC, optional, trees, undos, names}
+use Rattle.format.specs.Checksum.{Checksum, checksumIn, isSound}
 use Rattle.format.specs.Reading.{Read, bad, good, need, shift, bind}
 
 -- ---- one entry
@@ -262,19 +263,27 @@ abbrev pub first : {A : Type 0} → List A → Option A
 first [] = none
 first (a ∷ rest) = some a
 
--- what a whole file says: its version, the byte where its entries end, its records
+-- what a whole file says: its version, what its checksum is, the byte where its entries end, its records
 pub record Contents : Type 0 where
   pub version : ℕ
+  pub checksum : Checksum
   pub end : ℕ
   pub records : Records
 
--- the body b of version v
-unfoldable pub readBody : ℕ → ℕ → List ℕ → Read Contents
-readBody w v b =
+-- the body b of version v, of a file whose checksum is known
+unfoldable pub readBody : ℕ → ℕ → Checksum → List ℕ → Read Contents
+readBody w v sum b =
     shift 12
     (bind (readEntries w v (be32 b 8) start 12 (drop 12 b)) λ es m.
     bind (readExtensions w (names es) (length (drop m (drop 12 b))) noneSeen (12 + m) (drop m (drop 12 b))) λ xs n.
-    good (record { version = v; end = 12 + m; records = record { entries = es; cacheTree = first (trees xs); resolveUndo = first (undos xs) } }) 0)
+    good
+    (record {
+      version = v;
+      checksum = sum;
+      end = 12 + m;
+      records = record { entries = es; cacheTree = first (trees xs); resolveUndo = first (undos xs) };
+    })
+    0)
 
 -- the whole file f
 unfoldable pub readFile : ℕ → (List ℕ → List ℕ) → List ℕ → Read Contents
@@ -283,5 +292,4 @@ readFile w hash f =
     (need (leb (length f) 16777216) 2 0
     (need (eqList (take 4 f) DIRC) 3 0
     (need (leb 2 (be32 f 4) && leb (be32 f 4) 4) 4 0
-    (need (eqList (drop (length f - w) f) (hash (take (length f - w) f))) 5 (length f - w)
-    (readBody w (be32 f 4) (take (length f - w) f))))))
+    (need (isSound (checksumIn w hash f)) 5 (length f - w) (readBody w (be32 f 4) (checksumIn w hash f) (take (length f - w) f))))))
