@@ -7,11 +7,14 @@ use Prim.Native.Nat.{ℕ, _+_, _-_, _≤_}
 use lib.ListN.{length, take, drop, getElem?, replicate}
 use lib.Dec.{eqb, leb, ltb}
 use Rattle.format.specs.Records as F
+use Rattle.format.specs.Checksum as M
 use Rattle.format.specs.Layout.{isValid}
 use Rattle.format.specs.Reading.{Read, bad, good}
 use Rattle.format.specs.Reader.{Contents}
 use Rattle.answers.specs.declared.Count as C
 use Rattle.answers.specs.declared.Count.the-variants.{Absent, Present}
+use Rattle.answers.specs.declared.Checksum.{Checksum}
+use Rattle.answers.specs.declared.Checksum.the-variants.{Matches, LeftOut, Wrong}
 use Rattle.answers.specs.declared.Summary.{Summary}
 use Rattle.answers.specs.declared.Checked.{Checked}
 use Rattle.answers.specs.declared.Checked.the-variants as K
@@ -50,6 +53,11 @@ abbrev pub undoCount : Option (List F.Undo) → C.Count
 undoCount none = Absent
 undoCount (some us) = Present (length us)
 
+abbrev pub checksumAs : M.Checksum → Checksum
+checksumAs M.matches = Matches
+checksumAs M.leftOut = LeftOut
+checksumAs M.wrong = Wrong
+
 abbrev pub summaryOf : Contents → Summary
 summaryOf c = record {
   version = c .version;
@@ -57,6 +65,7 @@ summaryOf c = record {
   end = c .end;
   nodes = treeCount (c .records .cacheTree);
   records = undoCount (c .records .resolveUndo);
+  checksum = checksumAs (c .checksum);
 }
 
 abbrev pub checkedOf : Read Contents → Checked

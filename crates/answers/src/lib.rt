@@ -12,13 +12,21 @@ pub enum Count {
     Present(u32),
 }
 
-// What check tells of an accepted file; end is the byte where entries end.
+// What the last bytes of a file are: the hash of all before, zeros in its place, or neither.
+pub enum Checksum {
+    Matches,
+    LeftOut,
+    Wrong,
+}
+
+// What check tells of an accepted file; end is the byte where entries end. The checksum is not wrong.
 pub struct Summary {
     pub version: u32,
     pub entries: u32,
     pub end: usize,
     pub nodes: Count,
     pub records: Count,
+    pub checksum: Checksum,
 }
 
 // The answer of check: a refusal's number and place, or what an accepted file has.

@@ -8,8 +8,10 @@ use lib.Seq.{drop-drop}
 use Rattle.format.specs.Bytes.{be32}
 use Rattle.format.specs.Records as F
 use Rattle.format.specs.Layout.{Extension, trees, undos, names}
+use Rattle.format.specs.Checksum as M
 use Rattle.format.specs.Reading.{bad, good, shift, bind}
 use Rattle.format.specs.Reader.{Contents, noneSeen, readEntries, readExtensions, readBody, first}
+use Rattle.answers.specs.Answers.{checksumAs}
 use Rattle.entries_run.specs.declared.Run.the-variants as R
 use Rattle.entries_run.specs.Steps.{EntriesRead, runOf}
 use Rattle.entries_run.proofs.Steps.{entries-length, runOf-bad, runOf-good}
@@ -20,12 +22,12 @@ use Rattle.file_read.specs.Contents.{Contains}
 
 -- ---- the body
 
-module _ (w : ℕ) (v : ℕ) (b : List ℕ) (count : ℕ) (counted : count ≡ be32 b 8) where
-  no-entries : (n p : ℕ) → readEntries w v count F.start 12 (drop 12 b) ≡ bad n p → readBody w v b ≡ bad n p
+module _ (w : ℕ) (v : ℕ) (sum : M.Checksum) (b : List ℕ) (count : ℕ) (counted : count ≡ be32 b 8) where
+  no-entries : (n p : ℕ) → readEntries w v count F.start 12 (drop 12 b) ≡ bad n p → readBody w v sum b ≡ bad n p
   unfolding readBody bind shift
   no-entries n p e = rw (← counted, e)
 
-  pub body-no-entries : (n p : ℕ) → R.Bad n p ≡ runOf (readEntries w v count F.start 12 (drop 12 b)) → readBody w v b ≡ bad n p
+  pub body-no-entries : (n p : ℕ) → R.Bad n p ≡ runOf (readEntries w v count F.start 12 (drop 12 b)) → readBody w v sum b ≡ bad n p
   body-no-entries n p e = no-entries n p (runOf-bad _ n p e)
 
   module _ (es : List F.Entry) (m : ℕ) (entries : EntriesRead w v count b es m) where
@@ -33,21 +35,21 @@ module _ (w : ℕ) (v : ℕ) (b : List ℕ) (count : ℕ) (counted : count ≡ b
       rest : drop m (drop 12 b) ≡ drop (12 + m) b
       rest = drop-drop m 12 b
 
-      body-no-extensions : (n p : ℕ) → readExtensions w (names es) (length (drop end b)) noneSeen end (drop end b) ≡ bad n p → readBody w v b ≡ bad n p
+      body-no-extensions : (n p : ℕ) → readExtensions w (names es) (length (drop end b)) noneSeen end (drop end b) ≡ bad n p → readBody w v sum b ≡ bad n p
       unfolding readBody bind shift
       body-no-extensions n p e = rw (← counted, entries, rest, ← last, e)
 
       contents : List Extension → Contents
-      contents xs = record { version = v; end = end; records = record { entries = es; cacheTree = first (trees xs); resolveUndo = first (undos xs) } }
+      contents xs = record { version = v; checksum = sum; end = end; records = record { entries = es; cacheTree = first (trees xs); resolveUndo = first (undos xs) } }
 
       body-read : (xs : List Extension) (k : ℕ) → readExtensions w (names es) (length (drop end b)) noneSeen end (drop end b) ≡ good xs k
-          → readBody w v b ≡ good (contents xs) (12 + (m + (k + 0)))
+          → readBody w v sum b ≡ good (contents xs) (12 + (m + (k + 0)))
       unfolding readBody bind shift contents
       body-read xs k e = rw (← counted, entries, rest, ← last, e)
 
       body-contains : 12 ≤ length b → length b ≤ 16777216 → (found : Found)
           → E.Whole w b end (readExtensions w (names es) (length (drop end b)) noneSeen end (drop end b)) found
-          → Contains w (readBody w v b) b (record { version = v; count = count; end = end; found = found })
+          → Contains w (readBody w v sum b) b (record { version = v; count = count; end = end; found = found; checksum = checksumAs sum })
       unfolding contents
       body-contains least most found h =
           let taken : m ≡ end - 12 = omega arith in
@@ -58,6 +60,7 @@ module _ (w : ℕ) (v : ℕ) (b : List ℕ) (count : ℕ) (counted : count ≡ b
             least = least;
             most = most;
             version = refl;
+            checksum = refl;
             end = refl;
             counted = entries-length w v count F.start 12 (drop 12 b) es m entries;
             entries = entries ∙ ap (good es) taken;
@@ -69,9 +72,9 @@ module _ (w : ℕ) (v : ℕ) (b : List ℕ) (count : ℕ) (counted : count ≡ b
 
   -- after the run of entries, which ends at a place
   module _ (end : ℕ) (run : R.Good end ≡ runOf (readEntries w v count F.start 12 (drop 12 b))) (work work′ : List ℕ) where
-    pub body-refused : (n p : ℕ) → E.ExtensionsPassed w v count b work end work′ (X.Bad n p) → readBody w v b ≡ bad n p
+    pub body-refused : (n p : ℕ) → E.ExtensionsPassed w v count b work end work′ (X.Bad n p) → readBody w v sum b ≡ bad n p
     body-refused n p h = runOf-good _ end run λ es m e last. body-no-extensions es m e end last n p (h .answered es m e)
 
     pub body-accepted : (found : Found) → 12 ≤ length b → length b ≤ 16777216 → E.ExtensionsPassed w v count b work end work′ (X.Good found)
-        → Contains w (readBody w v b) b (record { version = v; count = count; end = end; found = found })
+        → Contains w (readBody w v sum b) b (record { version = v; count = count; end = end; found = found; checksum = checksumAs sum })
     body-accepted found least most h = runOf-good _ end run λ es m e last. body-contains es m e end last least most found (h .answered es m e)

@@ -8,6 +8,7 @@ use Rattle.format.specs.Layout.{TREE, REUC}
 use Rattle.format.specs.Reading.{Read, bad, good}
 use Rattle.format.specs.Reader.{Contents}
 use Rattle.format.specs.Places.{dataPlace}
+use Rattle.answers.specs.Answers.{checksumAs}
 use Rattle.entries_run.specs.Steps.{EntriesRead}
 use Rattle.extensions.specs.Found.{TreeFound, UndoFound}
 use Rattle.file_read.specs.declared.Parts.{Parts}
@@ -22,6 +23,7 @@ pub record Contains (w : ℕ) (x : Read Contents) (b : List ℕ) (parts : Parts)
   pub least : 12 ≤ length b
   pub most : length b ≤ 16777216
   pub version : contents .version ≡ parts .version
+  pub checksum : checksumAs (contents .checksum) ≡ parts .checksum
   pub end : contents .end ≡ parts .end
   pub counted : length (contents .records .entries) ≡ parts .count
   pub entries : EntriesRead w (parts .version) (parts .count) b (contents .records .entries) (parts .end - 12)

@@ -1,16 +1,21 @@
 // What is tested of a whole file before its entries are read: length, signature, version and checksum.
 ghost use mathlib.Core.Path.{_≡_};
 ghost use Prim.Native.Nat.{_≤_};
+ghost use lib.ListN.{length};
+ghost use Rattle.format.specs.Checksum.{checksumIn};
+ghost use Rattle.answers.specs.Answers.{checksumAs};
 ghost use Rattle.kinds.specs.Kinds.{widthOf, hashOf};
-ghost use Rattle.file_read.specs.Header.{isVersion, HeaderOf};
+ghost use Rattle.file_read.specs.Header.{isVersion, isWrong, HeaderOf};
+use answers::Checksum;
 
 // The most bytes that a file has.
 pub const LARGEST: usize = 16777216;
 
-// The version and the number of entries.
+// The version, the number of entries and what the checksum is.
 pub struct Opening {
     pub version: u32,
     pub count: u32,
+    pub checksum: Checksum,
 }
 
 // A refusal's number and place, or what an accepted header says.
@@ -29,7 +34,33 @@ fn version_ok(v: u32) -> bool
     v <= 4
 }
 
-// The refusals 1 to 5 in their order, or the version and the number of entries. w is the width of the kind's object names and of its checksum.
+// The check of the last w bytes.
+fn checksum_in(file: &[u8], kind: u32, w: usize) -> Checksum
+    requires { ⌜ (w ≡ widthOf kind) × (w ≤ 32) × (w ≤ length (now file)) ⌝ }
+    ensures { λ r. ⌜ r ≡ checksumAs (checksumIn w (hashOf kind) (now (file .entry))) ⌝ }
+{
+    let n = file.len() - w;
+    let digest = kinds::digest_of(kind, &file[..n]);
+    if fields::same(&file[n..], &digest[..w]) {
+        return Checksum::Matches;
+    }
+    if fields::all_zero(file, n, file.len()) {
+        return Checksum::LeftOut;
+    }
+    Checksum::Wrong
+}
+
+fn is_wrong(checksum: Checksum) -> bool
+    ensures { λ r. ⌜ r ≡ isWrong checksum ⌝ }
+{
+    match checksum {
+        Checksum::Matches => false,
+        Checksum::LeftOut => false,
+        Checksum::Wrong => true,
+    }
+}
+
+// The refusals 1 to 5 in their order, or what the header says. w is the width of the kind's object names and of its checksum.
 pub fn read_header(file: &[u8], kind: u32, w: usize) -> Header
     requires { ⌜ (w ≡ widthOf kind) × (w ≤ 32) ⌝ }
     ensures { λ r. ⌜ HeaderOf w (hashOf kind) (now (file .entry)) r ⌝ }
@@ -49,13 +80,13 @@ pub fn read_header(file: &[u8], kind: u32, w: usize) -> Header
     if !known {
         return Header::Bad(4, 0);
     }
-    let n = file.len() - w;
-    let digest = kinds::digest_of(kind, &file[..n]);
-    if !fields::same(&file[n..], &digest[..w]) {
-        return Header::Bad(5, n);
+    let checksum = checksum_in(file, kind, w);
+    if is_wrong(checksum) {
+        return Header::Bad(5, file.len() - w);
     }
     Header::Good(Opening {
         version: version,
         count: fields::read32(file, 8),
+        checksum: checksum,
     })
 }

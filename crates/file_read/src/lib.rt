@@ -5,13 +5,15 @@ ghost use mathlib.Core.Path.{_≡_};
 ghost use Prim.Native.Nat.{_≤_};
 ghost use lib.ListN.{length};
 ghost use Rattle.format.specs.Bytes.{be32};
+ghost use Rattle.format.specs.Checksum as F;
 ghost use Rattle.format.specs.Reader.{readBody};
 ghost use Rattle.format.specs.Places.{bodyIn};
 ghost use Rattle.kinds.specs.Kinds.{widthOf, readKind};
 ghost use Rattle.fields.specs.Workspace.{Frame};
 ghost use Rattle.entries_run.specs.Steps.{Room};
-ghost use Rattle.answers.specs.Answers.{inRoom, cleared};
+ghost use Rattle.answers.specs.Answers.{checksumAs, inRoom, cleared};
 ghost use Rattle.file_read.specs.Contents.{WholeOf};
+use answers::Checksum;
 use crate::header::Header;
 use entries_run::Run;
 use extensions::Extended;
@@ -23,6 +25,7 @@ pub struct Parts {
     pub count: u32,
     pub end: usize,
     pub found: Found,
+    pub checksum: Checksum,
 }
 
 // A refusal's number and place, or what the file has.
@@ -31,10 +34,10 @@ pub enum Whole {
     Good(Parts),
 }
 
-// The body b of version v with count entries.
-fn read_body(b: &[u8], v: u32, count: u32, work: &mut [u8], w: usize) -> Whole
+// The body b of version v with count entries, of a file whose checksum is known.
+fn read_body(b: &[u8], v: u32, count: u32, work: &mut [u8], w: usize, checksum: Checksum) -> Whole
     requires { ⌜ Room (now b) (now work) × (count ≡ be32 (now b) 8) × (1 ≤ w) × (w ≤ 32) ⌝ }
-    ensures { λ r. ⌜ WholeOf w (readBody w v (now (b .entry))) (now (b .entry)) r × Frame (now (work .entry)) (now (work .exit)) ⌝ }
+    ensures { λ r. ⌜ ((sum : F.Checksum) → checksum ≡ checksumAs sum → WholeOf w (readBody w v sum (now (b .entry))) (now (b .entry)) r) × Frame (now (work .entry)) (now (work .exit)) ⌝ }
 {
     let run = entries_run::run_entries(b, v, &mut *work, count, w);
     match run {
@@ -48,6 +51,7 @@ fn read_body(b: &[u8], v: u32, count: u32, work: &mut [u8], w: usize) -> Whole
                     count: count,
                     end: end,
                     found: found,
+                    checksum: checksum,
                 }),
             }
         }
@@ -68,7 +72,8 @@ pub fn read_whole(file: &[u8], work: &mut [u8], kind: u32) -> Whole
         Header::Bad(n, p) => Whole::Bad(n, p),
         Header::Good(h) => {
             let n = file.len() - w;
-            read_body(&file[..n], h.version, h.count, work, w)
+            let checksum = h.checksum;
+            read_body(&file[..n], h.version, h.count, work, w, checksum)
         }
     }
 }

@@ -1,23 +1,26 @@
 -- A whole file: it is accepted exactly when records spell it, one set of records only spells it, and what a cut of it can show.
 use mathlib.Core.Path.{_≡_, refl, sym, ap, _∙_}
+use mathlib.Core.Logic.{_⊎_, inl, inr}
 use mathlib.Core.List.{List, _++_, append-assoc}
 use mathlib.Core.Bool.{true, _&&_}
 use mathlib.Core.Option.{Option, none, some}
 use Prim.Native.Nat.{ℕ, _+_, _-_, _≤_, _<_}
 use native.Mathlib.Omega.{arith}
-use lib.ListN.{length, take, drop, length-append, take-append-drop}
+use lib.ListN.{length, take, drop, replicate, length-append, length-drop, length-replicate, take-append-drop}
 use lib.Seq.{take-at, drop-at, drop-drop, take-take, length-take-le}
 use lib.Dec.{leb}
 use borrow.Author.Tests.{le-leb, leb-true}
 use Rattle.format.specs.Bytes.{Bytes, be32, put32, eqList}
 use Rattle.format.specs.Records.{Entry, start, Records}
 use Rattle.format.specs.Layout.{trees, undos, only, DIRC, names, Body, Spells}
+use Rattle.format.specs.Checksum.{Checksum, checksumOf, checksumIn, isSound}
 use Rattle.format.specs.Reading.{good, need, shift, bind}
 use Rattle.format.specs.Reader.{readEntries, noneSeen, first, Contents, readBody, readFile}
 use Rattle.format_laws.proofs.Tests.{and-inv, and-both}
 use Rattle.format_laws.proofs.Lists.{eqList-true, eq-eqList}
 use Rattle.format_laws.proofs.Numbers.{bytes-take, bytes-drop, length-put32, be32-take, be32-at, be32-below, put32-be32}
 use Rattle.format_laws.proofs.Readings.{good-inv, need-inv, shift-inv, bind-inv}
+use Rattle.spelling.proofs.Checksums.{digest-matches, zeros-sound, sound-inv}
 use Rattle.spelling.proofs.Entries.{read-entries, entries-read}
 use Rattle.spelling.proofs.Extensions.{only-once, once-only, read-extensions, extensions-read}
 
@@ -65,12 +68,12 @@ first-only none l e = rw e refl
 first-only (some a) l e = rw e refl
 
 -- what a body that is spelled is read as
-abbrev pub contentsOf : {w : ℕ} {r : Records} {b : List ℕ} → Body w r b → Contents
-contentsOf {r = r} h = record { version = h .version; end = 12 + length (h .entryBytes); records = r }
+abbrev pub contentsOf : {w : ℕ} {r : Records} {b : List ℕ} → Checksum → Body w r b → Contents
+contentsOf {r = r} sum h = record { version = h .version; checksum = sum; end = 12 + length (h .entryBytes); records = r }
 
-read-body : (w : ℕ) (r : Records) (b : List ℕ) (h : Body w r b) → readBody w (h .version) b ≡ good (contentsOf h) (length b)
+read-body : (w : ℕ) (sum : Checksum) (r : Records) (b : List ℕ) (h : Body w r b) → readBody w (h .version) sum b ≡ good (contentsOf sum h) (length b)
 unfolding readBody shift bind
-read-body w r b h =
+read-body w sum r b h =
     let a = h .entryBytes in
     let x = h .extensionBytes in
     let count : be32 b 8 ≡ length (r .entries) = rw (h .bytes) (headed-count (h .version) (length (r .entries)) (a ++ x) (h .few)) in
@@ -84,9 +87,9 @@ read-body w r b h =
     ap length (h .bytes) ∙ headed-length (h .version) (length (r .entries)) (a ++ x) ∙ simp length-append (omega arith) in
     rw (long, count, rest) (simp (entries, after, extensions, t, u))
 
-body-read : (w v : ℕ) (b : List ℕ) (c : Contents) (m : ℕ) → Bytes b → 12 ≤ length b → take 4 b ≡ DIRC → be32 b 4 ≡ v → 2 ≤ v → v ≤ 4 → readBody w v b ≡ good c m → Body w (c .records) b
+body-read : (w v : ℕ) (sum : Checksum) (b : List ℕ) (c : Contents) (m : ℕ) → Bytes b → 12 ≤ length b → take 4 b ≡ DIRC → be32 b 4 ≡ v → 2 ≤ v → v ≤ 4 → readBody w v sum b ≡ good c m → Body w (c .records) b
 unfolding readBody
-body-read w v b c m bytes long sig ver lo hi q =
+body-read w v sum b c m bytes long sig ver lo hi q =
     shift-inv _ _ _ _ q λ j q₁ _.
     bind-inv _ _ _ _ q₁ λ es i k eq q₂ _.
     bind-inv _ _ _ _ q₂ λ xs o l xq q₃ _.
@@ -114,36 +117,50 @@ body-read w v b c m bytes long sig ver lo hi q =
 
 -- ---- the file
 
+-- what check says of the checksum of a file that records spell
+abbrev pub spelledSum : {w : ℕ} {hash : List ℕ → List ℕ} {r : Records} {f : List ℕ} → Spells w hash r f → Checksum
+spelledSum {hash = hash} h = checksumOf (hash (h .body)) (h .checksum)
+
 module _ (w : ℕ) (hash : List ℕ → List ℕ) (width : (b : List ℕ) → length (hash b) ≡ w) where
+  -- a checksum, right or left out, has w bytes and is not wrong
+  checksum-long : (b s : List ℕ) → (s ≡ hash b) ⊎ (s ≡ replicate w 0) → length s ≡ w
+  checksum-long b s (inl e) = rw e (width b)
+  checksum-long b s (inr e) = rw e (length-replicate w 0)
+
+  checksum-sound : (b s : List ℕ) → (s ≡ hash b) ⊎ (s ≡ replicate w 0) → isSound (checksumOf (hash b) s) ≡ true
+  checksum-sound b s (inl e) = rw (e, digest-matches (hash b)) refl
+  checksum-sound b s (inr e) = rw e (zeros-sound (hash b) w)
+
   -- what is spelled is accepted, and read as these records
-  pub spelled-read : (r : Records) (f : List ℕ) (h : Spells w hash r f) → readFile w hash f ≡ good (contentsOf (h .body-is)) (length (h .body))
-  unfolding readFile need
+  pub spelled-read : (r : Records) (f : List ℕ) (h : Spells w hash r f) → readFile w hash f ≡ good (contentsOf (spelledSum h) (h .body-is)) (length (h .body))
+  unfolding readFile need checksumIn
   spelled-read r f h =
       let b = h .body in
+      let last = h .checksum in
       let body = h .body-is in
       let n = length (r .entries) in
       let s : List ℕ = body .entryBytes ++ body .extensionBytes in
-      let wide : length (hash b) ≡ w = width b in
-      let lf : length f ≡ length b + w = ap length (h .file-is) ∙ length-append b (hash b) ∙ rw wide refl in
+      let wide : length last ≡ w = checksum-long b last (h .right-or-left-out) in
+      let lf : length f ≡ length b + w = ap length (h .file-is) ∙ length-append b last ∙ rw wide refl in
       let lb : length b ≡ 12 + length s = ap length (body .bytes) ∙ headed-length (body .version) n s in
       let at : length f - w ≡ length b = omega arith in
-      let bs : take (length f - w) f ≡ b = rw at (ap (take (length b)) (h .file-is) ∙ take-at b (hash b) (length b) refl) in
-      let cs : drop (length f - w) f ≡ hash b = rw at (ap (drop (length b)) (h .file-is) ∙ drop-at b (hash b) (length b) refl) in
-      let whole : f ≡ headed (body .version) n (s ++ hash b) =
-      h .file-is ∙ ap (λ (x : List ℕ). x ++ hash b) (body .bytes) ∙ simp append-assoc in
-      let sig : take 4 f ≡ DIRC = rw whole (headed-signature (body .version) n (s ++ hash b)) in
+      let bs : take (length f - w) f ≡ b = rw at (ap (take (length b)) (h .file-is) ∙ take-at b last (length b) refl) in
+      let cs : drop (length f - w) f ≡ last = rw at (ap (drop (length b)) (h .file-is) ∙ drop-at b last (length b) refl) in
+      let whole : f ≡ headed (body .version) n (s ++ last) =
+      h .file-is ∙ ap (λ (x : List ℕ). x ++ last) (body .bytes) ∙ simp append-assoc in
+      let sig : take 4 f ≡ DIRC = rw whole (headed-signature (body .version) n (s ++ last)) in
       let small : body .version < 4294967296 = omega (arith, body .two-to-four .1) in
-      let ver : be32 f 4 ≡ body .version = rw whole (headed-version (body .version) n (s ++ hash b) small) in
+      let ver : be32 f 4 ≡ body .version = rw whole (headed-version (body .version) n (s ++ last) small) in
       let t₁ : leb (12 + w) (length f) ≡ true = le-leb (12 + w) (length f) (omega arith) in
       let t₂ : leb (length f) 16777216 ≡ true = le-leb _ _ (h .short) in
       let t₃ : eqList (take 4 f) DIRC ≡ true = eq-eqList _ _ sig in
       let t₄ : (leb 2 (be32 f 4) && leb (be32 f 4) 4) ≡ true = rw ver (and-both _ _ (le-leb _ _ (body .two-to-four .0)) (le-leb _ _ (body .two-to-four .1))) in
-      let t₅ : eqList (drop (length f - w) f) (hash (take (length f - w) f)) ≡ true = rw (cs, bs) (eq-eqList _ _ refl) in
-      rw (t₁, t₂, t₃, t₄, t₅, bs, ver) (read-body w r b body)
+      let sum-is : checksumOf (hash (take (length f - w) f)) (drop (length f - w) f) ≡ spelledSum h = rw (cs, bs) refl in
+      rw (t₁, t₂, t₃, t₄, sum-is, checksum-sound b last (h .right-or-left-out), bs, ver) (read-body w (spelledSum h) r b body)
 
   -- what is accepted is spelled
   pub read-spelled : (f : List ℕ) (c : Contents) (m : ℕ) → Bytes f → readFile w hash f ≡ good c m → Spells w hash (c .records) f
-  unfolding readFile
+  unfolding readFile checksumIn
   read-spelled f c m bytes q =
       need-inv _ _ _ _ _ _ q λ t₁ q₁.
       need-inv _ _ _ _ _ _ q₁ λ t₂ q₂.
@@ -154,12 +171,15 @@ module _ (w : ℕ) (hash : List ℕ → List ℕ) (width : (b : List ℕ) → le
       let long : 12 + w ≤ length f = leb-true _ _ t₁ in
       let (lo, hi) = and-inv _ _ t₄ in
       let lb : length (take (length f - w) f) ≡ length f - w = length-take-le (length f - w) f (omega arith) in
+      let wide : length (drop (length f - w) f) ≡ w = length-drop (length f - w) f ∙ omega arith in
       let sig : take 4 b ≡ DIRC = take-take 4 (length f - w) f (omega arith) ∙ eqList-true _ _ t₃ in
       let ver : be32 b 4 ≡ be32 f 4 = be32-take f (length f - w) 4 (omega arith) in
       record {
         body = b;
-        body-is = body-read w (be32 f 4) b c m (bytes-take (length f - w) f bytes) (omega arith) sig ver (leb-true _ _ lo) (leb-true _ _ hi) q₅;
-        file-is = sym (take-append-drop (length f - w) f) ∙ ap (λ (x : List ℕ). b ++ x) (eqList-true _ _ t₅);
+        body-is = body-read w (be32 f 4) _ b c m (bytes-take (length f - w) f bytes) (omega arith) sig ver (leb-true _ _ lo) (leb-true _ _ hi) q₅;
+        checksum = drop (length f - w) f;
+        right-or-left-out = rw wide at (sound-inv (hash b) (drop (length f - w) f) t₅);
+        file-is = sym (take-append-drop (length f - w) f);
         short = leb-true _ _ t₂;
       }
 
@@ -201,6 +221,6 @@ same w v u es fs f h k =
 pub cut : (w : ℕ) (hash : List ℕ → List ℕ) (r q : Records) (f : List ℕ) (c : ℕ) (h : Spells w hash r f) (k : Spells w hash q (take c f))
     → (h .body-is .version ≡ k .body-is .version) × (r .entries ≡ q .entries)
 cut w hash r q f c h k =
-    same w _ _ (r .entries) (q .entries) f (begins w r (h .body) (hash (h .body)) f (h .body-is) (h .file-is))
-    (begins w q (k .body) (hash (k .body) ++ drop c f) f (k .body-is)
-    (sym (take-append-drop c f) ∙ ap (λ (x : List ℕ). x ++ drop c f) (k .file-is) ∙ append-assoc (k .body) (hash (k .body)) (drop c f)))
+    same w _ _ (r .entries) (q .entries) f (begins w r (h .body) (h .checksum) f (h .body-is) (h .file-is))
+    (begins w q (k .body) (k .checksum ++ drop c f) f (k .body-is)
+    (sym (take-append-drop c f) ∙ ap (λ (x : List ℕ). x ++ drop c f) (k .file-is) ∙ append-assoc (k .body) (k .checksum) (drop c f)))

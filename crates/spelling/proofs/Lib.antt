@@ -1,5 +1,6 @@
 -- The whole file, as it is spelled and as it is read.
 pub mod Bytes
+pub mod Checksums
 pub mod Entries
 pub mod Extensions
 pub mod File

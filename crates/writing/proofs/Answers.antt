@@ -9,6 +9,7 @@ use lib.Dec.{eqb, leb}
 use borrow.Author.Tests.{eq-eqb, leb-true, ltb-true, not-true}
 use Rattle.format.specs.Bytes.{fit32}
 use Rattle.format.specs.Records.{Entry, Key, Records}
+use Rattle.format.specs.Checksum.{matches}
 use Rattle.format.specs.Reading.{good}
 use Rattle.format.specs.Reader.{readFile}
 use Rattle.format.specs.Writer.{writeEntries, writeBody, writeFile}
@@ -56,7 +57,7 @@ module _ {w : ℕ} {hash : List ℕ → List ℕ} {v : ℕ} {r : Records} {room 
   pub answered-one : ((b : List ℕ) → length (hash b) ≡ w) → OneFile w hash v r bytes n
   answered-one width =
       let read : readFile w hash bytes
-      ≡ good (record { version = v; end = 12 + length (writeEntries w v [] (r .entries)); records = r }) (length (writeBody w v r)) =
+      ≡ good (record { version = v; checksum = matches; end = 12 + length (writeEntries w v [] (r .entries)); records = r }) (length (writeBody w v r)) =
       rw (h .file) (read-written w hash width v r (h .writable) file-short) in
       record {
         file = h .file;

@@ -1,5 +1,6 @@
 -- SoundRecords records spell the file that is written of them, so it is read back as these records; and records that spell a file are sound.
 use mathlib.Core.Path.{_≡_, refl, ap, _∙_}
+use mathlib.Core.Logic.{inl}
 use mathlib.Core.List.{List, [], _∷_, _++_, append-assoc, append-nil}
 use mathlib.Core.Option.{Option, none, some}
 use Prim.Native.Nat.{ℕ, _+_, _≤_, _<_}
@@ -8,9 +9,11 @@ use lib.ListN.{length, length-append}
 use Rattle.format.specs.Bytes.{Bytes, put32}
 use Rattle.format.specs.Records.{Tree, Undo, Records}
 use Rattle.format.specs.Layout.{Extension, cacheTree, resolveUndo, other, TREE, REUC, DIRC, Says, IsExtension, Extensions, extensions-end, extensions-more, trees, undos, only, names, Body, Spells}
+use Rattle.format.specs.Checksum.{matches}
 use Rattle.format.specs.Reading.{good}
 use Rattle.format.specs.Reader.{Contents, readFile}
 use Rattle.format.specs.Writer.{writeEntries, writeTree, writeUndos, writeExtension, writeCacheTree, writeResolveUndo, writeExtensions, writeHeader, writeBody, writeFile}
+use Rattle.spelling.proofs.Checksums.{digest-matches}
 use Rattle.spelling.proofs.File.{spelled-read, read-spelled}
 use Rattle.writing.specs.Sound.{SoundTree, SoundUndos, SoundRecords, Writable}
 use Rattle.writing.proofs.Entries.{entries-written, entries-long, entries-sound}
@@ -107,6 +110,8 @@ written-spelled w hash v r h short =
     record {
       body = writeBody w v r;
       body-is = body-written w v r h (omega (arith, length-append b (hash b)));
+      checksum = hash b;
+      right-or-left-out = inl refl;
       file-is = refl;
       short = short;
     }
@@ -115,9 +120,10 @@ written-spelled w hash v r h short =
 pub read-written : (w : ℕ) (hash : List ℕ → List ℕ) → ((b : List ℕ) → length (hash b) ≡ w) → (v : ℕ) (r : Records) → Writable w v r
     → length (writeFile w hash v r) ≤ 16777216
     → readFile w hash (writeFile w hash v r)
-    ≡ good (record { version = v; end = 12 + length (writeEntries w v [] (r .entries)); records = r }) (length (writeBody w v r))
+    ≡ good (record { version = v; checksum = matches; end = 12 + length (writeEntries w v [] (r .entries)); records = r }) (length (writeBody w v r))
 unfolding written-spelled body-written
-read-written w hash width v r h short = spelled-read w hash width r (writeFile w hash v r) (written-spelled w hash v r h short)
+read-written w hash width v r h short =
+    rw (digest-matches (hash (writeBody w v r))) at (spelled-read w hash width r (writeFile w hash v r) (written-spelled w hash v r h short))
 
 -- ---- what is spelled is sound
 

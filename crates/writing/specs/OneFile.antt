@@ -7,6 +7,7 @@ use lib.ListN.{length, getD}
 use lib.Dec.{eqb}
 use Rattle.format.specs.Records.{Entry, Key, Records}
 use Rattle.format.specs.Layout.{when, Plain, Packed, Entries, entries-end, entries-more, Spells}
+use Rattle.format.specs.Checksum.{matches}
 use Rattle.format.specs.Reading.{Read, good}
 use Rattle.format.specs.Reader.{Contents, readFile}
 use Rattle.format.specs.Writer.{writeEntries, writeBody, writeFile}
@@ -27,9 +28,10 @@ pub record OneFile (w : ℕ) (hash : List ℕ → List ℕ) (v : ℕ) (r : Recor
   pub file : bytes ≡ writeFile w hash v r
   pub size : n ≡ length bytes
   pub spelled : Spells w hash r bytes
+  -- with a real checksum, whatever that of the file was from which the records are
   pub again :
       readFile w hash bytes
-      ≡ good (record { version = v; end = 12 + length (writeEntries w v [] (r .entries)); records = r }) (length (writeBody w v r))
+      ≡ good (record { version = v; checksum = matches; end = 12 + length (writeEntries w v [] (r .entries)); records = r }) (length (writeBody w v r))
   -- no file that these records spell in the version v has a smaller N at any entry
   pub smallest :
       (f : List ℕ) (g : Spells w hash r bytes) (h : Spells w hash r f) → h .body-is .version ≡ v →

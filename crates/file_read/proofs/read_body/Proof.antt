@@ -41,7 +41,7 @@ returns c =
     let q = c .before .before .before .before .before in
     let st = q .before .before .before .before in
     let a = st .args in
-    (body-no-entries _ (a .v) (a .b .now) (a .count) (st .pre .1) _ _ (sym (c .before .run .given .1) ∙ q .run-entries .ensures .same), q .run-entries .ensures .frame)
+    (λ sum _. body-no-entries _ (a .v) sum (a .b .now) (a .count) (st .pre .1) _ _ (sym (c .before .run .given .1) ∙ q .run-entries .ensures .same), q .run-entries .ensures .frame)
 
 same-length-2 : tie.Need-same-length-2
 same-length-2 c = search needs
@@ -53,7 +53,7 @@ returns-2 c =
     let q = w .before .before .before .before in
     let st = q .before .before .before .before in
     let a = st .args in (
-      body-refused _ (a .v) (a .b .now) (a .count) (st .pre .1) _ (sym (w .run2 .given .1) ∙ q .run-entries .ensures .same) _ _ _ _
+      λ sum _. body-refused _ (a .v) sum (a .b .now) (a .count) (st .pre .1) _ (sym (w .run2 .given .1) ∙ q .run-entries .ensures .same) _ _ _ _
           (rw (c .before .read .given .1) at (x .read-extensions .ensures)),
       frame-then (q .run-entries .ensures .frame) (x .read-extensions .ensures .frame),
     )
@@ -68,8 +68,10 @@ returns-3 c =
     let q = w .before .before .before .before in
     let st = q .before .before .before .before in
     let a = st .args in (
-      body-accepted _ (a .v) (a .b .now) (a .count) (st .pre .1) _ (sym (w .run2 .given .1) ∙ q .run-entries .ensures .same) _ _ _
-          (st .pre .0 .least) (st .pre .0 .most) (rw (c .before .read2 .given .1) at (x .read-extensions .ensures)),
+      λ sum is.
+          rw is
+          (body-accepted _ (a .v) sum (a .b .now) (a .count) (st .pre .1) _ (sym (w .run2 .given .1) ∙ q .run-entries .ensures .same) _ _ _
+          (st .pre .0 .least) (st .pre .0 .most) (rw (c .before .read2 .given .1) at (x .read-extensions .ensures))),
       frame-then (q .run-entries .ensures .frame) (x .read-extensions .ensures .frame),
     )
 

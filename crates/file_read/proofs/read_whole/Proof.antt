@@ -80,7 +80,7 @@ returns-3 c =
     let h = opened t in
     let q = t .before .before .before in
     let width = q .width-of .ensures .0 in
-    (rw (known (q .before), h .read, ← width) (m .read-body .ensures .0), m .read-body .ensures .1)
+    (rw (known (q .before), h .read, ← width) (m .read-body .ensures .0 _ (rw width (h .checked))), m .read-body .ensures .1)
 
 pub read-whole-spec : {M : Type 1} → statement M
 read-whole-spec =
