@@ -11,7 +11,7 @@ use Rattle.kinds.specs.Kinds.{widthOf, hashOf, readKind}
 use Rattle.kinds.proofs.Laws.{length-hash, known-file, unknown-file, file-known}
 use Rattle.demands.proofs.Statements.{Demand1, Demand2, Demand3}
 use Rattle.demands.proofs.Written.{rewritten, put-in, removed, filled}
-use Rattle.demands.proofs.Proved.{read-by, all-refuse, left, zeroed, name-left, file-read, accepted-inv, checked, entry-shown, node-shown, undo-shown, exact, cut-rule}
+use Rattle.demands.proofs.Proved.{read-by, all-refuse, left, zeroed, name-left, file-read, guarded, accepted-inv, checked, entry-shown, node-shown, undo-shown, exact, cut-rule}
 
 module _ (kind : ℕ) (work : List ℕ) where
   abbrev w : ℕ
@@ -42,6 +42,7 @@ module _ (kind : ℕ) (work : List ℕ) where
           let (checked, shown, asked) = all-refuse w hash work (readKind kind f) n p (room-large work (readKind kind f) room ∙ e) in
           (checked, λ k. let (e, _, n, u) = shown k in (e, n, u), asked);
       records = λ f. file-read w hash work width f (readKind kind f) (read-by kind f) room;
+      guarded = λ f. guarded w hash work width f (readKind kind f) (read-by kind f) room;
       rewritten = rewritten kind work;
       put-in = λ f asked most e is. put-in kind work f asked most is e;
       removed = λ f asked most k is. removed kind work f asked most is k;

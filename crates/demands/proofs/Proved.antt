@@ -11,22 +11,26 @@ use lib.ListN.{length, take, drop, getElem?, replicate, length-replicate, length
 use lib.Seq.{take-at, drop-at}
 use lib.Dec.{eqb, leb}
 use borrow.Author.Tests.{leb-true}
-use Rattle.format.specs.Bytes.{Bytes}
+use Rattle.format.specs.Bytes.{Bytes, eqList}
+use Rattle.format.specs.Checksum as M
 use Rattle.format.specs.Names.{okName}
 use Rattle.format.specs.Records.{Key, Records, Entry}
 use Rattle.format.specs.Layout.{Entries, entries-end, entries-more, Spells}
 use Rattle.format.specs.Reading.{Read, bad, good}
 use Rattle.format.specs.Reader.{Contents, readFile}
+use Rattle.answers.specs.declared.Checksum.{Checksum}
+use Rattle.answers.specs.declared.Checksum.the-variants.{Matches, LeftOut, Wrong}
 use Rattle.answers.specs.declared.Summary.{Summary}
 use Rattle.answers.specs.declared.Checked.{Checked}
 use Rattle.answers.specs.declared.Checked.the-variants.{Refused, Accepted}
-use Rattle.answers.specs.Answers.{tooSmall, inRoom, cleared, holding, workAfter, refused, inWorkspace, summaryOf, checkedOf, checkAnswer, entryAnswer, nodeAnswer, undoAnswer, pick, listed, itemsOf, entryOf, nodeOf, undoOf}
+use Rattle.answers.specs.Answers.{tooSmall, inRoom, cleared, holding, workAfter, refused, inWorkspace, checksumAs, summaryOf, checkedOf, checkAnswer, entryAnswer, nodeAnswer, undoAnswer, pick, listed, itemsOf, entryOf, nodeOf, undoOf}
 use Rattle.format_laws.proofs.Tests.{and-inv}
 use Rattle.format_laws.proofs.Numbers.{bytes-take}
 use Rattle.answers.proofs.Laws.{room-large, room-inv}
 use Rattle.kinds.specs.Kinds.{widthOf, hashOf, readKind}
 use Rattle.kinds.proofs.Laws.{file-known}
-use Rattle.spelling.proofs.File.{contentsOf, spelled-read, read-spelled, cut}
+use Rattle.spelling.proofs.Checksums.{Which}
+use Rattle.spelling.proofs.File.{contentsOf, spelledSum, spelled-read, read-spelled, checksum-read, cut}
 use Rattle.answers.specs.Writing.{rewriteAnswer, putAnswer, removeAnswer}
 
 -- an accepted file has been read
@@ -141,11 +145,31 @@ module _ (w : ℕ) (hash : List ℕ → List ℕ) (work : List ℕ) (width : (b 
   file-read room c m bytes e =
       (read-spelled w hash width f c m bytes (read c m e), rw (room, e) refl, λ k. (rw (room, e) refl, rw (room, e) refl, rw (room, e) refl))
 
+  -- what check says of the checksum
+  abbrev Guarded : Checksum → Type 0
+  Guarded sum =
+      let n : ℕ = length f - w in
+      ((sum ≡ Matches) × (drop n f ≡ hash (take n f))) ⊎ ((sum ≡ LeftOut) × (drop n f ≡ replicate w 0) × (eqList (drop n f) (hash (take n f)) ≡ false))
+
+  pub guarded : tooSmall work ≡ false → (s : Summary) → Bytes f → checkAnswer work x ≡ Accepted s → Guarded (s .checksum)
+  guarded room s bytes e =
+      accepted-inv work x s room e λ c m q.
+      let (_, checked, _) = file-read room c m bytes q in
+      rw (ap checksumSaid (sym e ∙ checked)) (by (c .checksum) (checksum-read w hash width f c m bytes (read c m q)))
+    where
+      checksumSaid : Checked → Checksum
+      checksumSaid (Refused n p) = Wrong
+      checksumSaid (Accepted s) = s .checksum
+
+      by : (sum : M.Checksum) → Which (hash (take (length f - w) f)) (drop (length f - w) f) w sum → Guarded (checksumAs sum)
+      by sum (inl (is, same)) = inl (ap checksumAs is, same)
+      by sum (inr (is, left, differ)) = inr (ap checksumAs is, left, differ)
+
 module _ (w : ℕ) (hash : List ℕ → List ℕ) (work : List ℕ) (width : (b : List ℕ) → length (hash b) ≡ w) (room : tooSmall work ≡ false) where
   -- ---- demand 3
 
   module _ (f : List ℕ) (r : Records) (h : Spells w hash r f) where
-    pub checked : checkAnswer work (readFile w hash f) ≡ Accepted (summaryOf (contentsOf (h .body-is)))
+    pub checked : checkAnswer work (readFile w hash f) ≡ Accepted (summaryOf (contentsOf (spelledSum h) (h .body-is)))
     unfolding checkAnswer
     checked = ap checkedOf (room-large work (readFile w hash f) room ∙ spelled-read w hash width r f h)
 
@@ -179,8 +203,8 @@ module _ (w : ℕ) (hash : List ℕ → List ℕ) (work : List ℕ) (width : (b 
       let both = cut w hash r q f c h k in
       let version : h .body-is .version ≡ k .body-is .version = both .0 in
       let same : r .entries ≡ q .entries = both .1 in
-      let s-is : Accepted s ≡ Accepted (summaryOf (contentsOf (h .body-is))) = sym e ∙ checked f r h in
-      let t-is : Accepted t ≡ Accepted (summaryOf (contentsOf (k .body-is))) = sym d ∙ checked (take c f) q k in
+      let s-is : Accepted s ≡ Accepted (summaryOf (contentsOf (spelledSum h) (h .body-is))) = sym e ∙ checked f r h in
+      let t-is : Accepted t ≡ Accepted (summaryOf (contentsOf (spelledSum k) (k .body-is))) = sym d ∙ checked (take c f) q k in
       let s-count : s .entries ≡ length (r .entries) = ap entriesOf s-is in
       let t-count : t .entries ≡ length (q .entries) = ap entriesOf t-is in (
         t-count ∙ ap length (sym same) ∙ sym s-count,

@@ -10,18 +10,20 @@ use mathlib.Core.List.{List}
 use Prim.Native.Nat.{ℕ, _+_, _-_, _<_}
 use lib.ListN.{length, take, drop, getElem?, replicate}
 use lib.Dec.{eqb}
-use Rattle.format.specs.Bytes.{Bytes, fit32}
+use Rattle.format.specs.Bytes.{Bytes, fit32, eqList}
 use Rattle.format.specs.Records.{Records, Entry, Key, Item, Undo}
+use Rattle.format.specs.Checksum.{checksumOf}
 use Rattle.format.specs.Layout.{Spells}
 use Rattle.format.specs.Reading.{Read, bad, good}
 use Rattle.format.specs.Reader.{Contents}
 use Rattle.format.specs.Requests.{putRecord, removeRecord}
 use Rattle.writing.specs.OneFile.{WritesBack}
 use Rattle.kinds.specs.Kinds.{okKind, widthOf, hashOf, readKind}
+use Rattle.answers.specs.declared.Checksum.the-variants.{Matches, LeftOut}
 use Rattle.answers.specs.declared.Summary.{Summary}
 use Rattle.answers.specs.declared.Checked.{Checked}
 use Rattle.answers.specs.declared.Checked.the-variants.{Refused, Accepted}
-use Rattle.answers.specs.Answers.{tooSmall, cleared, workAfter, treeCount, undoCount, summaryOf, checkAnswer, entryAnswer, nodeAnswer, undoAnswer, View, refused, inWorkspace, pick, listed, itemsOf}
+use Rattle.answers.specs.Answers.{tooSmall, cleared, workAfter, treeCount, undoCount, checksumAs, summaryOf, checkAnswer, entryAnswer, nodeAnswer, undoAnswer, View, refused, inWorkspace, pick, listed, itemsOf}
 use Rattle.answers.specs.Writing.{rewriteAnswer, putAnswer, removeAnswer, outputAfter}
 
 module _ (kind : ℕ) (work : List ℕ) where
@@ -83,7 +85,7 @@ module _ (kind : ℕ) (work : List ℕ) where
         (out bytes : List ℕ) (n : ℕ) → n ≡ length bytes → (take n (outputAfter (good bytes n) out) ≡ bytes) × (drop n (outputAfter (good bytes n) out) ≡ drop n out)
 
   -- For versions 2, 3 and 4, the records read are those that the format gives these bytes, and the refusal is the first that applies: readKind
-  -- has the tests in their order, the kind's before those of the file.
+  -- has the tests in their order, the kind's before those of the file. The checksum is right or left out.
   pub record Demand2 : Type 0 where
     pub refusals :
         (f : List ℕ) (n p : ℕ) → readKind kind f ≡ bad n p →
@@ -98,6 +100,11 @@ module _ (kind : ℕ) (work : List ℕ) where
         (entry k f ≡ pick (eqb (c .version) 4) (getElem? (c .records .entries) k))
         × (node k f ≡ listed (itemsOf (c .records .cacheTree)) k)
         × (undo k f ≡ listed (c .records .resolveUndo) k))
+    -- check says which: the last bytes are the hash of all before, or else zeros
+    pub guarded :
+        (f : List ℕ) (s : Summary) → Bytes f → check f ≡ Accepted s → let n : ℕ = length f - w in
+        ((s .checksum ≡ Matches) × (drop n f ≡ hash (take n f)))
+        ⊎ ((s .checksum ≡ LeftOut) × (drop n f ≡ replicate w 0) × (eqList (drop n f) (hash (take n f)) ≡ false))
     -- what is written is the one file that document 01 names, with the smallest N at each entry, and reading it gives the same records: WritesBack
     -- says so of whatever a call writes, by OneFile
     pub rewritten : (f : List ℕ) (asked room : ℕ) → Bytes f → WritesBack w hash f asked (λ r. r) (rewrite asked room f)
@@ -113,7 +120,7 @@ module _ (kind : ℕ) (work : List ℕ) where
     pub exact : okKind kind ≡ true → (f : List ℕ) → Bytes f → ((s : Summary) × (check f ≡ Accepted s)) ↔ ((r : Records) × Spells w hash r f)
     -- no file is spelled by two different sets
     pub one : (f : List ℕ) (r q : Records) → Spells w hash r f → Spells w hash q f → r ≡ q
-    -- check's counts are those of the set that spells it; the version and the byte where entries end are those of the spelling
+    -- check's counts are those of the set that spells it; the version, the byte where entries end and the checksum are those of the spelling
     pub counts :
         okKind kind ≡ true → (f : List ℕ) (r : Records) (h : Spells w hash r f) →
         check f
@@ -124,6 +131,7 @@ module _ (kind : ℕ) (work : List ℕ) where
           end = 12 + length (h .body-is .entryBytes);
           nodes = treeCount (r .cacheTree);
           records = undoCount (r .resolveUndo);
+          checksum = checksumAs (checksumOf (hash (h .body)) (h .checksum));
         })
     -- entry k, tree node k and resolve-undo record k show item k of its lists, an entry of version 4 in the workspace
     pub entries :

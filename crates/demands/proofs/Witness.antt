@@ -9,6 +9,7 @@ use Prim.Native.Nat.{ℕ}
 use lib.ListN.{take, replicate}
 use Rattle.format.specs.Bytes.{Bytes, fit32}
 use Rattle.format.specs.Layout.{entryLength, Spells}
+use Rattle.format.specs.Checksum.{matches}
 use Rattle.format.specs.Reading.{good}
 use Rattle.format.specs.Reader.{Contents, readFile}
 use Rattle.format.specs.Places.{entryPlace, namePlace, entryNamePlace, dataFrom, dataPlace, dataIn, dataOf, nodeStart, nodePlace, afterUndo, undoStart, undoPlace}
@@ -17,6 +18,7 @@ use Rattle.format.specs.Records.{Records, Entry, Key, valid, Node, nil, tree}
 use Rattle.format.specs.Requests.{putRecord, removeRecord}
 use Rattle.kinds.specs.Kinds.{widthOf, hashOf, readKind}
 use Rattle.kinds.proofs.Laws.{sha1-known, known-file}
+use Rattle.answers.specs.declared.Checksum.the-variants.{Matches}
 use Rattle.answers.specs.declared.Summary.{Summary}
 use Rattle.answers.specs.declared.Count.the-variants.{Absent, Present}
 use Rattle.answers.specs.declared.Checked.the-variants.{Refused, Accepted}
@@ -37,7 +39,7 @@ file-bytes = all-below file refl
 
 -- one entry, which ends at byte 76
 summary : Summary
-summary = record { version = 2; entries = 1; end = 76; nodes = Absent; records = Absent }
+summary = record { version = 2; entries = 1; end = 76; nodes = Absent; records = Absent; checksum = Matches }
 
 whole-accepted : check 1 work file ≡ Accepted summary
 unfolding closed file summary
@@ -107,7 +109,7 @@ records = record {
 }
 
 abbrev contents : Contents
-contents = record { version = 2; end = 228; records = records }
+contents = record { version = 2; checksum = matches; end = 228; records = records }
 
 full-read : readFile (widthOf 1) (hashOf 1) full ≡ good contents 356
 unfolding closed full
@@ -124,7 +126,7 @@ full-by-no-other r h = demand3 1 work room .one full r records h full-spelled
 
 -- two nodes and one record; node 1, record 0
 full-shown :
-    (check 1 work full ≡ Accepted (record { version = 2; entries = 3; end = 228; nodes = Present 2; records = Present 1 }))
+    (check 1 work full ≡ Accepted (record { version = 2; entries = 3; end = 228; nodes = Present 2; records = Present 1; checksum = Matches }))
     × (node 1 work 1 full ≡ inFile (record { node = nodeA; level = 2; subtrees = 0 }))
     × (undo 1 work 0 full ≡ inFile (plan 20))
 unfolding closed

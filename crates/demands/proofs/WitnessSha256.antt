@@ -8,12 +8,14 @@ use lib.ListN.{replicate}
 use Rattle.format.specs.Bytes.{Bytes, fit32}
 use Rattle.format.specs.Records.{Records, valid, Node, nil}
 use Rattle.format.specs.Layout.{entryLength, Spells}
+use Rattle.format.specs.Checksum.{matches}
 use Rattle.format.specs.Reading.{good}
 use Rattle.format.specs.Reader.{Contents, readFile}
 use Rattle.format.specs.Requests.{putRecord}
 use Rattle.format.proofs.Cases.{a-b, a/b}
 use Rattle.kinds.specs.Kinds.{okKind, widthOf, hashOf, readKind}
 use Rattle.kinds.proofs.Laws.{sha256-known, known-file}
+use Rattle.answers.specs.declared.Checksum.the-variants.{Matches}
 use Rattle.answers.specs.declared.Count.the-variants.{Present}
 use Rattle.answers.specs.declared.Checked.the-variants.{Refused, Accepted}
 use Rattle.answers.specs.Answers.{tooSmall, checkAnswer, entryAnswer, nodeAnswer, undoAnswer, inFile}
@@ -38,7 +40,7 @@ abbrev records : Records
 records = record { entries = plainEntry 32 17 a-b ∷ []; cacheTree = some (record { root = root; subtrees = nil }); resolveUndo = some (plan 32 ∷ []) }
 
 abbrev contents : Contents
-contents = record { version = 2; end = 92; records = records }
+contents = record { version = 2; checksum = matches; end = 92; records = records }
 
 full-read : readFile (widthOf 2) (hashOf 2) full ≡ good contents 230
 unfolding closed full
@@ -55,7 +57,7 @@ full-by-no-other r h = demand3 2 work room .one full r records h full-spelled
 
 -- accepted, and its entry, its node and its record shown
 full-shown :
-    (check 2 work full ≡ Accepted (record { version = 2; entries = 1; end = 92; nodes = Present 1; records = Present 1 }))
+    (check 2 work full ≡ Accepted (record { version = 2; entries = 1; end = 92; nodes = Present 1; records = Present 1; checksum = Matches }))
     × (entry 2 work 0 full ≡ inFile (plainEntry 32 17 a-b))
     × (node 2 work 0 full ≡ inFile (record { node = root; level = 1; subtrees = 0 }))
     × (undo 2 work 0 full ≡ inFile (plan 32))

@@ -32,11 +32,13 @@ pub check-says : (w : ℕ) (x : Read Contents) (b : List ℕ) (parts : Parts) (h
       end = parts .end;
       nodes = cond (parts .found .tree .there) (Present (parts .found .tree .nodes)) Absent;
       records = cond (parts .found .undo .there) (Present (parts .found .undo .records)) Absent;
+      checksum = parts .checksum;
     })
     ≡ checkedOf (good (h .contents) (h .taken))
 check-says w x b parts h =
     rw (
       h .version,
+      h .checksum,
       h .end,
       h .counted,
       tree-count w b (parts .found) (h .contents .records .cacheTree) (h .tree),

@@ -150,13 +150,17 @@ pub fn check(kind: u32, file: &[u8], work: &mut [u8]) -> Checked
     let whole = read_cleared(file, work, kind);
     match whole {
         Whole::Bad(n, p) => Checked::Refused(n, p),
-        Whole::Good(parts) => Checked::Accepted(Summary {
-            version: parts.version,
-            entries: parts.count,
-            end: parts.end,
-            nodes: count_of(parts.found.tree.there, parts.found.tree.nodes),
-            records: count_of(parts.found.undo.there, parts.found.undo.records),
-        }),
+        Whole::Good(parts) => {
+            let checksum = parts.checksum;
+            Checked::Accepted(Summary {
+                version: parts.version,
+                entries: parts.count,
+                end: parts.end,
+                nodes: count_of(parts.found.tree.there, parts.found.tree.nodes),
+                records: count_of(parts.found.undo.there, parts.found.undo.records),
+                checksum: checksum,
+            })
+        }
     }
 }
 

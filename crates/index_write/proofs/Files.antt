@@ -31,9 +31,9 @@ use Rattle.index_write.specs.Calls.{Opened}
 -- ---- records that spell a file
 
 few-entries : {w : ℕ} {hash : List ℕ → List ℕ} {r : Records} {f : List ℕ} → Spells w hash r f → length (r .entries) ≤ 16777216
-few-entries {hash = hash} {r = r} h =
+few-entries {r = r} h =
     let b = h .body-is in
-    let file = ap length (h .file-is) ∙ length-append (h .body) (hash (h .body)) in
+    let file = ap length (h .file-is) ∙ length-append (h .body) (h .checksum) in
     let body = simp length-append at (ap length (b .bytes)) in
     omega (arith, entries-long (b .entries-are), h .short)
 

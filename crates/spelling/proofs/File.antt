@@ -20,7 +20,7 @@ use Rattle.format_laws.proofs.Tests.{and-inv, and-both}
 use Rattle.format_laws.proofs.Lists.{eqList-true, eq-eqList}
 use Rattle.format_laws.proofs.Numbers.{bytes-take, bytes-drop, length-put32, be32-take, be32-at, be32-below, put32-be32}
 use Rattle.format_laws.proofs.Readings.{good-inv, need-inv, shift-inv, bind-inv}
-use Rattle.spelling.proofs.Checksums.{digest-matches, zeros-sound, sound-inv}
+use Rattle.spelling.proofs.Checksums.{digest-matches, zeros-sound, Which, which, sound-inv}
 use Rattle.spelling.proofs.Entries.{read-entries, entries-read}
 use Rattle.spelling.proofs.Extensions.{only-once, once-only, read-extensions, extensions-read}
 
@@ -131,6 +131,20 @@ module _ (w : ℕ) (hash : List ℕ → List ℕ) (width : (b : List ℕ) → le
   checksum-sound b s (inl e) = rw (e, digest-matches (hash b)) refl
   checksum-sound b s (inr e) = rw e (zeros-sound (hash b) w)
 
+  -- where the body and the checksum are in the file
+  module _ (r : Records) (f : List ℕ) (h : Spells w hash r f) where
+    pub file-long : length f ≡ length (h .body) + w
+    file-long = ap length (h .file-is) ∙ length-append (h .body) (h .checksum) ∙ rw (checksum-long (h .body) (h .checksum) (h .right-or-left-out)) refl
+
+    body-at : length f - w ≡ length (h .body)
+    body-at = omega (arith, file-long)
+
+    pub body-first : take (length f - w) f ≡ h .body
+    body-first = rw body-at (ap (take (length (h .body))) (h .file-is) ∙ take-at (h .body) (h .checksum) (length (h .body)) refl)
+
+    pub checksum-last : drop (length f - w) f ≡ h .checksum
+    checksum-last = rw body-at (ap (drop (length (h .body))) (h .file-is) ∙ drop-at (h .body) (h .checksum) (length (h .body)) refl)
+
   -- what is spelled is accepted, and read as these records
   pub spelled-read : (r : Records) (f : List ℕ) (h : Spells w hash r f) → readFile w hash f ≡ good (contentsOf (spelledSum h) (h .body-is)) (length (h .body))
   unfolding readFile need checksumIn
@@ -140,12 +154,10 @@ module _ (w : ℕ) (hash : List ℕ → List ℕ) (width : (b : List ℕ) → le
       let body = h .body-is in
       let n = length (r .entries) in
       let s : List ℕ = body .entryBytes ++ body .extensionBytes in
-      let wide : length last ≡ w = checksum-long b last (h .right-or-left-out) in
-      let lf : length f ≡ length b + w = ap length (h .file-is) ∙ length-append b last ∙ rw wide refl in
+      let lf : length f ≡ length b + w = file-long r f h in
       let lb : length b ≡ 12 + length s = ap length (body .bytes) ∙ headed-length (body .version) n s in
-      let at : length f - w ≡ length b = omega arith in
-      let bs : take (length f - w) f ≡ b = rw at (ap (take (length b)) (h .file-is) ∙ take-at b last (length b) refl) in
-      let cs : drop (length f - w) f ≡ last = rw at (ap (drop (length b)) (h .file-is) ∙ drop-at b last (length b) refl) in
+      let bs : take (length f - w) f ≡ b = body-first r f h in
+      let cs : drop (length f - w) f ≡ last = checksum-last r f h in
       let whole : f ≡ headed (body .version) n (s ++ last) =
       h .file-is ∙ ap (λ (x : List ℕ). x ++ last) (body .bytes) ∙ simp append-assoc in
       let sig : take 4 f ≡ DIRC = rw whole (headed-signature (body .version) n (s ++ last)) in
@@ -178,10 +190,26 @@ module _ (w : ℕ) (hash : List ℕ → List ℕ) (width : (b : List ℕ) → le
         body = b;
         body-is = body-read w (be32 f 4) _ b c m (bytes-take (length f - w) f bytes) (omega arith) sig ver (leb-true _ _ lo) (leb-true _ _ hi) q₅;
         checksum = drop (length f - w) f;
-        right-or-left-out = rw wide at (sound-inv (hash b) (drop (length f - w) f) t₅);
+        right-or-left-out = sound-inv (hash b) (drop (length f - w) f) w wide t₅;
         file-is = sym (take-append-drop (length f - w) f);
         short = leb-true _ _ t₂;
       }
+
+  -- what was read says of the checksum what the last bytes are
+  pub checksum-read : (f : List ℕ) (c : Contents) (m : ℕ) → Bytes f → readFile w hash f ≡ good c m
+      → Which (hash (take (length f - w) f)) (drop (length f - w) f) w (c .checksum)
+  checksum-read f c m bytes q = good-inv _ _ _ _ (sym (spelled-read r f h) ∙ q) λ same _. rw (ap (λ (d : Contents). d .checksum) same) at says
+    where
+      r : Records
+      r = c .records
+
+      h : Spells w hash r f
+      h = read-spelled f c m bytes q
+
+      says : Which (hash (take (length f - w) f)) (drop (length f - w) f) w (spelledSum h)
+      says =
+          rw (body-first r f h, checksum-last r f h)
+          (which (hash (h .body)) (h .checksum) w (checksum-long (h .body) (h .checksum) (h .right-or-left-out)) (checksum-sound (h .body) (h .checksum) (h .right-or-left-out)))
 
   -- one set of records only spells a file
   pub one : (r q : Records) (f : List ℕ) → Spells w hash r f → Spells w hash q f → r ≡ q
