@@ -1,0 +1,189 @@
+-- Bytes with zeros from a place on, and what is read of an entry's name there.
+use mathlib.Core.Path.{_≡_, refl, sym, ap, _∙_}
+use mathlib.Core.List.{List, [], _∷_, _++_}
+use mathlib.Core.Bool.{Bool, true, false, cond}
+use mathlib.Core.Logic.{_⊎_, inl, inr}
+use Prim.Native.Nat.{ℕ, zero, suc, _+_, _-_, _≤_, _<_}
+use native.Mathlib.Nat.{sub-zero}
+use native.Mathlib.Numerals.{unary-clauses}
+use native.Mathlib.Omega.{arith}
+use lib.ListN.{length, take, drop, getD, replicate, length-append, length-take, length-drop, length-replicate}
+use lib.Seq.{take-nil, take-take, length-take-le}
+use lib.Dec.{eqb, ltb}
+use borrow.Author.Tests.{ltb-true, ltb-false, leb-true, eqb-true}
+use Rattle.format.specs.Bytes.{Bytes, before, lacks}
+use Rattle.format.specs.Names.{okName, lengthField}
+use Rattle.format.specs.Layout.{entryLength}
+use Rattle.format.specs.Reading.{good}
+use Rattle.format.specs.Reader.{plainLength, readPlain}
+use Rattle.format.specs.Tails.{zeroedFrom}
+use Rattle.format_laws.proofs.Lists.{drop-zeros}
+use Rattle.format_laws.proofs.Tests.{false-true, and-inv, by-test, cond-inv}
+use Rattle.format_laws.proofs.Names.{okName-length, okName-lacks}
+use Rattle.format_laws.proofs.Readings.{good-inv, need-inv, bind-inv}
+
+-- ---- bytes with zeros from the place c on
+
+-- a place before c, or not
+pub by-place {ℓ} : {X : Type ℓ} (i c : ℕ) → (i < c → X) → (c ≤ i → X) → X
+by-place i c f g = by-test (ltb i c) (λ p. f (ltb-true i c p)) (λ p. g (ltb-false i c p))
+
+pub zeroed-all : (s : List ℕ) → zeroedFrom 0 s ≡ replicate (length s) 0
+unfolding zeroedFrom
+zeroed-all s = rw sub-zero
+
+zeroed-none : (c : ℕ) → zeroedFrom c [] ≡ []
+unfolding zeroedFrom
+zeroed-none c = let none : 0 - c ≡ 0 = omega arith in rw (take-nil {A = ℕ} c, none)
+
+zeroed-cons : (c x : ℕ) (s : List ℕ) → zeroedFrom (suc c) (x ∷ s) ≡ x ∷ zeroedFrom c s
+unfolding zeroedFrom
+zeroed-cons c x s = simp unary-clauses
+
+pub zeroed-length : (c : ℕ) (s : List ℕ) → length (zeroedFrom c s) ≡ length s
+unfolding zeroedFrom
+zeroed-length c s =
+    rw (length-append (take c s) (replicate (length s - c) 0), length-take c s, length-replicate {A = ℕ} (length s - c) 0) (omega arith)
+
+pub zeroed-drop : (i c : ℕ) (s : List ℕ) → drop i (zeroedFrom c s) ≡ zeroedFrom (c - i) (drop i s)
+zeroed-drop zero c s = rw sub-zero
+zeroed-drop (suc i) c [] = rw (zeroed-none c, zeroed-none (c - suc i))
+zeroed-drop (suc i) zero (x ∷ s) = 
+    let none : 0 - suc i ≡ 0 = omega arith in
+    rw (zeroed-all (x ∷ s), none, zeroed-all (drop i s), length-drop i s) (drop-zeros i (length s))
+zeroed-drop (suc i) (suc c) (x ∷ s) = let less : suc c - suc i ≡ c - i = omega arith in rw (zeroed-cons c x s, less) (zeroed-drop i c s)
+
+pub zeroed-take : (i c : ℕ) (s : List ℕ) → i ≤ c → take i (zeroedFrom c s) ≡ take i s
+zeroed-take zero c s h = refl
+zeroed-take (suc i) c [] h = rw (zeroed-none c)
+zeroed-take (suc i) zero (x ∷ s) h = absurd (omega arith)
+zeroed-take (suc i) (suc c) (x ∷ s) h = rw (zeroed-cons c x s, zeroed-take i c s (omega arith))
+
+-- the byte at i
+pub getD-zeros : (n i : ℕ) → getD {A = ℕ} (replicate n 0) i 0 ≡ 0
+getD-zeros zero i = refl
+getD-zeros (suc n) zero = refl
+getD-zeros (suc n) (suc i) = getD-zeros n i
+
+pub zeroed-before : (i c : ℕ) (s : List ℕ) → i < c → getD (zeroedFrom c s) i 0 ≡ getD s i 0
+zeroed-before i zero s h = absurd (omega arith)
+zeroed-before i (suc c) [] h = rw (zeroed-none (suc c))
+zeroed-before zero (suc c) (x ∷ s) h = rw (zeroed-cons c x s)
+zeroed-before (suc i) (suc c) (x ∷ s) h = rw (zeroed-cons c x s) (zeroed-before i c s (omega arith))
+
+pub zeroed-from : (i c : ℕ) (s : List ℕ) → c ≤ i → getD (zeroedFrom c s) i 0 ≡ 0
+zeroed-from i zero s h = rw (zeroed-all s) (getD-zeros (length s) i)
+zeroed-from i (suc c) [] h = rw (zeroed-none (suc c))
+zeroed-from zero (suc c) (x ∷ s) h = absurd (omega arith)
+zeroed-from (suc i) (suc c) (x ∷ s) h = rw (zeroed-cons c x s) (zeroed-from i c s (omega arith))
+
+pub zeroed-bytes : (c : ℕ) (s : List ℕ) → Bytes s → Bytes (zeroedFrom c s)
+zeroed-bytes c s b i = by-place i c (λ h. rw (zeroed-before i c s h) (b i)) (λ h. rw (zeroed-from i c s h) (omega arith))
+
+-- bytes that are not NUL were not made zeros
+unzeroed : (n c : ℕ) (s : List ℕ) → n ≤ length s → lacks 0 (take n (zeroedFrom c s)) ≡ true → n ≤ c
+unfolding lacks
+unzeroed zero c s h l = omega arith
+unzeroed (suc n) c [] h l = absurd (omega arith)
+unzeroed (suc n) zero (x ∷ s) h l = false-true (rw (zeroed-all (x ∷ s)) at l)
+unzeroed (suc n) (suc c) (x ∷ s) h l =
+    let tail : cond (eqb x 0) false (lacks 0 (take n (zeroedFrom c s))) ≡ true = rw (zeroed-cons c x s) at l in
+    cond-inv (eqb x 0) _ _ _ tail (λ p q. false-true q) (λ p q. omega (arith, unzeroed n c s (omega arith) q))
+
+-- the first NUL comes no later
+before-zeroed : (c : ℕ) (s : List ℕ) → before 0 (zeroedFrom c s) ≤ before 0 s
+unfolding before
+before-zeroed c [] = rw (zeroed-none c) (omega arith)
+before-zeroed zero (x ∷ s) = rw (zeroed-all (x ∷ s)) (omega arith)
+before-zeroed (suc c) (x ∷ s) =
+    let rest = before-zeroed c s in
+    rw (zeroed-cons c x s) (go (eqb x 0) rest)
+  where
+    go : (t : Bool) → before 0 (zeroedFrom c s) ≤ before 0 s → cond t 0 (suc (before 0 (zeroedFrom c s))) ≤ cond t 0 (suc (before 0 s))
+    go true h = omega arith
+    go false h = omega arith
+
+-- ---- the plain name, f being the bytes before it
+
+-- a name that lost at most seven bytes: only where its length field does not count it
+pub record Cut (name less : List ℕ) : Type 0 where
+  pub kept : ℕ
+  pub uncounted : 4095 ≤ kept
+  pub fewer : kept < length name
+  pub most : length name ≤ kept + 7
+  pub is : less ≡ take kept name
+
+-- what a reading of a plain name goes by, but for the padding
+record PlainRead (f field : ℕ) (s name : List ℕ) (m n : ℕ) : Type 0 where
+  length-is : plainLength field s ≡ n
+  within : n < length s
+  lacking : lacks 0 (take n s) ≡ true
+  some : 1 ≤ n
+  field-is : field ≡ lengthField n
+  fits : entryLength f n ≤ f + length s
+  name-is : take n s ≡ name
+  size : entryLength f n - f ≡ m
+
+plain-inv : (f p field : ℕ) (s name : List ℕ) (m : ℕ) → readPlain f p field s ≡ good name m → PlainRead f field s name m (plainLength field s)
+unfolding readPlain
+plain-inv f p field s name m e =
+    let n : ℕ = plainLength field s in
+    need-inv _ _ _ _ _ _ e λ within e₁.
+    need-inv _ _ _ _ _ _ e₁ λ named e₂.
+    need-inv _ _ _ _ _ _ e₂ λ fits e₃.
+    need-inv _ _ _ _ _ _ e₃ λ pads e₄.
+    good-inv _ _ _ _ e₄ λ name-is m-is.
+    let (ok, same) = and-inv (okName (take n s)) (eqb field (lengthField n)) named in
+    let short : n < length s = ltb-true _ _ within in
+    record {
+      length-is = refl;
+      within = short;
+      lacking = okName-lacks (take n s) ok;
+      some = omega (arith, okName-length (take n s) ok .0, length-take-le n s (omega arith));
+      field-is = eqb-true _ _ same;
+      fits = leb-true _ _ fits;
+      name-is = name-is;
+      size = m-is;
+    }
+
+-- the same length, or a smaller one that the field does not count
+plainLength-zeroed :
+    (field c : ℕ) (s : List ℕ) → let n : ℕ = plainLength field (zeroedFrom c s) in
+    (n ≤ plainLength field s) × (n < plainLength field s → 4095 ≤ field)
+unfolding plainLength
+plainLength-zeroed field c s =
+    by-test (ltb field 4095)
+    (λ small. rw small (omega arith))
+    (λ large. rw large (before-zeroed c s, λ _. ltb-false field 4095 large))
+
+-- as many bytes for a name as for a shorter one: at most seven differ
+entryLength-zeroed :
+    (f n l total : ℕ) → n ≤ l → entryLength f n - f ≡ total → entryLength f l ≤ f + total → (entryLength f l - f ≡ total) × (l ≤ n + 7)
+unfolding entryLength
+entryLength-zeroed f n l total less all fits = omega arith
+
+plain-zeroed :
+    (f p field c : ℕ) (s name less : List ℕ) (m : ℕ) →
+    readPlain f p field s ≡ good name m →
+    readPlain f p field (zeroedFrom c s) ≡ good less (length s) →
+    (m ≡ length s) × ((less ≡ name) ⊎ Cut name less)
+unfolding lengthField
+plain-zeroed f p field c s name less m e q =
+    let n : ℕ = plainLength field s in
+    let l : ℕ = plainLength field (zeroedFrom c s) in
+    let a : PlainRead f field s name m n = plain-inv f p field s name m e in
+    let b : PlainRead f field (zeroedFrom c s) less (length s) l = plain-inv f p field (zeroedFrom c s) less (length s) q in
+    let long : length (zeroedFrom c s) ≡ length s = zeroed-length c s in
+    let (no-more, uncounted) = plainLength-zeroed field c s in
+    let (size, seven) = entryLength-zeroed f l n (length s) no-more (b .size) (a .fits) in
+    let place : l ≤ c = unzeroed l c s (omega arith) (b .lacking) in
+    let is : less ≡ take l s = sym (b .name-is) ∙ zeroed-take l c s place in
+    let count : length (take n s) ≡ n = length-take-le n s (omega arith) in
+    (sym (a .size) ∙ size,
+    by-place l n
+    (λ fewer.
+    let many : 4095 ≤ field = uncounted fewer in
+    inr
+    (rw (← (a .name-is))
+    (record { kept = l; uncounted = omega arith; fewer = omega arith; most = omega arith; is = is ∙ sym (take-take l n s no-more) })))
+    λ enough. let same : l ≡ n = omega arith in inl (is ∙ rw same (a .name-is)))
