@@ -1,26 +1,30 @@
 -- Bytes with zeros from a place on, and what is read of an entry's name there.
 use mathlib.Core.Path.{_≡_, refl, sym, ap, _∙_}
-use mathlib.Core.List.{List, [], _∷_, _++_}
+use mathlib.Core.List.{List, [], _∷_, _++_, append-nil}
 use mathlib.Core.Bool.{Bool, true, false, cond}
-use mathlib.Core.Logic.{_⊎_, inl, inr}
+use mathlib.Core.Logic.{_⊎_, inl, inr, ⊎-elim}
 use Prim.Native.Nat.{ℕ, zero, suc, _+_, _-_, _≤_, _<_}
 use native.Mathlib.Nat.{sub-zero}
 use native.Mathlib.Numerals.{unary-clauses}
 use native.Mathlib.Omega.{arith}
-use lib.ListN.{length, take, drop, getD, replicate, length-append, length-take, length-drop, length-replicate}
-use lib.Seq.{take-nil, take-take, length-take-le}
-use lib.Dec.{eqb, ltb}
+use lib.ListN.{length, take, drop, getD, replicate, length-append, length-take, length-drop, length-replicate, take-append-drop}
+use lib.Seq.{take-nil, take-all, take-take, length-take-le}
+use lib.Dec.{eqb, leb, ltb}
 use borrow.Author.Tests.{ltb-true, ltb-false, leb-true, eqb-true}
-use Rattle.format.specs.Bytes.{Bytes, before, lacks}
-use Rattle.format.specs.Names.{okName, lengthField}
+use Rattle.format.specs.Bytes.{Bytes, two, putN, before, lacks}
+use Rattle.format.specs.Names.{okName, lengthField, compare}
+use Rattle.format.specs.declared.Order.the-variants.{Above}
 use Rattle.format.specs.Layout.{entryLength}
 use Rattle.format.specs.Reading.{good}
-use Rattle.format.specs.Reader.{plainLength, readPlain}
+use Rattle.format.specs.Reader.{plainLength, readPlain, readN, joined, readSuffix, readPacked, readName}
 use Rattle.format.specs.Tails.{zeroedFrom}
 use Rattle.format_laws.proofs.Lists.{drop-zeros}
 use Rattle.format_laws.proofs.Tests.{false-true, and-inv, by-test, cond-inv}
 use Rattle.format_laws.proofs.Names.{okName-length, okName-lacks}
+use Rattle.format_laws.proofs.Texts.{before-le, lacks-before}
+use Rattle.format_laws.proofs.Orders.{compare-next}
 use Rattle.format_laws.proofs.Readings.{good-inv, need-inv, bind-inv}
+use Rattle.spelling.proofs.Names.{read-n, n-read}
 
 -- ---- bytes with zeros from the place c on
 
@@ -90,7 +94,12 @@ unzeroed (suc n) (suc c) (x ∷ s) h l =
     let tail : cond (eqb x 0) false (lacks 0 (take n (zeroedFrom c s))) ≡ true = rw (zeroed-cons c x s) at l in
     cond-inv (eqb x 0) _ _ _ tail (λ p q. false-true q) (λ p q. omega (arith, unzeroed n c s (omega arith) q))
 
--- the first NUL comes no later
+-- the first NUL comes no later, and not after the place
+before-place : (c : ℕ) (s : List ℕ) → before 0 (zeroedFrom c s) ≤ c
+before-place c s =
+    let t : List ℕ = zeroedFrom c s in
+    unzeroed (before 0 t) c s (omega (arith, before-le 0 t, zeroed-length c s)) (lacks-before 0 t)
+
 before-zeroed : (c : ℕ) (s : List ℕ) → before 0 (zeroedFrom c s) ≤ before 0 s
 unfolding before
 before-zeroed c [] = rw (zeroed-none c) (omega arith)
@@ -162,6 +171,12 @@ entryLength-zeroed :
 unfolding entryLength
 entryLength-zeroed f n l total less all fits = omega arith
 
+-- its first byte is not NUL
+plain-place : (f p field c : ℕ) (s less : List ℕ) (m : ℕ) → readPlain f p field (zeroedFrom c s) ≡ good less m → 0 < c
+plain-place f p field c s less m q =
+    let b : PlainRead f field (zeroedFrom c s) less m (plainLength field (zeroedFrom c s)) = plain-inv f p field (zeroedFrom c s) less m q in
+    omega (arith, zeroed-length c s, unzeroed (plainLength field (zeroedFrom c s)) c s (omega (arith, zeroed-length c s)) (b .lacking))
+
 plain-zeroed :
     (f p field c : ℕ) (s name less : List ℕ) (m : ℕ) →
     readPlain f p field s ≡ good name m →
@@ -187,3 +202,123 @@ plain-zeroed f p field c s name less m e q =
     (rw (← (a .name-is))
     (record { kept = l; uncounted = omega arith; fewer = omega arith; most = omega arith; is = is ∙ sym (take-take l n s no-more) })))
     λ enough. let same : l ≡ n = omega arith in inl (is ∙ rw same (a .name-is)))
+
+-- ---- the packed name
+
+number-size : (p most : ℕ) (s : List ℕ) (n i : ℕ) → readN p most s ≡ good n i → (1 ≤ i) × (i ≤ 2) × (n ≤ most) × (n ≡ 0 → i ≡ 1)
+unfolding readN two
+number-size p most s n i e =
+    need-inv _ _ _ _ _ _ e λ _ e₁.
+    cond-inv (ltb (getD s 0 0) 128) _ _ _ e₁
+    (λ _ e₂. need-inv _ _ _ _ _ _ e₂ λ within e₃. good-inv _ _ _ _ e₃ λ n-is i-is. omega (arith, leb-true))
+    (λ _ e₂.
+    need-inv _ _ _ _ _ _ e₂ λ _ e₃.
+    need-inv _ _ _ _ _ _ e₃ λ tests e₄.
+    let (_, within) = and-inv (ltb (getD s 1 0) 128) (leb (two (getD s 0 0) (getD s 1 0)) most) tests in
+    good-inv _ _ _ _ e₄ λ n-is i-is. omega (arith, leb-true))
+
+-- the number, where it was not reached; and where nothing is left of it
+number-zeroed : (p most c : ℕ) (s : List ℕ) (n i : ℕ) → i ≤ c → readN p most s ≡ good n i → readN p most (zeroedFrom c s) ≡ good n i
+number-zeroed p most c s n i h e =
+    let (short, within, bytes) = n-read p most s n i e in
+    let t : List ℕ = zeroedFrom c s in
+    let whole : t ≡ putN n ++ drop i t = sym (take-append-drop i t) ∙ rw (zeroed-take i c s h, bytes) refl in
+    let size : length (putN n) ≡ i = rw bytes at (length-take-le i s short) in
+    rw whole (read-n p most n (drop i t) within ∙ rw size refl)
+
+number-none : (p most c : ℕ) (s : List ℕ) (n i : ℕ) → c ≡ 0 → readN p most (zeroedFrom c s) ≡ good n i → (n ≡ 0) × (i ≡ 1)
+unfolding readN
+number-none p most c s n i h e =
+    let first : getD (zeroedFrom c s) 0 0 ≡ 0 = zeroed-from 0 c s (omega arith) in
+    need-inv _ _ _ _ _ _ (rw first at e) λ _ e₁.
+    need-inv _ _ _ _ _ _ e₁ λ _ e₂.
+    good-inv _ _ _ _ e₂ λ n-is i-is. (sym n-is, sym i-is)
+
+suffix-inv :
+    (p : ℕ) (previous : List ℕ) (field n : ℕ) (s name : List ℕ) (m : ℕ) → readSuffix p previous field n s ≡ good name m →
+    (before 0 s < length s) × (joined previous n s ≡ name) × (before 0 s + 1 ≡ m)
+unfolding readSuffix
+suffix-inv p previous field n s name m e =
+    need-inv _ _ _ _ _ _ e λ within e₁.
+    need-inv _ _ _ _ _ _ e₁ λ _ e₂.
+    good-inv _ _ _ _ e₂ λ name-is m-is. (ltb-true _ _ within, name-is, m-is)
+
+-- a NUL that is the last byte ends the same bytes
+suffix-zeroed :
+    (previous : List ℕ) (n c : ℕ) (s : List ℕ) → before 0 (zeroedFrom c s) + 1 ≡ length s → before 0 s < length s →
+    (before 0 s + 1 ≡ length s) × (joined previous n (zeroedFrom c s) ≡ joined previous n s)
+unfolding joined
+suffix-zeroed previous n c s last within =
+    let same : before 0 (zeroedFrom c s) ≡ before 0 s = omega (arith, before-zeroed c s) in
+    (omega arith, rw (zeroed-take (before 0 (zeroedFrom c s)) c s (before-place c s), same) refl)
+
+-- no byte before the NUL: a beginning of the name before, which is above it
+joined-none : (previous : List ℕ) (n : ℕ) (s : List ℕ) → before 0 s ≡ 0 → joined previous n s ≡ take (length previous - n) previous
+unfolding joined
+joined-none previous n s h = rw (h, append-nil (take (length previous - n) previous))
+
+compare-beginning : (s : List ℕ) (n : ℕ) → n < length s → compare s (take n s) ≡ Above
+unfolding compare
+compare-beginning [] n h = absurd (omega arith)
+compare-beginning (x ∷ s) zero h = refl
+compare-beginning (x ∷ s) (suc n) h = compare-next x x s (take n s) refl ∙ compare-beginning s n (omega arith)
+
+packed-zeroed :
+    (p : ℕ) (previous : List ℕ) (field other c : ℕ) (s name less : List ℕ) (m : ℕ) →
+    (compare previous name ≡ Above → ⊥) →
+    readPacked p previous field s ≡ good name m →
+    readPacked p previous other (zeroedFrom c s) ≡ good less (length s) →
+    (m ≡ length s) × (less ≡ name) × (c ≡ 0 → name ≡ previous)
+unfolding readPacked
+packed-zeroed p previous field other c s name less m rising e q =
+    let t : List ℕ = zeroedFrom c s in
+    bind-inv _ _ _ _ e λ n i j e₁ e₂ m-is.
+    bind-inv _ _ _ _ q λ l h k q₁ q₂ all.
+    let (within, name-is, j-is) = suffix-inv p previous field n (drop i s) name j e₂ in
+    let (_, less-is, k-is) = suffix-inv p previous other l (drop h t) less k q₂ in
+    let (i-some, i-few, n-most, i-one) = number-size p (length previous) s n i e₁ in
+    let (h-some, h-few, _, _) = number-size p (length previous) t l h q₁ in
+    let after : drop h t ≡ zeroedFrom (c - h) (drop h s) = zeroed-drop h c s in
+    by-place c i
+    (λ reached.
+    let least : h ≤ c + 1 = by-place 0 c (λ some. omega arith) (λ none. omega (arith, number-none p (length previous) c s l h (omega arith) q₁ .1)) in
+    let ends : before 0 (drop h t) ≡ 0 = rw after (omega (arith, before-place (c - h) (drop h s))) in
+    let empty : before 0 (drop i s) ≡ 0 = omega (arith, length-drop i s) in
+    let is : name ≡ take (length previous - n) previous = sym name-is ∙ joined-none previous n (drop i s) empty in
+    let none : n ≡ 0 =
+    by-place 0 n (λ some. absurd (rising (rw is (compare-beginning previous (length previous - n) (omega arith))))) (λ z. omega arith)
+    in
+    let one : i ≡ 1 = i-one none in
+    let start : c ≡ 0 = omega arith in
+    let also : l ≡ n = omega (arith, number-none p (length previous) c s l h start q₁ .0) in
+    (omega arith, sym less-is ∙ joined-none previous l (drop h t) ends ∙ rw also (sym is), λ _. is ∙ rw none (take-all (length previous - 0) previous (omega arith))))
+    λ later.
+    let number : readN p (length previous) t ≡ good n i = number-zeroed p (length previous) c s n i later e₁ in
+    let same-n : l ≡ n = cc in
+    let same-i : h ≡ i = cc in
+    let here : drop h t ≡ zeroedFrom (c - i) (drop i s) = rw same-i (zeroed-drop i c s) in
+    let last : before 0 (zeroedFrom (c - i) (drop i s)) + 1 ≡ length (drop i s) = omega (arith, length-drop i s, ap (before 0) here) in
+    let (ends, same) = suffix-zeroed previous n (c - i) (drop i s) last within in
+    (omega (arith, length-drop i s), sym less-is ∙ rw (here, same-n) (same ∙ name-is), λ none. absurd (omega arith))
+
+-- ---- the name, by version
+
+-- the same, and from its first byte on zeros only if it is the one before; or cut
+pub name-zeroed :
+    (v f p : ℕ) (previous : List ℕ) (field other c : ℕ) (s name less : List ℕ) (m : ℕ) →
+    (compare previous name ≡ Above → ⊥) →
+    (0 < c → other ≡ field) →
+    readName v f p previous field s ≡ good name m →
+    readName v f p previous other (zeroedFrom c s) ≡ good less (length s) →
+    (m ≡ length s)
+    × (((less ≡ name) × (c ≡ 0 → (eqb v 4 ≡ true) × (name ≡ previous))) ⊎ ((eqb v 4 ≡ false) × (0 < c) × Cut name less))
+unfolding readName
+name-zeroed v f p previous field other c s name less m rising fields e q =
+    by-test (eqb v 4)
+    (λ four.
+    let (size, same, first) = packed-zeroed p previous field other c s name less m rising (rw four at e) (rw four at q) in
+    (size, inl (same, λ none. (four, first none))))
+    (λ plain.
+    let some : 0 < c = plain-place f p other c s less (length s) (rw plain at q) in
+    let (size, kept) = plain-zeroed f p field c s name less m (rw plain at e) (rw (plain, fields some) at q) in
+    (size, ⊎-elim (λ same. inl (same, λ none. absurd (omega arith))) (λ cut. inr (plain, some, cut)) kept))
