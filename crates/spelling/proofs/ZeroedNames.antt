@@ -24,7 +24,7 @@ use Rattle.format_laws.proofs.Names.{okName-length, okName-lacks}
 use Rattle.format_laws.proofs.Texts.{before-le, lacks-before}
 use Rattle.format_laws.proofs.Orders.{compare-next}
 use Rattle.format_laws.proofs.Readings.{good-inv, need-inv, bind-inv}
-use Rattle.spelling.proofs.Names.{read-n, n-read}
+use Rattle.spelling.proofs.Names.{read-n, n-read, name-read}
 
 -- ---- bytes with zeros from the place c on
 
@@ -311,14 +311,17 @@ pub name-zeroed :
     readName v f p previous field s ≡ good name m →
     readName v f p previous other (zeroedFrom c s) ≡ good less (length s) →
     (m ≡ length s)
+    × (other ≡ field)
     × (((less ≡ name) × (c ≡ 0 → (eqb v 4 ≡ true) × (name ≡ previous))) ⊎ ((eqb v 4 ≡ false) × (0 < c) × Cut name less))
 unfolding readName
 name-zeroed v f p previous field other c s name less m rising fields e q =
     by-test (eqb v 4)
     (λ four.
     let (size, same, first) = packed-zeroed p previous field other c s name less m rising (rw four at e) (rw four at q) in
-    (size, inl (same, λ none. (four, first none))))
+    let (_, _, _, field-is) = name-read v f p previous field s name m e in
+    let (_, _, _, other-is) = name-read v f p previous other (zeroedFrom c s) less (length s) q in
+    (size, other-is ∙ rw same (sym field-is), inl (same, λ none. (four, first none))))
     (λ plain.
     let some : 0 < c = plain-place f p other c s less (length s) (rw plain at q) in
     let (size, kept) = plain-zeroed f p field c s name less m (rw plain at e) (rw (plain, fields some) at q) in
-    (size, ⊎-elim (λ same. inl (same, λ none. absurd (omega arith))) (λ cut. inr (plain, some, cut)) kept))
+    (size, fields some, ⊎-elim (λ same. inl (same, λ none. absurd (omega arith))) (λ cut. inr (plain, some, cut)) kept))
