@@ -9,3 +9,5 @@ pub mod Names
 pub mod Texts
 pub mod Tree
 pub mod Undo
+pub mod Zeroed
+pub mod ZeroedNames

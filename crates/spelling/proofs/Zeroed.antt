@@ -5,8 +5,8 @@ use mathlib.Core.Bool.{Bool, true, false, _||_}
 use mathlib.Core.Logic.{_⊎_, inl, inr, ⊎-elim}
 use Prim.Native.Nat.{ℕ, zero, suc, _+_, _-_, _*_, _/_, _%_, _≤_, _<_}
 use native.Mathlib.Omega.{arith}
-use lib.ListN.{length, take, drop, getD, replicate, length-drop, take-append-drop}
-use lib.Seq.{length-take-le, drop-drop, take-take}
+use lib.ListN.{length, take, drop, replicate, length-drop, take-append-drop}
+use lib.Seq.{length-take-le, drop-drop}
 use lib.Dec.{eqb, ltb}
 use borrow.Author.Tests.{eqb-true, eqb-false}
 use Rattle.format.specs.Bytes.{Bytes, be16, be32, be32s}
@@ -16,15 +16,15 @@ use Rattle.format.specs.Records.{Entry, Key, keyOf}
 use Rattle.format.specs.Layout.{okMode, fixedLength, bit}
 use Rattle.format.specs.Reading.{good}
 use Rattle.format.specs.Reader.{isSet, okWord, entryOf, readName, readEntry, readEntries}
-use Rattle.format.specs.Tails.{zeroedFrom, wordCleared, Lost, name-cut, word-lost, Kept, kept-end, kept-same, kept-lost}
-use Rattle.format_laws.proofs.Tests.{false-true, and-inv, by-test}
+use Rattle.format.specs.Tails.{zeroedFrom, Lost, name-cut, word-lost, Kept, kept-end, kept-same, kept-lost}
+use Rattle.format_laws.proofs.Tests.{false-true, clash, and-inv, by-test}
 use Rattle.format_laws.proofs.Names.{okName-length}
 use Rattle.format_laws.proofs.Numbers.{bytes-drop}
 use Rattle.format_laws.proofs.Readings.{good-inv, need-inv, bind-inv}
 use Rattle.spelling.proofs.Names.{name-read}
 use Rattle.spelling.proofs.Flags.{read-word}
 use Rattle.spelling.proofs.Entries.{wordIn, Passes, fixed-size, read-passes, read-entry, entry-read}
-use Rattle.spelling.proofs.ZeroedNames.{by-place, zeroed-all, zeroed-length, zeroed-drop, zeroed-take, getD-zeros, zeroed-before, zeroed-from, zeroed-bytes, Cut, name-zeroed}
+use Rattle.spelling.proofs.ZeroedNames.{by-place, zeroed-length, zeroed-drop, zeroed-past, zeroed-take, getD-zeros, zeroed-before, zeroed-from, zeroed-bytes, Cut, name-zeroed}
 
 -- ---- the parts of an entry
 
@@ -163,3 +163,99 @@ entry-zeroed w v k p c s e d m bytes a b =
     in
     let result = same-or-lost w v k s x y z (a .name) (b .name) c f (word-zeroed w c s (a .extended) bytes (a .word)) kept in
     (omega (arith, length-drop f s, a .size, a .long), rw (a .entry-is, is) at result)
+
+-- ---- an entry that was not reached, and the bytes after one that was
+
+-- an entry is read by its own bytes
+entry-same :
+    (w v : ℕ) (k : Key) (p : ℕ) (s t : List ℕ) (e : Entry) (m : ℕ) → Bytes s → take m t ≡ take m s →
+    readEntry w v k p s ≡ good e m → readEntry w v k p t ≡ good e m
+entry-same w v k p s t e m b same q =
+    let (short, is) = entry-read w v k p s e m b q in
+    let whole : t ≡ take m s ++ drop m t = sym (take-append-drop m t) ∙ rw same refl in
+    rw whole (read-entry w v k p e (take m s) (drop m t) is ∙ rw (length-take-le m s short) refl)
+
+-- in zeros there is none
+zeros-mode : (n : ℕ) → okMode (be32 (replicate n 0) 24) ≡ false
+unfolding okMode be32 be16
+zeros-mode n = simp getD-zeros
+
+zeros-none : (w v n : ℕ) (k : Key) (p i : ℕ) (es : List Entry) (m : ℕ) → readEntries w v n k p (replicate i 0) ≡ good es m → n ≡ 0
+unfolding readEntries readEntry
+zeros-none w v zero k p i es m q = refl
+zeros-none w v (suc n) k p i es m q =
+    bind-inv _ _ _ _ q λ e j l q₁ q₂ m-is.
+    need-inv _ _ _ _ _ _ q₁ λ _ q₃.
+    need-inv _ _ _ _ _ _ q₃ λ mode q₄. clash mode (zeros-mode i)
+
+none-read : (w v n : ℕ) (k : Key) (p : ℕ) (s : List ℕ) (es : List Entry) (m : ℕ) → n ≡ 0 → readEntries w v n k p s ≡ good es m → (es ≡ []) × (m ≡ 0)
+unfolding readEntries
+none-read w v zero k p s es m h q = good-inv _ _ _ _ q λ es-is m-is. (sym es-is, sym m-is)
+none-read w v (suc n) k p s es m h q = absurd (omega arith)
+
+-- ---- a run of entries
+
+-- a run is an entry and a shorter run
+entries-inv :
+    {X : Type 0} (w v n : ℕ) (k : Key) (p : ℕ) (s : List ℕ) (es : List Entry) (m : ℕ) → readEntries w v (suc n) k p s ≡ good es m →
+    ((e : Entry) (i : ℕ) (fs : List Entry) (j : ℕ) →
+    readEntry w v k p s ≡ good e i →
+    readEntries w v n (keyOf e) (p + i) (drop i s) ≡ good fs j →
+    e ∷ fs ≡ es →
+    i + j ≡ m →
+    X) →
+    X
+unfolding readEntries
+entries-inv w v n k p s es m q then =
+    bind-inv _ _ _ _ q λ e i j q₁ q₂ m-is.
+    bind-inv _ _ _ _ q₂ λ fs g h q₃ q₄ j-is.
+    good-inv _ _ _ _ q₄ λ es-is h-is.
+    then e i fs g q₁ q₃ es-is (omega arith)
+
+-- what follows the entries there is not just zeros, as no extension is: where anything differs, the entries reach to the end
+pub entries-zeroed :
+    (w v n : ℕ) (k : Key) (p : ℕ) (s : List ℕ) (c : ℕ) (es ds : List Entry) (m o : ℕ) → Bytes s →
+    readEntries w v n k p s ≡ good es m →
+    readEntries w v n k p (zeroedFrom c s) ≡ good ds o →
+    ((i : ℕ) → drop o (zeroedFrom c s) ≡ replicate i 0 → i ≡ 0) →
+    Kept v k es ds × ((es ≡ ds) ⊎ (m ≡ length s))
+unfolding readEntries
+entries-zeroed w v zero k p s c es ds m o b q r rest =
+    good-inv _ _ _ _ q λ es-is _.
+    good-inv _ _ _ _ r λ ds-is _.
+    rw (← es-is, ← ds-is) (kept-end, inl refl)
+entries-zeroed w v (suc n) k p s c es ds m o b q r rest =
+    let t : List ℕ = zeroedFrom c s in
+    entries-inv w v n k p s es m q λ e i fs j q₁ q₂ es-is m-is.
+    entries-inv w v n k p t ds o r λ d g gs h r₁ r₂ ds-is o-is.
+    let (short, _) = entry-read w v k p t d g (zeroed-bytes c s b) r₁ in
+    let long : length t ≡ length s = zeroed-length c s in
+    by-place c g
+    (λ reached.
+    let after : drop g t ≡ replicate (length s - g) 0 = zeroed-past g c s (omega arith) in
+    let none : n ≡ 0 = zeros-none w v n (keyOf d) (p + g) (length s - g) gs h (rw after at r₂) in
+    let (fs-is, j-is) = none-read w v n (keyOf e) (p + i) (drop i s) fs j none q₂ in
+    let (gs-is, h-is) = none-read w v n (keyOf d) (p + g) (drop g t) gs h none r₂ in
+    let end : o ≡ g = omega arith in
+    let empty : length s - g ≡ 0 = rest (length s - g) (rw end after) in
+    let whole : g ≡ length s = omega arith in
+    let (size, last) = entry-zeroed w v k p c s e d i b (read-passes w v k p s e i q₁) (read-passes w v k p t d (length s) (rw whole at r₁)) in
+    rw (← es-is, ← ds-is, fs-is, gs-is)
+    (⊎-elim (λ same. rw same (kept-same kept-end)) (λ lost. kept-lost lost) last, inr (omega arith)))
+    λ later.
+    let same : readEntry w v k p s ≡ good d g = entry-same w v k p t s d g (zeroed-bytes c s b) (sym (zeroed-take g c s later)) r₁ in
+    let d-is : d ≡ e = cc in
+    let g-is : g ≡ i = cc in
+    let o-is-too : o ≡ i + h = omega arith in
+    let after : drop o t ≡ drop h (zeroedFrom (c - i) (drop i s)) = rw o-is-too (sym (drop-drop h i t) ∙ ap (drop h) (zeroed-drop i c s)) in
+    let (kept, end) =
+    entries-zeroed w v n (keyOf e) (p + i) (drop i s) (c - i) fs gs j h (bytes-drop i s b) q₂ (rw (d-is, g-is, zeroed-drop i c s) at r₂) (λ l zeros. rest l (after ∙ zeros))
+    in
+    rw (← es-is, ← ds-is, d-is)
+    (kept-same kept, ⊎-elim (λ all. inl (ap (λ (l : List Entry). e ∷ l) all)) (λ size. inr (omega (arith, length-drop i s))) end)
+
+-- no entry is lost
+pub kept-length : {v : ℕ} {k : Key} {es ds : List Entry} → Kept v k es ds → length es ≡ length ds
+kept-length kept-end = refl
+kept-length (kept-same h) = ap suc (kept-length h)
+kept-length (kept-lost h) = refl

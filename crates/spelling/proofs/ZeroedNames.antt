@@ -1,14 +1,14 @@
 -- Bytes with zeros from a place on, and what is read of an entry's name there.
 use mathlib.Core.Path.{_≡_, refl, sym, ap, _∙_}
 use mathlib.Core.List.{List, [], _∷_, _++_, append-nil}
-use mathlib.Core.Bool.{Bool, true, false, cond}
+use mathlib.Core.Bool.{true, false, cond}
 use mathlib.Core.Logic.{_⊎_, inl, inr, ⊎-elim}
 use Prim.Native.Nat.{ℕ, zero, suc, _+_, _-_, _≤_, _<_}
 use native.Mathlib.Nat.{sub-zero}
 use native.Mathlib.Numerals.{unary-clauses}
 use native.Mathlib.Omega.{arith}
 use lib.ListN.{length, take, drop, getD, replicate, length-append, length-take, length-drop, length-replicate, take-append-drop}
-use lib.Seq.{take-nil, take-all, take-take, length-take-le}
+use lib.Seq.{take-nil, take-all, take-take, getD-take, getD-drop, length-take-le}
 use lib.Dec.{eqb, leb, ltb}
 use borrow.Author.Tests.{ltb-true, ltb-false, leb-true, eqb-true}
 use Rattle.format.specs.Bytes.{Bytes, two, putN, before, lacks}
@@ -32,7 +32,7 @@ use Rattle.spelling.proofs.Names.{read-n, n-read, name-read}
 pub by-place {ℓ} : {X : Type ℓ} (i c : ℕ) → (i < c → X) → (c ≤ i → X) → X
 by-place i c f g = by-test (ltb i c) (λ p. f (ltb-true i c p)) (λ p. g (ltb-false i c p))
 
-pub zeroed-all : (s : List ℕ) → zeroedFrom 0 s ≡ replicate (length s) 0
+zeroed-all : (s : List ℕ) → zeroedFrom 0 s ≡ replicate (length s) 0
 unfolding zeroedFrom
 zeroed-all s = rw sub-zero
 
@@ -52,10 +52,15 @@ zeroed-length c s =
 pub zeroed-drop : (i c : ℕ) (s : List ℕ) → drop i (zeroedFrom c s) ≡ zeroedFrom (c - i) (drop i s)
 zeroed-drop zero c s = rw sub-zero
 zeroed-drop (suc i) c [] = rw (zeroed-none c, zeroed-none (c - suc i))
-zeroed-drop (suc i) zero (x ∷ s) = 
+zeroed-drop (suc i) zero (x ∷ s) =
     let none : 0 - suc i ≡ 0 = omega arith in
     rw (zeroed-all (x ∷ s), none, zeroed-all (drop i s), length-drop i s) (drop-zeros i (length s))
 zeroed-drop (suc i) (suc c) (x ∷ s) = let less : suc c - suc i ≡ c - i = omega arith in rw (zeroed-cons c x s, less) (zeroed-drop i c s)
+
+pub zeroed-past : (i c : ℕ) (s : List ℕ) → c ≤ i → drop i (zeroedFrom c s) ≡ replicate (length s - i) 0
+zeroed-past i c s h =
+    let none : c - i ≡ 0 = omega arith in
+    rw (zeroed-drop i c s, none, zeroed-all (drop i s), length-drop i s)
 
 pub zeroed-take : (i c : ℕ) (s : List ℕ) → i ≤ c → take i (zeroedFrom c s) ≡ take i s
 zeroed-take zero c s h = refl
@@ -70,16 +75,13 @@ getD-zeros (suc n) zero = refl
 getD-zeros (suc n) (suc i) = getD-zeros n i
 
 pub zeroed-before : (i c : ℕ) (s : List ℕ) → i < c → getD (zeroedFrom c s) i 0 ≡ getD s i 0
-zeroed-before i zero s h = absurd (omega arith)
-zeroed-before i (suc c) [] h = rw (zeroed-none (suc c))
-zeroed-before zero (suc c) (x ∷ s) h = rw (zeroed-cons c x s)
-zeroed-before (suc i) (suc c) (x ∷ s) h = rw (zeroed-cons c x s) (zeroed-before i c s (omega arith))
+zeroed-before i c s h = sym (getD-take c (zeroedFrom c s) i 0 h) ∙ rw (zeroed-take c c s (omega arith)) (getD-take c s i 0 h)
 
 pub zeroed-from : (i c : ℕ) (s : List ℕ) → c ≤ i → getD (zeroedFrom c s) i 0 ≡ 0
-zeroed-from i zero s h = rw (zeroed-all s) (getD-zeros (length s) i)
-zeroed-from i (suc c) [] h = rw (zeroed-none (suc c))
-zeroed-from zero (suc c) (x ∷ s) h = absurd (omega arith)
-zeroed-from (suc i) (suc c) (x ∷ s) h = rw (zeroed-cons c x s) (zeroed-from i c s (omega arith))
+zeroed-from i c s h =
+    let here : i + 0 ≡ i = omega arith in
+    let first : getD (drop i (zeroedFrom c s)) 0 0 ≡ 0 = rw (zeroed-past i c s h) (getD-zeros (length s - i) 0) in
+    rw (getD-drop i (zeroedFrom c s) 0 0, here) at first
 
 pub zeroed-bytes : (c : ℕ) (s : List ℕ) → Bytes s → Bytes (zeroedFrom c s)
 zeroed-bytes c s b i = by-place i c (λ h. rw (zeroed-before i c s h) (b i)) (λ h. rw (zeroed-from i c s h) (omega arith))
@@ -105,12 +107,7 @@ unfolding before
 before-zeroed c [] = rw (zeroed-none c) (omega arith)
 before-zeroed zero (x ∷ s) = rw (zeroed-all (x ∷ s)) (omega arith)
 before-zeroed (suc c) (x ∷ s) =
-    let rest = before-zeroed c s in
-    rw (zeroed-cons c x s) (go (eqb x 0) rest)
-  where
-    go : (t : Bool) → before 0 (zeroedFrom c s) ≤ before 0 s → cond t 0 (suc (before 0 (zeroedFrom c s))) ≤ cond t 0 (suc (before 0 s))
-    go true h = omega arith
-    go false h = omega arith
+    rw (zeroed-cons c x s) (by-test (eqb x 0) (λ p. rw p (omega arith)) (λ p. rw p (omega (arith, before-zeroed c s))))
 
 -- ---- the plain name, f being the bytes before it
 
@@ -124,7 +121,6 @@ pub record Cut (name less : List ℕ) : Type 0 where
 
 -- what a reading of a plain name goes by, but for the padding
 record PlainRead (f field : ℕ) (s name : List ℕ) (m n : ℕ) : Type 0 where
-  length-is : plainLength field s ≡ n
   within : n < length s
   lacking : lacks 0 (take n s) ≡ true
   some : 1 ≤ n
@@ -145,7 +141,6 @@ plain-inv f p field s name m e =
     let (ok, same) = and-inv (okName (take n s)) (eqb field (lengthField n)) named in
     let short : n < length s = ltb-true _ _ within in
     record {
-      length-is = refl;
       within = short;
       lacking = okName-lacks (take n s) ok;
       some = omega (arith, okName-length (take n s) ok .0, length-take-le n s (omega arith));
@@ -193,15 +188,16 @@ plain-zeroed f p field c s name less m e q =
     let (size, seven) = entryLength-zeroed f l n (length s) no-more (b .size) (a .fits) in
     let place : l ≤ c = unzeroed l c s (omega arith) (b .lacking) in
     let is : less ≡ take l s = sym (b .name-is) ∙ zeroed-take l c s place in
-    let count : length (take n s) ≡ n = length-take-le n s (omega arith) in
-    (sym (a .size) ∙ size,
-    by-place l n
-    (λ fewer.
-    let many : 4095 ≤ field = uncounted fewer in
-    inr
-    (rw (← (a .name-is))
-    (record { kept = l; uncounted = omega arith; fewer = omega arith; most = omega arith; is = is ∙ sym (take-take l n s no-more) })))
-    λ enough. let same : l ≡ n = omega arith in inl (is ∙ rw same (a .name-is)))
+    let count : length (take n s) ≡ n = length-take-le n s (omega arith) in (
+      sym (a .size) ∙ size,
+      by-place l n
+          (λ fewer.
+          let many : 4095 ≤ field = uncounted fewer in
+          inr
+          (rw (← (a .name-is))
+          (record { kept = l; uncounted = omega arith; fewer = omega arith; most = omega arith; is = is ∙ sym (take-take l n s no-more) })))
+          λ enough. let same : l ≡ n = omega arith in inl (is ∙ rw same (a .name-is)),
+    )
 
 -- ---- the packed name
 
