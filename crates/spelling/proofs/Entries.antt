@@ -24,25 +24,25 @@ use Rattle.spelling.proofs.Flags.{flags-read, read-flags, word-read, re
 -- ---- the tests of the reader
 
 -- the extended word, or 0 without one
-abbrev wordIn : Bool → ℕ → List ℕ → ℕ
+abbrev pub wordIn : Bool → ℕ → List ℕ → ℕ
 wordIn extended w s = cond extended (be16 s (42 + w)) 0
 
 -- what a reading of the entry e, which takes m bytes of s, goes by
-record Passes (w v : ℕ) (k : Key) (p : ℕ) (s : List ℕ) (e : Entry) (m : ℕ) : Type 0 where
-  extended : Bool
-  name : List ℕ
-  taken : ℕ
-  mode : okMode (be32 s 24) ≡ true
-  set : isSet 16384 (be16 s (40 + w)) ≡ extended
-  allowed : not (extended && eqb v 2) ≡ true
-  long : fixedLength w extended ≤ length s
-  word : okWord (wordIn extended w s) ≡ true
-  named : readName v (fixedLength w extended) p (k .name) (be16 s (40 + w) % 4096) (drop (fixedLength w extended) s) ≡ good name taken
-  order : rises (compare (k .name) name) (k .stage) (be16 s (40 + w) / 4096 % 4) ≡ true
-  entry-is : entryOf w s (be16 s (40 + w)) (wordIn extended w s) name ≡ e
-  size : fixedLength w extended + taken ≡ m
+pub record Passes (w v : ℕ) (k : Key) (p : ℕ) (s : List ℕ) (e : Entry) (m : ℕ) : Type 0 where
+  pub extended : Bool
+  pub name : List ℕ
+  pub taken : ℕ
+  pub mode : okMode (be32 s 24) ≡ true
+  pub set : isSet 16384 (be16 s (40 + w)) ≡ extended
+  pub allowed : not (extended && eqb v 2) ≡ true
+  pub long : fixedLength w extended ≤ length s
+  pub word : okWord (wordIn extended w s) ≡ true
+  pub named : readName v (fixedLength w extended) p (k .name) (be16 s (40 + w) % 4096) (drop (fixedLength w extended) s) ≡ good name taken
+  pub order : rises (compare (k .name) name) (k .stage) (be16 s (40 + w) / 4096 % 4) ≡ true
+  pub entry-is : entryOf w s (be16 s (40 + w)) (wordIn extended w s) name ≡ e
+  pub size : fixedLength w extended + taken ≡ m
 
-fixed-size : (w : ℕ) (extended : Bool) → fixedLength w extended ≡ 42 + w + cond extended 2 0
+pub fixed-size : (w : ℕ) (extended : Bool) → fixedLength w extended ≡ 42 + w + cond extended 2 0
 unfolding fixedLength
 fixed-size w true = omega arith
 fixed-size w false = omega arith
@@ -129,7 +129,7 @@ module _ (w v : ℕ) (k : Key) (p : ℕ) (s : List ℕ) where
       (need-good _ _ _ _ _ _ enough
       (need-good _ _ _ _ _ _ (h .mode) (read-fixed x e (h .taken) (h .extended) (h .set) (h .allowed) (h .long) (h .word) tail)))
 
-  read-passes : (e : Entry) (m : ℕ) → readEntry w v k p s ≡ good e m → Passes w v k p s e m
+  pub read-passes : (e : Entry) (m : ℕ) → readEntry w v k p s ≡ good e m → Passes w v k p s e m
   unfolding readEntry
   read-passes e m q =
       need-inv _ _ _ _ _ _ q λ enough q₁.

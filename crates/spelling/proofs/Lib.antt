@@ -10,3 +10,5 @@ pub mod Names
 pub mod Texts
 pub mod Tree
 pub mod Undo
+pub mod Zeroed
+pub mod ZeroedNames

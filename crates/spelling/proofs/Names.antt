@@ -111,7 +111,7 @@ read-two p most x y r large small h =
     rw (le-ltb x 128 large)
     (need-good _ _ _ _ _ _ some (need-good _ _ _ _ _ _ more (need-good _ _ _ _ _ _ (and-both _ _ (lt-ltb y 128 small) (le-leb (two x y) most h)) refl)))
 
-read-n : (p most n : ℕ) (r : List ℕ) → n ≤ most → readN p most (putN n ++ r) ≡ good n (length (putN n))
+pub read-n : (p most n : ℕ) (r : List ℕ) → n ≤ most → readN p most (putN n ++ r) ≡ good n (length (putN n))
 read-n p most n r h =
     by-test (ltb n 128)
     (λ small. let below : n < 128 = ltb-true n 128 small in rw (putN-one n below) (read-one p most n r below h))
@@ -120,7 +120,7 @@ read-n p most n r h =
     let back : two (128 + n / 128 - 1) (n % 128) ≡ n = two-putN n above in
     rw (putN-two n above) (read-two p most (128 + n / 128 - 1) (n % 128) r (omega arith) (omega arith) (omega arith) ∙ rw back refl))
 
-n-read : (p most : ℕ) (s : List ℕ) (n m : ℕ) → readN p most s ≡ good n m → (m ≤ length s) × (n ≤ most) × (take m s ≡ putN n)
+pub n-read : (p most : ℕ) (s : List ℕ) (n m : ℕ) → readN p most s ≡ good n m → (m ≤ length s) × (n ≤ most) × (take m s ≡ putN n)
 unfolding readN
 n-read p most s n m e =
     let x : ℕ = getD s 0 0 in
