@@ -3,7 +3,7 @@
 use mathlib.Core.Path.{_≡_}
 use mathlib.Core.List.{List, [], _∷_, _++_}
 use mathlib.Core.Bool.{true, false, _||_}
-use Prim.Native.Nat.{ℕ, _+_, _-_, _≤_, _<_}
+use Prim.Native.Nat.{ℕ, zero, suc, _+_, _-_, _≤_, _<_}
 use lib.ListN.{length, take, replicate}
 use lib.Dec.{eqb}
 use Rattle.format.specs.Records.{Entry, Key, keyOf}
@@ -47,3 +47,9 @@ pub data Kept (v : ℕ) : Key → List Entry → List Entry → Type 0 where
   kept-end : {k : Key} → Kept v k [] []
   kept-same : {k : Key} {e : Entry} {es ds : List Entry} → Kept v (keyOf e) es ds → Kept v k (e ∷ es) (e ∷ ds)
   kept-lost : {k : Key} {e d : Entry} → Lost v k e d → Kept v k (e ∷ []) (d ∷ [])
+
+-- the key of the entry before number i, where k is the one before the first
+abbrev pub keyBefore : Key → List Entry → ℕ → Key
+keyBefore k es zero = k
+keyBefore k [] (suc i) = k
+keyBefore k (e ∷ es) (suc i) = keyBefore (keyOf e) es i

@@ -27,25 +27,25 @@ use Rattle.spelling.proofs.Extensions.{only-once, once-only, read-exten
 -- ---- the header
 
 -- the bytes of a header, and of what follows it
-abbrev headed : ℕ → ℕ → List ℕ → List ℕ
+abbrev pub headed : ℕ → ℕ → List ℕ → List ℕ
 headed v n s = DIRC ++ (put32 v ++ (put32 n ++ s))
 
 module _ (v n : ℕ) (s : List ℕ) where
-  headed-length : length (headed v n s) ≡ 12 + length s
+  pub headed-length : length (headed v n s) ≡ 12 + length s
   headed-length = simp (length-append, length-put32) (omega arith)
 
   headed-signature : take 4 (headed v n s) ≡ DIRC
   headed-signature = refl
 
-  headed-version : v < 4294967296 → be32 (headed v n s) 4 ≡ v
+  pub headed-version : v < 4294967296 → be32 (headed v n s) 4 ≡ v
   headed-version h = be32-at DIRC v (put32 n ++ s) 4 refl h
 
-  headed-count : n < 4294967296 → be32 (headed v n s) 8 ≡ n
+  pub headed-count : n < 4294967296 → be32 (headed v n s) 8 ≡ n
   headed-count h =
       let l : length (DIRC ++ put32 v) ≡ 8 = simp length-append (omega (arith, length-put32 v)) in
       rw (← (append-assoc DIRC (put32 v) (put32 n ++ s))) (be32-at (DIRC ++ put32 v) n s 8 l h)
 
-  headed-rest : drop 12 (headed v n s) ≡ s
+  pub headed-rest : drop 12 (headed v n s) ≡ s
   headed-rest =
       let l : length (DIRC ++ (put32 v ++ put32 n)) ≡ 12 = simp length-append (omega (arith, length-put32 v, length-put32 n)) in
       let e : headed v n s ≡ (DIRC ++ (put32 v ++ put32 n)) ++ s = simp append-assoc in

@@ -11,4 +11,5 @@ pub mod Texts
 pub mod Tree
 pub mod Undo
 pub mod Zeroed
+pub mod ZeroedFile
 pub mod ZeroedNames

@@ -34,7 +34,7 @@ module _ (a c : ℕ) (s : List ℕ) where
   unfolding be16
   be16-high b h = rw (zeroed-before a c s h) (omega (arith, b (a + 1), zeroed-bytes c s b (a + 1)))
 
-  be16-same : a + 1 < c → be16 (zeroedFrom c s) a ≡ be16 s a
+  pub be16-same : a + 1 < c → be16 (zeroedFrom c s) a ≡ be16 s a
   unfolding be16
   be16-same h = rw (zeroed-before a c s (omega arith), zeroed-before (a + 1) c s h)
 
@@ -180,7 +180,7 @@ zeros-mode : (n : ℕ) → okMode (be32 (replicate n 0) 24) ≡ false
 unfolding okMode be32 be16
 zeros-mode n = simp getD-zeros
 
-zeros-none : (w v n : ℕ) (k : Key) (p i : ℕ) (es : List Entry) (m : ℕ) → readEntries w v n k p (replicate i 0) ≡ good es m → n ≡ 0
+pub zeros-none : (w v n : ℕ) (k : Key) (p i : ℕ) (es : List Entry) (m : ℕ) → readEntries w v n k p (replicate i 0) ≡ good es m → n ≡ 0
 unfolding readEntries readEntry
 zeros-none w v zero k p i es m q = refl
 zeros-none w v (suc n) k p i es m q =
@@ -188,7 +188,7 @@ zeros-none w v (suc n) k p i es m q =
     need-inv _ _ _ _ _ _ q₁ λ _ q₃.
     need-inv _ _ _ _ _ _ q₃ λ mode q₄. clash mode (zeros-mode i)
 
-none-read : (w v n : ℕ) (k : Key) (p : ℕ) (s : List ℕ) (es : List Entry) (m : ℕ) → n ≡ 0 → readEntries w v n k p s ≡ good es m → (es ≡ []) × (m ≡ 0)
+pub none-read : (w v n : ℕ) (k : Key) (p : ℕ) (s : List ℕ) (es : List Entry) (m : ℕ) → n ≡ 0 → readEntries w v n k p s ≡ good es m → (es ≡ []) × (m ≡ 0)
 unfolding readEntries
 none-read w v zero k p s es m h q = good-inv _ _ _ _ q λ es-is m-is. (sym es-is, sym m-is)
 none-read w v (suc n) k p s es m h q = absurd (omega arith)

@@ -68,6 +68,15 @@ zeroed-take (suc i) c [] h = rw (zeroed-none c)
 zeroed-take (suc i) zero (x ∷ s) h = absurd (omega arith)
 zeroed-take (suc i) (suc c) (x ∷ s) h = rw (zeroed-cons c x s, zeroed-take i c s (omega arith))
 
+zeroed-first : (x : ℕ) (s : List ℕ) → zeroedFrom 0 (x ∷ s) ≡ 0 ∷ zeroedFrom 0 s
+zeroed-first x s = rw (zeroed-all (x ∷ s), zeroed-all s) refl
+
+pub zeroed-part : (i c : ℕ) (s : List ℕ) → take i (zeroedFrom c s) ≡ zeroedFrom c (take i s)
+zeroed-part zero c s = sym (zeroed-none c)
+zeroed-part (suc i) c [] = rw (zeroed-none c)
+zeroed-part (suc i) zero (x ∷ s) = rw (zeroed-first x s, zeroed-first x (take i s), zeroed-part i 0 s)
+zeroed-part (suc i) (suc c) (x ∷ s) = rw (zeroed-cons c x s, zeroed-cons c x (take i s), zeroed-part i c s)
+
 -- the byte at i
 pub getD-zeros : (n i : ℕ) → getD {A = ℕ} (replicate n 0) i 0 ≡ 0
 getD-zeros zero i = refl
