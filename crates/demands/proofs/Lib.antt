@@ -4,6 +4,8 @@ pub mod Demands
 pub mod Proved
 pub mod Samples
 pub mod Statements
+pub mod Tails
 pub mod Witness
+pub mod WitnessLeftOut
 pub mod WitnessSha256
 pub mod Written

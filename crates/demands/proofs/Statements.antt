@@ -7,15 +7,17 @@ use mathlib.Core.Path.{_≡_}
 use mathlib.Core.Logic.{_↔_, _⊎_}
 use mathlib.Core.Bool.{true, false}
 use mathlib.Core.List.{List}
-use Prim.Native.Nat.{ℕ, _+_, _-_, _<_}
+use mathlib.Core.Option.{some}
+use Prim.Native.Nat.{ℕ, suc, _+_, _-_, _<_}
 use lib.ListN.{length, take, drop, getElem?, replicate}
 use lib.Dec.{eqb}
 use Rattle.format.specs.Bytes.{Bytes, fit32, eqList}
-use Rattle.format.specs.Records.{Records, Entry, Key, Item, Undo}
+use Rattle.format.specs.Records.{Records, Entry, Key, keyOf, Item, Undo}
 use Rattle.format.specs.Checksum.{checksumOf}
 use Rattle.format.specs.Layout.{Spells}
 use Rattle.format.specs.Reading.{Read, bad, good}
 use Rattle.format.specs.Reader.{Contents}
+use Rattle.format.specs.Tails.{zeroedFrom, Lost}
 use Rattle.format.specs.Requests.{putRecord, removeRecord}
 use Rattle.writing.specs.OneFile.{WritesBack}
 use Rattle.kinds.specs.Kinds.{okKind, widthOf, hashOf, readKind}
@@ -144,3 +146,26 @@ module _ (kind : ℕ) (work : List ℕ) where
         (f : List ℕ) (c : ℕ) (s : Summary) → Bytes f → c < length f → check f ≡ Accepted s →
         ((n p : ℕ) × (check (take c f) ≡ Refused n p))
         ⊎ ((t : Summary) × (check (take c f) ≡ Accepted t) × (t .entries ≡ s .entries) × ((k : ℕ) → k < s .entries → entry k (take c f) ≡ entry k f))
+
+  -- Of the files f and g entry k shows whole and read, and they differ, as Lost says: k is the last, and nothing is between it and the checksum.
+  -- previous is the key of the entry before it
+  pub record LastLost (f g : List ℕ) (s : Summary) (k : ℕ) : Type 0 where
+    pub last : suc k ≡ s .entries
+    pub no-extension : s .end + w ≡ length f
+    pub previous : Key
+    pub whole : Entry
+    pub read : Entry
+    pub lost : Lost (s .version) previous whole read
+    pub shown : entry k f ≡ pick (eqb (s .version) 4) (some whole)
+    pub shown-again : entry k g ≡ pick (eqb (s .version) 4) (some read)
+    pub before : (j : ℕ) (e : Entry) → k ≡ suc j → entry j f ≡ pick (eqb (s .version) 4) (some e) → previous ≡ keyOf e
+
+  -- Beside demand 3, since a checksum may be left out: whichever place of an accepted file all bytes from there on are made zero, at the same
+  -- length, check refuses it, or accepts it with the same version and entry count, and then entry k of both is equal in every field, but for the
+  -- last, of which LastLost says what can be lost
+  abbrev pub ZeroedTails : Type 0
+  ZeroedTails =
+      (f : List ℕ) (c : ℕ) (s : Summary) → Bytes f → check f ≡ Accepted s → let g : List ℕ = zeroedFrom c f in
+      ((n p : ℕ) × (check g ≡ Refused n p))
+      ⊎ ((t : Summary) × (check g ≡ Accepted t) × (t .version ≡ s .version) × (t .entries ≡ s .entries)
+      × ((k : ℕ) → k < s .entries → (entry k g ≡ entry k f) ⊎ LastLost f g s k))
