@@ -1,6 +1,7 @@
-// Lists the index of a SHA-1 repository that is on standard input: a line with its version and its number of entries, a line for each entry, then what it has
-// of a cache tree and of resolve-undo records. A refusal prints only its number and its place.
+// Lists the index of a SHA-1 repository that is on standard input: a line with its version and its number of entries, and whether the checksum was
+// left out, a line for each entry, then what it has of a cache tree and of resolve-undo records. A refusal prints only its number and its place.
 use answers::Checked;
+use answers::Checksum;
 use answers::Count;
 
 // At most 65,536 bytes are taken.
@@ -27,6 +28,8 @@ fn list(bytes: &[u8], work: &mut [u8; 8192]) {
             print_number(summary.version);
             print(b" entries ");
             print_number(summary.entries);
+            let checksum = summary.checksum;
+            print_checksum(checksum);
             print(b"\n");
             list_entries(bytes, work, summary.entries);
             let nodes = summary.nodes;
@@ -58,6 +61,15 @@ fn list_entry(bytes: &[u8], work: &mut [u8; 8192], k: u32) {
     let shown = answer.shown;
     print_name(answers::name_of(bytes, work, shown));
     print(b"\n");
+}
+
+// Nothing is said of a checksum that matches.
+fn print_checksum(checksum: Checksum) {
+    match checksum {
+        Checksum::Matches => {}
+        Checksum::LeftOut => print(b" checksum left out"),
+        Checksum::Wrong => {}
+    }
 }
 
 fn print_refusal(number: u32, place: usize) {

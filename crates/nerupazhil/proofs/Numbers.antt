@@ -10,6 +10,7 @@ use lib.Dec.{eqb, ltb}
 use Rattle.format.specs.Records.{Entry, Key, Count, valid, invalid, Forest, Records}
 use Rattle.format.specs.Bytes.{eqList}
 use Rattle.format.specs.Layout.{TREE, REUC}
+use Rattle.format.specs.Checksum.{Checksum}
 use Rattle.format.specs.Reading.{Read, bad, good, need, shift, bind}
 use Rattle.format.specs.Reader.{isSet, readPlain, readN, readSuffix, readPacked, readName, readTail, readFixed, readEntry, readEntries, readText, needSome, readCount, readSubtrees, readObject, readNode, readSiblings, readForest, readNodes, readTree, readMode, readStage, readStages, readUndo, readUndos, Seen, readData, readExtension, readExtensions, readBody, readFile}
 use Rattle.format.specs.Requests.{fitting, writing, rewriteRequest, putRequest, removeRequest}
@@ -201,9 +202,9 @@ extensions w ns (suc fuel) k p [] = numbered-good _ _
 extensions w ns zero k p (x ∷ s) = numbered-bad _ _ (omega arith)
 extensions w ns (suc fuel) k p (x ∷ s) = numbered-bind _ _ (extension _ _ _ _ _) λ e m. numbered-bind _ _ (extensions w ns fuel _ _ _) λ es n. numbered-good _ _
 
-body : (w v : ℕ) (b : List ℕ) → Numbered (readBody w v b)
+body : (w v : ℕ) (sum : Checksum) (b : List ℕ) → Numbered (readBody w v sum b)
 unfolding readBody
-body w v b =
+body w v sum b =
     numbered-shift _ _ (numbered-bind _ _ (entries _ _ _ _ _ _) λ es m. numbered-bind _ _ (extensions _ _ _ _ _ _) λ xs n. numbered-good _ _)
 
 pub file-numbered : (w : ℕ) (hash : List ℕ → List ℕ) (f : List ℕ) → Numbered (readFile w hash f)
@@ -211,7 +212,7 @@ unfolding readFile
 file-numbered w hash f =
     numbered-need _ _ _ _ (omega arith)
     (numbered-need _ _ _ _ (omega arith)
-    (numbered-need _ _ _ _ (omega arith) (numbered-need _ _ _ _ (omega arith) (numbered-need _ _ _ _ (omega arith) (body _ _ _)))))
+    (numbered-need _ _ _ _ (omega arith) (numbered-need _ _ _ _ (omega arith) (numbered-need _ _ _ _ (omega arith) (body _ _ _ _)))))
 
 -- ---- what is asked of a file that was read
 

@@ -47,12 +47,12 @@ pub record ObjectZeros (w : ℕ) (reply object : List ℕ) : Type 0 where
   pub unused : drop w object ≡ replicate (32 - w) 0
   pub refused : 0 < refusalIn reply → object ≡ replicate 32 0
 
--- check: a count is 0 without its extension, and so are the last seven numbers
+-- check: a count is 0 without its extension, and so are the last six numbers
 pub record CheckZeros (reply : List ℕ) : Type 0 where
   pub zeros : Zeros 14 reply
   pub nodes : getD reply 5 0 ≡ 0 → getD reply 6 0 ≡ 0
   pub records : getD reply 7 0 ≡ 0 → getD reply 8 0 ≡ 0
-  pub later : drop 9 reply ≡ replicate 7 0
+  pub later : drop 10 reply ≡ replicate 6 0
 
 -- an entry, or a step of a walk, with n numbers after the place
 pub record EntryZeros (w n : ℕ) (reply numbers object : List ℕ) : Type 0 where

@@ -12,6 +12,8 @@ use Rattle.format.specs.Reading.{Read}
 use Rattle.entries.specs.declared.record.Fields.{Fields}
 use Rattle.answers.specs.declared.Count.{Count}
 use Rattle.answers.specs.declared.Count.the-variants.{Absent, Present}
+use Rattle.answers.specs.declared.Checksum.{Checksum}
+use Rattle.answers.specs.declared.Checksum.the-variants.{Matches, LeftOut, Wrong}
 use Rattle.answers.specs.declared.Checked.{Checked}
 use Rattle.answers.specs.declared.Checked.the-variants as K
 use Rattle.answers.specs.declared.Shown.{Shown}
@@ -28,7 +30,7 @@ use Rattle.walk.specs.declared.Started.{Started}
 use Rattle.walk.specs.declared.Started.the-variants as T
 use Rattle.walk.specs.declared.Place.{Place}
 
--- ---- check: 16 numbers, of which 7 are for what check may tell later
+-- ---- check: 16 numbers, of which 6 are for what check may tell later
 
 abbrev pub isPresent : Count → ℕ
 isPresent Absent = 0
@@ -38,13 +40,19 @@ abbrev pub numberOf : Count → ℕ
 numberOf Absent = 0
 numberOf (Present n) = n
 
--- version, entries, the byte where they end, whether there is a cache tree, its nodes, whether there is a resolve-undo extension, its records
+abbrev pub isLeftOut : Checksum → ℕ
+isLeftOut Matches = 0
+isLeftOut LeftOut = 1
+isLeftOut Wrong = 0
+
+-- version, entries, the byte where they end, whether there is a cache tree, its nodes, whether there is a resolve-undo extension, its records,
+-- whether the checksum was left out
 abbrev pub checkReply : Checked → List ℕ
 checkReply (K.Refused n p) = n ∷ p ∷ replicate 14 0
 checkReply (K.Accepted s) =
     0 ∷ 0 ∷ s .version ∷ s .entries ∷ s .end
-    ∷ isPresent (s .nodes) ∷ numberOf (s .nodes) ∷ isPresent (s .records) ∷ numberOf (s .records)
-    ∷ replicate 7 0
+    ∷ isPresent (s .nodes) ∷ numberOf (s .nodes) ∷ isPresent (s .records) ∷ numberOf (s .records) ∷ isLeftOut (s .checksum)
+    ∷ replicate 6 0
 
 -- ---- what is shown
 

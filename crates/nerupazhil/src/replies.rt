@@ -1,8 +1,9 @@
 // Answers as arrays of numbers, and the fields of an entry from arrays that a caller lends.
 ghost use mathlib.Core.Path.{_≡_};
 ghost use Rattle.format.specs.Layout.{bit};
-ghost use Rattle.nerupazhil.specs.Replies.{isPresent, numberOf, checkReply, shownReply, fieldNumbers, givenFields, nodeReply, undoReply, stepReply, writeReply, startReply};
+ghost use Rattle.nerupazhil.specs.Replies.{isPresent, numberOf, isLeftOut, checkReply, shownReply, fieldNumbers, givenFields, nodeReply, undoReply, stepReply, writeReply, startReply};
 use answers::Checked;
+use answers::Checksum;
 use answers::Count;
 use answers::NodeAnswer;
 use answers::Shown;
@@ -41,6 +42,16 @@ fn number_of(c: Count) -> u32
     match c {
         Count::Absent => 0,
         Count::Present(n) => n,
+    }
+}
+
+fn is_left_out(c: Checksum) -> u64
+    ensures { λ r. ⌜ r ≡ isLeftOut c ⌝ }
+{
+    match c {
+        Checksum::Matches => 0,
+        Checksum::LeftOut => 1,
+        Checksum::Wrong => 0,
     }
 }
 
@@ -100,6 +111,7 @@ pub fn check_reply(checked: Checked) -> [u64; 16]
         Checked::Accepted(s) => {
             let nodes = s.nodes;
             let records = s.records;
+            let checksum = s.checksum;
             [
                 0,
                 0,
@@ -110,7 +122,7 @@ pub fn check_reply(checked: Checked) -> [u64; 16]
                 wide(number_of(nodes)),
                 is_present(records),
                 wide(number_of(records)),
-                0,
+                is_left_out(checksum),
                 0,
                 0,
                 0,

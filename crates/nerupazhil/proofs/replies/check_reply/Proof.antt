@@ -36,14 +36,18 @@ number-of-requires-2 c κs = search needs
 wide-requires-5 : tie.Need-wide-requires-5
 wide-requires-5 c κs = search needs
 
+is-left-out-requires : tie.Need-is-left-out-requires
+is-left-out-requires c κs = search needs
+
 returns : tie.Need-returns
 returns c = rw (c .before .before .checked .given .1, c .wide .ensures)
 
 returns-2 : tie.Need-returns-2
 returns-2 c =
-    let n = c .before .before .before in
+    let m = c .before in
+    let n = m .before .before .before in
     let p = n .before .before .before in
-    rw (c .wide5 .ensures, c .before .number-of2 .ensures, c .before .before .is-present2 .ensures, n .wide4 .ensures, n .before .number-of .ensures, n .before .before .is-present .ensures, p .wide3 .ensures, p .before .wide2 .ensures, p .before .before .before .checked2 .given .1)
+    rw (c .is-left-out .ensures, m .wide5 .ensures, m .before .number-of2 .ensures, m .before .before .is-present2 .ensures, n .wide4 .ensures, n .before .number-of .ensures, n .before .before .is-present .ensures, p .wide3 .ensures, p .before .wide2 .ensures, p .before .before .before .checked2 .given .1)
 
 pub check-reply-spec : {M : Type 1} → statement M
 check-reply-spec =
@@ -60,5 +64,6 @@ check-reply-spec =
     is-present-requires-2
     number-of-requires-2
     wide-requires-5
+    is-left-out-requires
     returns
     returns-2)
