@@ -1,5 +1,5 @@
 -- Closed cases over whole files, with a stand-in for the hash that answers zeros: the listing's example, an empty index, files too short for
--- their entries, resolve undo.
+-- their entries, resolve undo; and checksums.
 use mathlib.Core.Path.{_≡_, refl}
 use mathlib.Core.List.{List, [], _∷_}
 use mathlib.Core.Bool.{false}
@@ -10,7 +10,7 @@ use Rattle.format.specs.Bytes.{be16, be32, be32s, two, eqList, before, l
 use Rattle.format.specs.Names.{componentsFrom, components, okComponent, okComponents, okName, lengthField, compare}
 use Rattle.format.specs.Records.{Entry}
 use Rattle.format.specs.Layout.{okMode, fixedLength, entryLength, okNodeName, has, distinct, under, inside, files, allValid, sum, okCount, okCounts, okTreeCounts, modeText, someStage, optional, trees, undos, names}
-use Rattle.format.specs.Checksum.{matches, checksumOf, checksumIn}
+use Rattle.format.specs.Checksum.{matches, leftOut, wrong, checksumOf, checksumIn}
 use Rattle.format.specs.Reading.{bad, good, need, shift, bind}
 use Rattle.format.specs.Reader.{isSet, okWord, plainLength, readPlain, readN, joined, readSuffix, readPacked, readName, entryOf, readTail, readFixed, readEntry, readEntries, readText, countIn, needSome, readCount, readSubtrees, readObject, readNode, readSiblings, readForest, readNodes, readTree, modeIn, readMode, readStage, readStages, readUndo, readUndos, readData, readExtension, readExtensions, readBody, readFile}
 
@@ -87,3 +87,14 @@ undo-read :
     61)
 unfolding undoData be16 be32 be32s two eqList before lacks zeros digits decimal valueFrom value componentsFrom components okComponent okComponents okName lengthField compare okMode fixedLength entryLength okNodeName has distinct under inside files allValid sum okCount okCounts okTreeCounts modeText someStage optional trees undos names need shift bind isSet okWord plainLength readPlain readN joined readSuffix readPacked readName entryOf readTail readFixed readEntry readEntries readText countIn needSome readCount readSubtrees readObject readNode readSiblings readForest readNodes readTree modeIn readMode readStage readStages readUndo readUndos readData readExtension readExtensions checksumOf checksumIn readBody readFile
 undo-read = (refl, refl)
+
+-- the digest matches, also one that is all zeros; other zeros say that it was left out; all of them have to be there
+checksums :
+    (checksumOf (7 ∷ 8 ∷ 9 ∷ []) (7 ∷ 8 ∷ 9 ∷ []) ≡ matches)
+    × (checksumOf (0 ∷ 0 ∷ 0 ∷ []) (0 ∷ 0 ∷ 0 ∷ []) ≡ matches)
+    × (checksumOf (7 ∷ 8 ∷ 9 ∷ []) (0 ∷ 0 ∷ 0 ∷ []) ≡ leftOut)
+    × (checksumOf (7 ∷ 8 ∷ 9 ∷ []) (0 ∷ 0 ∷ 1 ∷ []) ≡ wrong)
+    × (checksumOf (7 ∷ 8 ∷ 9 ∷ []) (1 ∷ 0 ∷ 0 ∷ []) ≡ wrong)
+    × (checksumOf (0 ∷ 0 ∷ 0 ∷ []) (0 ∷ 0 ∷ 1 ∷ []) ≡ wrong)
+unfolding eqList zeros checksumOf
+checksums = (refl, refl, refl, refl, refl, refl)
