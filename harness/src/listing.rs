@@ -9,13 +9,8 @@ pub fn listing(
     checked: &CheckReply,
     mut entry: impl FnMut(u32) -> (Fields, Vec<u8>),
 ) -> String {
-    let (version, entries) = (checked.version, checked.entries);
-    let checksum = match checked.checksum_left_out {
-        true => " checksum left out",
-        false => "",
-    };
-    let mut text = format!("version {version} entries {entries}{checksum}\n");
-    for k in 0..entries {
+    let mut text = format!("version {} entries {}\n", checked.version, checked.entries);
+    for k in 0..checked.entries {
         let (fields, name) = entry(k);
         add_line(&mut text, kind, &fields, &name);
     }

@@ -19,7 +19,7 @@ pub struct CheckReply {
     pub records: u32,
     pub has_tree: bool,
     pub has_undo: bool,
-    /// Zeros are in place of the checksum.
+    /// Whether zeros are in place of the checksum.
     pub checksum_left_out: bool,
 }
 
