@@ -8,8 +8,8 @@ use std::os::unix::fs::{symlink, PermissionsExt};
 use std::path::{Path, PathBuf};
 use std::process::{Command, Output};
 
-use common::{folder, regular, stored, vectors};
-use nerupazhil::{Fields, Index, Kind};
+use common::{folder, regular, stored, vectors, with_zeros};
+use nerupazhil::{Checksum, Fields, Index, Kind};
 
 const OBJECT: &str = "5a5a5a5a5a5a5a5a5a5a5a5a5a5a5a5a5a5a5a5a";
 
@@ -79,6 +79,20 @@ fn list_prints_the_stored_listings() {
     assert_eq!(listed, 30);
 }
 
+/// The first line ends in other words, and the rest is as with a checksum.
+#[test]
+fn list_tells_that_the_checksum_was_left_out() {
+    for name in ["real/empty", "real/v2-committed", "real/v4-committed"] {
+        let scene = Scene::new("list-left-out", &with_zeros(Kind::Sha1, &stored(name)));
+        let output = program("list").arg(&scene.index).output().unwrap();
+        let listing = folder().join(name).with_extension("list");
+        let listing = fs::read_to_string(listing).unwrap();
+        let expected = listing.replacen('\n', " checksum left out\n", 1);
+        assert_eq!(text(&output.stdout), expected);
+        assert_eq!((text(&output.stderr), output.status.code()), ("", Some(0)));
+    }
+}
+
 #[test]
 fn list_tells_what_is_wrong() {
     let output = program("list").output().unwrap();
@@ -123,6 +137,24 @@ fn put_saves_a_record() {
         let mode = fs::metadata(&scene.index).unwrap().permissions().mode();
         assert_eq!(mode & 0o777, 0o640);
         assert!(!scene.lock.exists());
+    }
+}
+
+/// An index whose checksum was left out is taken, and has one then.
+#[test]
+fn put_saves_a_checksum() {
+    for name in ["v2-committed", "v4-committed"] {
+        let file = stored(&format!("real/{name}"));
+        let saved = |file: &[u8]| {
+            let scene = Scene::new(&format!("put-checksum-{name}"), file);
+            let output = scene.put(&["100644", OBJECT, "saw/cut.txt"]);
+            assert_eq!((text(&output.stderr), output.status.code()), ("", Some(0)));
+            fs::read(&scene.index).unwrap()
+        };
+        let new = saved(&with_zeros(Kind::Sha1, &file));
+        assert_eq!(new, saved(&file));
+        let summary = Index::read(&new).unwrap().summary();
+        assert_eq!(summary.checksum, Checksum::Matches);
     }
 }
 
@@ -172,7 +204,8 @@ fn put_leaves_a_damaged_index_alone() {
     let mut file = stored("real/v2-committed");
     file[40] ^= 1;
     let scene = Scene::new("put-damaged", &file);
-    let message = "refused 5 at 1982: the file is damaged: its checksum is not that of its bytes";
+    let message = "refused 5 at 1982: \
+                   the file is damaged: its checksum is neither that of its bytes nor left out";
     scene.is_unchanged(&scene.put(&["100644", OBJECT, "a"]), &file, message);
     assert!(!scene.lock.exists());
 }
