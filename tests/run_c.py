@@ -405,7 +405,7 @@ def no_index(report: Report, make) -> None:
 
 
 def unsound(report: Report, folder: str, data: bytes) -> None:
-    """The save itself refuses bytes that are no sound index: cut ones, and ones with a bit turned."""
+    """The save itself refuses bytes that are no sound index, cut or with a bit turned, or that have no checksum."""
     sources = [os.path.join(build_c.EXAMPLES, part) for part in ("save.c", "index_file.c")]
     sources.append(os.path.join(HERE, "save_bytes.c"))
     program = built(report, "save_bytes.c", lambda: build_c.build("save_bytes", sources))
@@ -419,6 +419,10 @@ def unsound(report: Report, folder: str, data: bytes) -> None:
         told = b"refused %d at %d: " % index_reader.check(new)[1:]
         good = done.status == 1 and told in done.out and index.untouched()
         report.test(f"unsound bytes {number} are not saved", good, done)
+    index = Index(program, folder, data)
+    done = run(program, index.path, store(os.path.join(folder, "new"), SHA1.left_out(data)))
+    good = done.status == 1 and b"checksum of the new index was left out" in done.out and index.untouched()
+    report.test("bytes without a checksum are not saved", good, done)
     other = Plan(4, [Record(b"other")]).made("").data
     index = Index(program, folder, data)
     done = run(program, index.path, store(os.path.join(folder, "new"), other))

@@ -1,6 +1,8 @@
 //! The programs of `examples`, which `cargo test` builds: the listing against the stored ones, and the safe save.
 
 mod common;
+#[path = "../examples/save/mod.rs"]
+mod save;
 
 use std::env;
 use std::fs;
@@ -240,6 +242,24 @@ fn put_loses_nothing_where_the_disk_is_full() {
     let message = "not changed: cannot write the new index: File too large (os error 27)";
     scene.is_unchanged(&output, &file, message);
     assert!(!scene.lock.exists());
+}
+
+/// The save itself refuses bytes that are no sound index, and an index without a checksum.
+#[test]
+fn unsound_bytes_are_not_saved() {
+    let file = stored("real/v2-committed");
+    let scene = Scene::new("save-unsound", &file);
+    let (cut, zeros) = (file[..31].to_vec(), with_zeros(Kind::Sha1, &file));
+    for (new, message) in [
+        (cut, "the new index is refused 1 at 0: "),
+        (zeros, "the checksum of the new index was left out"),
+    ] {
+        let error = save::edit(&scene.index, |_| Ok(new)).unwrap_err();
+        let message = format!("not changed: {message}");
+        assert!(error.to_string().starts_with(&message), "{error}");
+        assert_eq!(fs::read(&scene.index).unwrap(), file);
+        assert!(!scene.lock.exists());
+    }
 }
 
 #[test]
