@@ -13,7 +13,7 @@ class Kind(NamedTuple):
     def hash(self, message: bytes) -> bytes:
         return self.function(message).digest()
 
-    def left_out(self, data: bytes) -> bytes:
+    def zeroed(self, data: bytes) -> bytes:
         """A file with zeros in place of its checksum, as Git's index.skipHash writes it."""
         return data[: -self.width] + bytes(self.width)
 

@@ -198,7 +198,7 @@ def listed_files():
     for case in run_listing.vectors():
         yield case.name, case.data
         if case.answer[0] == "accepted":
-            yield f"{case.name}, no checksum", SHA1.left_out(case.data)
+            yield f"{case.name}, no checksum", SHA1.zeroed(case.data)
 
 
 # To be put one after the other: the last three are refused, by the library and by the program.
@@ -227,7 +227,7 @@ INDEXES = (
 def indexes() -> list:
     """The indexes to put records into, by name; of the last one the checksum was left out."""
     rows = [(name, load(os.path.join(run_listing.VECTORS, f"{name}.index"))) for name in INDEXES]
-    return rows + [("no checksum", SHA1.left_out(rows[1][1]))]
+    return rows + [("no checksum", SHA1.zeroed(rows[1][1]))]
 
 
 def contents(folder: str) -> dict:
@@ -269,7 +269,7 @@ def answers(report: Report, given: Given) -> None:
         return
     vectors = [File(case.name, SHA1, case.data) for case in run_listing.vectors()]
     made = made_files()
-    zeros = left_out(vectors + made[::20])
+    zeros = left_out(vectors + made[::50])
     # A search on each of many levels takes seconds a call under the emulator.
     slow = re.compile(r"searches on all levels to (64|128)")
     deep = [file for file in given.deep if not slow.match(file.name)]
@@ -295,7 +295,7 @@ def made_files() -> list:
 def left_out(files: list) -> list:
     """These files with zeros in place of the checksum, where they are long enough to have one."""
     long = [file for file in files if len(file.data) >= 12 + file.kind.width]
-    return [File(f"{file.name}, no checksum", file.kind, file.kind.left_out(file.data)) for file in long]
+    return [File(f"{file.name}, no checksum", file.kind, file.kind.zeroed(file.data)) for file in long]
 
 
 def tell_left_out(report: Report, commands: dict, files: list) -> None:

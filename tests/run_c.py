@@ -225,7 +225,7 @@ def list_left_out(report: Report, program: str, folder: str) -> None:
     """The vectors that are accepted, with their checksum and with zeros in its place: only the first line differs."""
     for case in run_listing.vectors():
         if case.answer[0] == "accepted":
-            signed, zeros = with_checksum(case.data[: -SHA1.width]), SHA1.left_out(case.data)
+            signed, zeros = with_checksum(case.data[: -SHA1.width]), SHA1.zeroed(case.data)
             paths = [os.path.join(folder, name) for name in ("signed", "zeros")]
             before = run(program, store(paths[0], signed)).out
             out = listed(report, f"{case.name}, no checksum", program, store(paths[1], zeros), zeros)
@@ -308,7 +308,7 @@ def put_files(report: Report, folder: str, session: Session) -> None:
         return
     put_vectors(report, program, folder, session)
     data = Plan(2, [Record(b"a"), Record(b"b/c")], whole_tree([b"a", b"b/c"])).made("").data
-    for tests in (left_out, refusals, wrong_use, no_index, locks, permissions, together):
+    for tests in (unguarded, refusals, wrong_use, no_index, locks, permissions, together):
         tests(report, lambda: Index(program, folder, data))
     links(report, Index(program, folder, data), session)
     unsound(report, folder, data)
@@ -351,10 +351,10 @@ def put_records(report: Report, name: str, index: Index, session: Session) -> No
     report.test(f"{name}: nothing beside the index", index.untouched())
 
 
-def left_out(report: Report, make) -> None:
+def unguarded(report: Report, make) -> None:
     """An index whose checksum was left out is taken, and has one afterwards."""
     index, signed = make(), make()
-    store(index.path, SHA1.left_out(index.data))
+    store(index.path, SHA1.zeroed(index.data))
     for one in (index, signed):
         report.same("put, no checksum", Done(0, b"", b""), one.put("saw/cut.txt"))
     new = load(index.path)
@@ -420,7 +420,7 @@ def unsound(report: Report, folder: str, data: bytes) -> None:
         good = done.status == 1 and told in done.out and index.untouched()
         report.test(f"unsound bytes {number} are not saved", good, done)
     index = Index(program, folder, data)
-    done = run(program, index.path, store(os.path.join(folder, "new"), SHA1.left_out(data)))
+    done = run(program, index.path, store(os.path.join(folder, "new"), SHA1.zeroed(data)))
     good = done.status == 1 and b"checksum of the new index was left out" in done.out and index.untouched()
     report.test("bytes without a checksum are not saved", good, done)
     other = Plan(4, [Record(b"other")]).made("").data
