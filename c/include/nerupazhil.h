@@ -336,8 +336,9 @@ void nerupazhil_walk_next(uint32_t kind, const uint8_t *file, size_t file_length
 /* ---- calls that write: the records of the file, with a change, as a new index in the output
  *
  * `asked` is the version to write: one of NERUPAZHIL_VERSION_*. The lowest is 2 if no entry needs the extended word
- * (skip-worktree or intent-to-add), else 3. Cache tree and resolve undo are kept, other extensions dropped. Nothing is
- * saved: that is the caller's, and c/examples/save.c shows how to do it safely.
+ * (skip-worktree or intent-to-add), else 3. Cache tree and resolve undo are kept, other extensions dropped. A checksum
+ * is written, also where the file's was left out. Nothing is saved: that is the caller's, and c/examples/save.c shows
+ * how to do it safely.
  */
 
 /* The records as they are. */
