@@ -149,6 +149,7 @@ static struct laid example, example_3, example_4; /* the example of document 01,
 static struct laid changed, added;                /* with another record 'a'; with a record 'b' of all fields */
 static struct laid extended, invalid;             /* with extensions; the same after a put of 'a' */
 static struct laid damaged;                       /* with a wrong checksum */
+static struct laid zeroed;                        /* with a checksum that was left out */
 
 static void lay_example(struct laid *file, uint32_t version)
 {
@@ -186,6 +187,13 @@ static void lay_extended(struct laid *file, const struct laid *entries, int vali
     lay_checksum(file);
 }
 
+/* Another file with zeros in place of its checksum. */
+static void lay_zeroed(struct laid *file, const struct laid *from)
+{
+    *file = *from;
+    memset(file->bytes + file->length - kind->width, 0, kind->width);
+}
+
 static void lay_files(void)
 {
     const struct nerupazhil_fields numbers = {0x01020304, 0x11121314, 0x21222324, 0x31323334, 0x41424344,
@@ -202,6 +210,7 @@ static void lay_files(void)
     lay_extended(&invalid, &changed, 0);
     damaged = example;
     damaged.bytes[damaged.length - 1] ^= 1;
+    lay_zeroed(&zeroed, &example);
 }
 
 /* ---- what a call may write to, as it is after the call and as it should be */
@@ -525,13 +534,24 @@ static void unknown_kinds(void)
     }
 }
 
-/* The kind that the file does not have: the checksum is looked for in other bytes. */
+static void kind_and_zeros(void)
+{
+    given.kind = other_kind;
+    give_file(&zeroed);
+}
+
+/* The kind that the file does not have: the checksum is looked for in other bytes. The last 20 of 32 zeros are one that
+   was left out, too; then bytes of an object name are taken for a name's length, and it runs past the end. */
 static void exchanged_kinds(void)
 {
     const struct kind *other = &kinds[kind == kinds];
+    size_t place = example.length - other->width;
+    int fewer = other->width < kind->width;
 
     other_kind = other->number;
-    all_refuse("the kind that the file does not have", kind_alone, NERUPAZHIL_CHECKSUM, example.length - other->width);
+    all_refuse("the kind that the file does not have", kind_alone, NERUPAZHIL_CHECKSUM, place);
+    all_refuse("the same, no checksum", kind_and_zeros, fewer ? NERUPAZHIL_ENTRY_CUT : NERUPAZHIL_CHECKSUM,
+               fewer ? FIRST : place);
 }
 
 /* ---- files that are refused */
@@ -558,26 +578,113 @@ static void refused_files(void)
     refuse("version 4", NERUPAZHIL_NOT_THERE, 0);
 }
 
+/* ---- a checksum that was left out */
+
+static void zeros(void)
+{
+    give_file(&zeroed);
+}
+
+/* Zeros but for one byte are a wrong checksum. */
+static void other_than_zeros(void)
+{
+    for (size_t at = zeroed.length - kind->width; at < zeroed.length; at++) {
+        zeroed.bytes[at] = 1;
+        all_refuse("zeros but for one byte", zeros, NERUPAZHIL_CHECKSUM, kind->end);
+        zeroed.bytes[at] = 0;
+    }
+}
+
+/* A fault after the checksum is refused, and nothing is said of the checksum: the header counts an entry too many. */
+static void zeros_and_a_fault(void)
+{
+    zeroed.bytes[FIRST - 1]++;
+    all_refuse("no checksum, an entry too many", zeros, NERUPAZHIL_ENTRY_CUT, kind->end);
+    zeroed.bytes[FIRST - 1]--;
+}
+
+/* All calls but check answer what they do with the checksum, and what they write has one. */
+static void same_answers(const struct laid *file)
+{
+    static struct memory with;
+    struct laid without;
+
+    lay_zeroed(&without, file);
+    for (int call = ENTRY; call <= STEP; call++) {
+        begin(call);
+        give_file(file);
+        current->make();
+        with = now;
+        begin(call);
+        give_file(&without);
+        expected = with;
+        succeed("no checksum");
+    }
+}
+
+static void left_out(void)
+{
+    other_than_zeros();
+    zeros_and_a_fault();
+    same_answers(&example);
+    same_answers(&example_3);
+    same_answers(&example_4);
+    same_answers(&added);
+    same_answers(&extended);
+}
+
 /* ---- calls that read */
+
+static void expect_example(uint64_t checksum_left_out)
+{
+    expected.reply.check.version = 2;
+    expected.reply.check.entries = 2;
+    expected.reply.check.end = kind->end;
+    expected.reply.check.checksum_left_out = checksum_left_out;
+}
+
+static void expect_extensions(void)
+{
+    expected.reply.check.has_tree = 1;
+    expected.reply.check.nodes = 2;
+    expected.reply.check.has_undo = 1;
+    expected.reply.check.records = 1;
+}
 
 static void read_checked(void)
 {
     begin(CHECK);
     given.work_length = NERUPAZHIL_WORKSPACE;
-    expected.reply.check.version = 2;
-    expected.reply.check.entries = 2;
-    expected.reply.check.end = kind->end;
+    expect_example(0);
     succeed("the example, with the least workspace");
     begin(CHECK);
     give_file(&extended);
-    expected.reply.check.version = 2;
-    expected.reply.check.entries = 2;
-    expected.reply.check.end = kind->end;
-    expected.reply.check.has_tree = 1;
-    expected.reply.check.nodes = 2;
-    expected.reply.check.has_undo = 1;
-    expected.reply.check.records = 1;
+    expect_example(0);
+    expect_extensions();
     succeed("both extensions");
+}
+
+static void read_left_out(void)
+{
+    struct laid file;
+
+    begin(CHECK);
+    give_file(&zeroed);
+    expect_example(1);
+    succeed("no checksum");
+    lay_zeroed(&file, &extended);
+    begin(CHECK);
+    give_file(&file);
+    expect_example(1);
+    expect_extensions();
+    succeed("both extensions, no checksum");
+    lay_zeroed(&file, &example_4);
+    begin(CHECK);
+    give_file(&file);
+    expect_example(1);
+    expected.reply.check.version = 4;
+    expected.reply.check.end = file.length - kind->width;
+    succeed("version 4, no checksum");
 }
 
 static void read_entries(void)
@@ -744,6 +851,8 @@ static void write_again(void)
     rewrite_in("in the lowest version", &example_4, NERUPAZHIL_VERSION_LOWEST, &example);
     rewrite_in("what needs version 3", &added, NERUPAZHIL_VERSION_LOWEST, &added);
     rewrite_in("both extensions", &extended, NERUPAZHIL_VERSION_LOWEST, &extended);
+    rewrite_in("with a checksum", &zeroed, NERUPAZHIL_VERSION_LOWEST, &example);
+    rewrite_in("in version 4, with a checksum", &zeroed, NERUPAZHIL_VERSION_4, &example_4);
 }
 
 static void write_changed(void)
@@ -869,7 +978,9 @@ static void test_kind(void)
     unknown_kinds();
     exchanged_kinds();
     refused_files();
+    left_out();
     read_checked();
+    read_left_out();
     read_entries();
     read_entry_of_4();
     read_nodes();

@@ -4,8 +4,9 @@
 
     archives   what ./archives has made: exports, what is needed, machine, register x18; targets that it refuses
     programs   calls.c; c/examples/list.c on the stored vectors; c/examples/put.c
-    answers    every call on the vectors, the made files and files with deep trees: replies, fields, object names,
-               workspaces and outputs are the same, byte for byte (answers.c); a wrong bit is noticed
+    answers    every call on the vectors, the made files, many of these without a checksum, and files with deep trees:
+               replies, fields, object names, workspaces and outputs are the same, byte for byte (answers.c); a wrong
+               bit is noticed
     stack      every call in threads with as little stack as the header promises (stack.c)
 
 PROGRAM is the harness's stack_files, which writes files with deep trees. It needs gcc and qemu-user for AArch64, and
@@ -22,6 +23,7 @@ import sys
 import tempfile
 import time
 from concurrent.futures import ThreadPoolExecutor
+from pathlib import Path
 from typing import NamedTuple
 
 import build_c
@@ -164,7 +166,7 @@ def refusals(report: Report) -> None:
 
 def programs(report: Report, given: Given) -> None:
     calls(report)
-    list_vectors(report)
+    list_vectors(report, given.folder)
     put_records(report, given.folder)
 
 
@@ -179,15 +181,24 @@ def calls(report: Report) -> None:
     report.same("calls.c on both", tuple(run(commands[OURS])), tuple(done))
 
 
-def list_vectors(report: Report) -> None:
+def list_vectors(report: Report, folder: str) -> None:
     commands = built(report, "list", build_c.example_sources("list"))
     if commands is None:
         return
-    for case in run_listing.vectors():
-        path = os.path.join(run_listing.VECTORS, case.name)
+    path = os.path.join(folder, "listed")
+    for name, data in listed_files():
+        Path(path).write_bytes(data)
         ours, other = (run(commands[processor], path) for processor in PROCESSORS)
-        report.same(f"list {case.name}", ours.out, other.out)
-        report.same(f"list {case.name}: the rest", (ours.status, ours.err), (other.status, other.err))
+        report.same(f"list {name}", ours.out, other.out)
+        report.same(f"list {name}: the rest", (ours.status, ours.err), (other.status, other.err))
+
+
+def listed_files():
+    """The vectors, and those that are accepted without their checksum too."""
+    for case in run_listing.vectors():
+        yield case.name, case.data
+        if case.answer[0] == "accepted":
+            yield f"{case.name}, no checksum", SHA1.zeroed(case.data)
 
 
 # To be put one after the other: the last three are refused, by the library and by the program.
@@ -213,6 +224,12 @@ INDEXES = (
 )
 
 
+def indexes() -> list:
+    """The indexes to put records into, by name; of the last one the checksum was left out."""
+    rows = [(name, load(os.path.join(run_listing.VECTORS, f"{name}.index"))) for name in INDEXES]
+    return rows + [("no checksum", SHA1.zeroed(rows[1][1]))]
+
+
 def contents(folder: str) -> dict:
     """The files of a folder."""
     return {name: load(os.path.join(folder, name)) for name in os.listdir(folder)}
@@ -230,17 +247,17 @@ def put_records(report: Report, folder: str) -> None:
     if commands is None:
         return
     done = 0
-    for name in INDEXES:
+    for name, data in indexes():
         paths = {processor: tempfile.mkdtemp(dir=folder) for processor in PROCESSORS}
         for path in paths.values():
-            shutil.copy(os.path.join(run_listing.VECTORS, f"{name}.index"), os.path.join(path, "index"))
+            Path(path, "index").write_bytes(data)
         for record in RECORDS:
             ours, other = (put_record(commands[one], paths[one], record) for one in PROCESSORS)
             report.same(f"put {record} into {name}", ours, other)
             done += ours[0] == 0
             left, right = (contents(paths[one]) for one in PROCESSORS)
             report.test(f"the index after put {record} into {name}", left == right and list(left) == ["index"])
-    report.same("records that are put", 4 * (len(INDEXES) - 1), done)
+    report.same("records that are put", 4 * (len(indexes()) - 1), done)
 
 
 # ---- the answers of every call
@@ -252,12 +269,14 @@ def answers(report: Report, given: Given) -> None:
         return
     vectors = [File(case.name, SHA1, case.data) for case in run_listing.vectors()]
     made = made_files()
+    zeros = left_out(vectors + made[::50])
     # A search on each of many levels takes seconds a call under the emulator.
     slow = re.compile(r"searches on all levels to (64|128)")
     deep = [file for file in given.deep if not slow.match(file.name)]
     report.test("files of every kind", len(vectors) > 100 and len(made) > 5000 and len(deep) > 50)
     notice(report, commands, vectors)
-    files = vectors + made
+    tell_left_out(report, commands, zeros)
+    files = vectors + made + zeros
     blocks = [deep[k::8] for k in range(8)] + [files[k : k + 400] for k in range(0, len(files), 400)]
     with ThreadPoolExecutor(os.cpu_count()) as pool:
         for block, outs in zip(blocks, pool.map(lambda block: both(commands, block), blocks)):
@@ -271,6 +290,23 @@ def made_files() -> list:
         every = make_files.every(make_files.seed_range(seeds), kind=kind)
         files += [File(f"{kind.name}: {file.name}", kind, file.data) for file in every]
     return files
+
+
+def left_out(files: list) -> list:
+    """These files with zeros in place of the checksum, where they are long enough to have one."""
+    long = [file for file in files if len(file.data) >= 12 + file.kind.width]
+    return [File(f"{file.name}, no checksum", file.kind, file.kind.zeroed(file.data)) for file in long]
+
+
+def tell_left_out(report: Report, commands: dict, files: list) -> None:
+    """Check refuses no file without a checksum with 5; where it accepts one, number 9 of its reply is 1."""
+    parts = re.findall(rb"^file .*\ncheck .*? = (.*?) work", run(commands[OURS], data=stream(files)).out, re.MULTILINE)
+    numbers = [[int(number, 16) for number in part.split()[:16]] for part in parts]
+    report.same("files without a checksum", len(files), len(numbers))
+    report.test("none is refused with 5", all(row[0] != 5 for row in numbers))
+    for kind in ALL:
+        rows = [row[9] for file, row in zip(files, numbers) if file.kind == kind and row[0] == 0]
+        report.test(f"{kind.name}: check says that it was left out", len(rows) > 20 and set(rows) == {1}, len(rows))
 
 
 def both(commands: dict, files: list) -> list:

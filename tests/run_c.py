@@ -5,7 +5,8 @@
     header     compiles alone and included twice, in C and C++; its declarations and its layout are those of the others,
                and wrong declarations are noticed (wrong_declarations)
     calls      each call from C and C++ (calls.c)
-    list       c/examples/list.c on the stored vectors and on large files, against index_reader
+    list       c/examples/list.c on the stored vectors, with and without their checksum, and on large files, against
+               index_reader
     put        c/examples/put.c against PROGRAM, which answers the requests of edit_requests; refusals, locks and wrong
                use leave the index as it was; what is no sound index is not saved (save_bytes.c)
 
@@ -30,6 +31,7 @@ import run_listing
 import wrong_declarations
 from edit_requests import Request, Session
 from index_reader import FILE_LIMIT, Entry
+from kinds import SHA1
 from layout import *
 from report import SECONDS, WIDTH, Program, Report
 
@@ -206,6 +208,7 @@ def list_files(report: Report, folder: str, _session: Session) -> None:
     if program is None:
         return
     list_vectors(report, program)
+    list_left_out(report, program, folder)
     for name, data in large_files():
         listed(report, name, program, store(os.path.join(folder, name), data), data)
     list_failures(report, program, folder)
@@ -216,6 +219,18 @@ def list_vectors(report: Report, program: str) -> None:
         out = listed(report, case.name, program, os.path.join(run_listing.VECTORS, case.name), case.data)
         wrong = run_listing.problem(case, lambda _: out)
         report.test(f"{case.name}: against the stored answer", wrong is None, *(wrong or ()))
+
+
+def list_left_out(report: Report, program: str, folder: str) -> None:
+    """The vectors that are accepted, with their checksum and with zeros in its place: only the first line differs."""
+    for case in run_listing.vectors():
+        if case.answer[0] == "accepted":
+            signed, zeros = with_checksum(case.data[: -SHA1.width]), SHA1.zeroed(case.data)
+            paths = [os.path.join(folder, name) for name in ("signed", "zeros")]
+            before = run(program, store(paths[0], signed)).out
+            out = listed(report, f"{case.name}, no checksum", program, store(paths[1], zeros), zeros)
+            expected_lines = before.replace(b"\n", b" checksum left out\n", 1)
+            report.same(f"{case.name}, no checksum: only the first line differs", expected_lines, out)
 
 
 def list_failures(report: Report, program: str, folder: str) -> None:
@@ -293,7 +308,7 @@ def put_files(report: Report, folder: str, session: Session) -> None:
         return
     put_vectors(report, program, folder, session)
     data = Plan(2, [Record(b"a"), Record(b"b/c")], whole_tree([b"a", b"b/c"])).made("").data
-    for tests in (refusals, wrong_use, no_index, locks, permissions, together):
+    for tests in (unguarded, refusals, wrong_use, no_index, locks, permissions, together):
         tests(report, lambda: Index(program, folder, data))
     links(report, Index(program, folder, data), session)
     unsound(report, folder, data)
@@ -334,6 +349,17 @@ def put_records(report: Report, name: str, index: Index, session: Session) -> No
     report.same(f"{name}: listed after the puts", index_reader.listing(data, FILE_LIMIT), out)
     index.data = data
     report.test(f"{name}: nothing beside the index", index.untouched())
+
+
+def unguarded(report: Report, make) -> None:
+    """An index whose checksum was left out is taken, and has one afterwards."""
+    index, signed = make(), make()
+    store(index.path, SHA1.zeroed(index.data))
+    for one in (index, signed):
+        report.same("put, no checksum", Done(0, b"", b""), one.put("saw/cut.txt"))
+    new = load(index.path)
+    report.same("put, no checksum: the file is that with one", load(signed.path), new)
+    report.same("put, no checksum: one afterwards", with_checksum(new[: -SHA1.width]), new)
 
 
 def refusals(report: Report, make) -> None:
@@ -379,7 +405,7 @@ def no_index(report: Report, make) -> None:
 
 
 def unsound(report: Report, folder: str, data: bytes) -> None:
-    """The save itself refuses bytes that are no sound index: cut ones, and ones with a bit turned."""
+    """The save itself refuses bytes that are no sound index, cut or with a bit turned, or that have no checksum."""
     sources = [os.path.join(build_c.EXAMPLES, part) for part in ("save.c", "index_file.c")]
     sources.append(os.path.join(HERE, "save_bytes.c"))
     program = built(report, "save_bytes.c", lambda: build_c.build("save_bytes", sources))
@@ -393,6 +419,10 @@ def unsound(report: Report, folder: str, data: bytes) -> None:
         told = b"refused %d at %d: " % index_reader.check(new)[1:]
         good = done.status == 1 and told in done.out and index.untouched()
         report.test(f"unsound bytes {number} are not saved", good, done)
+    index = Index(program, folder, data)
+    done = run(program, index.path, store(os.path.join(folder, "new"), SHA1.zeroed(data)))
+    good = done.status == 1 and b"checksum of the new index was left out" in done.out and index.untouched()
+    report.test("bytes without a checksum are not saved", good, done)
     other = Plan(4, [Record(b"other")]).made("").data
     index = Index(program, folder, data)
     done = run(program, index.path, store(os.path.join(folder, "new"), other))

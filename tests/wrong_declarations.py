@@ -3,7 +3,8 @@
     edits(language, text)    the rows (what is wrong, the edited source)
 
 Of each function, and of each struct of C, each parameter or member is left out, changes its place with the next, or
-gets another type or name.
+gets another type or name. The array that ends a struct is shorter or longer, or has the member before it as its first
+number, as it had before this number was given a name.
 """
 
 import re
@@ -26,7 +27,10 @@ MISTAKES = {  # what is replaced by what in a parameter
     ),
 }
 RESULTS = {"Rattle": (r"\)\n", ") -> u32\n"), "Rust": (r"\);", ") -> u32;"), "C": (r"\nvoid", r"\nuint32_t")}
-MEMBERS = ((r"uint64_t", "uint32_t"), (r"uint32_t", "uint64_t"), (r"\[7\]", "[6]"), (r"struct \w+", "uint64_t"))
+MEMBERS = (
+    (r"uint64_t", "uint32_t"), (r"uint32_t", "uint64_t"), (r"\[6\]", "[5]"), (r"\[6\]", "[7]"),
+    (r"struct \w+", "uint64_t"),
+)
 
 
 def edits(language: str, text: str):
@@ -66,5 +70,7 @@ def wrong_structs(text: str):
         members = re.findall(r"\n +(\w.*?;)", found[2])
         rows = list(wrong_rows(members, MEMBERS))
         rows += [("one more member", members[:k] + ["uint64_t more;"] + members[k:]) for k in range(len(members) + 1)]
+        if "[6]" in members[-1]:
+            rows.append((f"no name for '{members[-2]}'", members[:-2] + [members[-1].replace("[6]", "[7]")]))
         for what, wrong in rows:
             yield f"{found[1]}: {what}", text[: found.start(2)] + "\n".join(["", *wrong]) + text[found.end(2) :]

@@ -135,7 +135,8 @@ static int list(const char *path, struct bytes file, uint8_t *out)
     nerupazhil_check(NERUPAZHIL_SHA1, file.data, file.length, work, sizeof work, &checked);
     if (checked.refusal != NERUPAZHIL_DONE)
         return refuse(path, checked.refusal, checked.place);
-    printf("version %" PRIu64 " entries %" PRIu64 "\n", checked.version, checked.entries);
+    printf("version %" PRIu64 " entries %" PRIu64 "%s\n", checked.version, checked.entries,
+           checked.checksum_left_out ? " checksum left out" : "");
     refusal = print_entries(file, &checked, out);
     if (refusal != NERUPAZHIL_DONE)
         return refuse(path, refusal, 0);

@@ -144,9 +144,10 @@ enum save_result save_commit(struct save *save, const uint8_t *bytes, size_t len
 {
     uint8_t work[NERUPAZHIL_WORKSPACE];
 
-    /* Whatever made these bytes: what is no sound index does not replace one. */
+    /* Whatever made these bytes: what is no sound index does not replace one. The library writes a checksum, so one
+       that was left out is a sign of bytes that were lost. */
     nerupazhil_check(NERUPAZHIL_SHA1, bytes, length, work, sizeof work, &save->check);
-    if (save->check.refusal != NERUPAZHIL_DONE)
+    if (save->check.refusal != NERUPAZHIL_DONE || save->check.checksum_left_out)
         return give_up(save, SAVE_REFUSED);
     /* The bytes are on the disk before the name leads to them: else a loss of power after the rename could leave an
        empty or a cut index. */
@@ -163,6 +164,16 @@ enum save_result save_commit(struct save *save, const uint8_t *bytes, size_t len
     return end(save, SAVE_DONE);
 }
 
+static void explain_refused(const struct nerupazhil_check_reply *check, FILE *stream)
+{
+    fprintf(stream, "not changed: ");
+    if (check->checksum_left_out)
+        fprintf(stream, "the checksum of the new index was left out");
+    else
+        fprintf(stream, "the new index is refused %" PRIu64 " at %" PRIu64 ": %s", check->refusal, check->place,
+                nerupazhil_refusal_text(check->refusal));
+}
+
 void save_explain(const struct save *save, const char *path, FILE *stream)
 {
     fprintf(stream, "%s: ", path);
@@ -175,8 +186,7 @@ void save_explain(const struct save *save, const char *path, FILE *stream)
         fprintf(stream, "if none is at work, remove that file and try again");
         break;
     case SAVE_REFUSED:
-        fprintf(stream, "not changed: the new index is refused %" PRIu64 " at %" PRIu64 ": %s", save->check.refusal,
-                save->check.place, nerupazhil_refusal_text(save->check.refusal));
+        explain_refused(&save->check, stream);
         break;
     case SAVE_FAILED:
         fprintf(stream, "not changed: cannot %s: %s", save->step, strerror(save->error));

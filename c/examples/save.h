@@ -37,7 +37,7 @@
 enum save_result {
     SAVE_DONE,
     SAVE_LOCKED,  /* INDEX.lock is there already; index and lock are as they were */
-    SAVE_REFUSED, /* the bytes are no sound index; the index is as it was, the lock is given back */
+    SAVE_REFUSED, /* the bytes are no sound index with a checksum; the index is as it was, the lock is given back */
     SAVE_FAILED,  /* a step failed; the index is as it was, the lock is given back */
     SAVE_UNSURE   /* the new index is in place, but a loss of power may bring back the old one */
 };

@@ -10,7 +10,14 @@
  * Kind. The hash function that gives the object names of a repository, and the checksum of its index: NERUPAZHIL_SHA1
  * or NERUPAZHIL_SHA256. A digest has 20 bytes or 32; all else holds for both. The index does not say of which kind it
  * is, but its repository does (`git rev-parse --show-object-format`): a caller has to know, and passes the same number
- * with a file in every call. Any other number is refused with 29.
+ * with a file in every call. Any other number is refused with 29. An index of the other kind is refused, nearly always
+ * with 5; but with its checksum left out the same bytes may be read as both.
+ *
+ * Checksum. An index ends with the hash of all bytes before it; with any other bytes it is refused with 5. But where
+ * these are zeros, as Git's setting index.skipHash writes them, the checksum was left out: every call takes such a
+ * file, and nerupazhil_check alone says so. Nothing guards it: a change in the middle of the file can't be told by its
+ * checksum, and a file that lost its tail to zeros may look like one. So show the list, say that it is unguarded, and
+ * rewrite it: a file that is written here always has a real checksum.
  *
  * Slices. A buffer is a pointer and its number of bytes. NULL with length 0 is an empty slice.
  *   file    the whole index, as its bytes are on the disk
@@ -47,9 +54,9 @@
  *     and one with 32 KiB on those whose cache tree has at most 16 levels, the root included (Linux on x86-64, and on
  *     AArch64 under an emulator; a thread's start takes 4 to 6 KiB of these)
  *
- * What can be added without a change of a prototype or a struct: another version that may be asked for, and a wish
- * beside it as a bit of the same number (every number above 4 is refused with 4); what check tells more, in the last
- * numbers of its reply, which are 0. So ask for the lowest version by its name, not by its number.
+ * What can be added without a change of a prototype or of a struct's size: another version that may be asked for, and
+ * a wish beside it as a bit of the same number (every number above 4 is refused with 4); what check tells more, in the
+ * last six numbers of its reply, which are 0. So ask for the lowest version by its name, not by its number.
  */
 #ifndef NERUPAZHIL_H
 #define NERUPAZHIL_H
@@ -95,7 +102,7 @@ enum nerupazhil_refusal {
     NERUPAZHIL_TOO_LONG = 2, /* the file; or the result of a call that writes, whatever the output's length */
     NERUPAZHIL_SIGNATURE = 3,
     NERUPAZHIL_VERSION = 4, /* of the file; or asked for; or a walk over version 4 */
-    NERUPAZHIL_CHECKSUM = 5,
+    NERUPAZHIL_CHECKSUM = 5, /* a wrong one; one that was left out is taken */
     NERUPAZHIL_ENTRY_CUT = 6,
     NERUPAZHIL_ENTRY_MODE = 7,
     NERUPAZHIL_ENTRY_FLAGS = 8,
@@ -121,16 +128,17 @@ enum nerupazhil_buffer { NERUPAZHIL_NOWHERE = 0, NERUPAZHIL_IN_FILE = 1, NERUPAZ
 /* ---- replies */
 
 struct nerupazhil_check_reply { /* uint64_t[16] */
-    uint64_t refusal;  /* 0, or a number of enum nerupazhil_refusal */
-    uint64_t place;    /* of the refusal */
-    uint64_t version;  /* 2, 3 or 4 */
-    uint64_t entries;  /* how many entries there are */
-    uint64_t end;      /* the byte of the file where entries end */
-    uint64_t has_tree; /* whether the file has a cache tree */
-    uint64_t nodes;    /* how many nodes that has */
-    uint64_t has_undo; /* whether the file has a resolve-undo extension */
-    uint64_t records;  /* how many records that has; 0 is possible also with has_undo */
-    uint64_t later[7]; /* 0 */
+    uint64_t refusal;           /* 0, or a number of enum nerupazhil_refusal */
+    uint64_t place;             /* of the refusal */
+    uint64_t version;           /* 2, 3 or 4 */
+    uint64_t entries;           /* how many entries there are */
+    uint64_t end;               /* the byte of the file where entries end */
+    uint64_t has_tree;          /* whether the file has a cache tree */
+    uint64_t nodes;             /* how many nodes that has */
+    uint64_t has_undo;          /* whether the file has a resolve-undo extension */
+    uint64_t records;           /* how many records that has; 0 is possible also with has_undo */
+    uint64_t checksum_left_out; /* whether the checksum was left out: zeros are in its place */
+    uint64_t later[6];          /* 0 */
 };
 
 /* Where a name stands: nerupazhil_name_bytes gives its first byte. No NUL ends it. It lies in its buffer, also where it
@@ -232,7 +240,8 @@ NERUPAZHIL_MEMBER(check_reply, has_tree, 8, 5);
 NERUPAZHIL_MEMBER(check_reply, nodes, 8, 6);
 NERUPAZHIL_MEMBER(check_reply, has_undo, 8, 7);
 NERUPAZHIL_MEMBER(check_reply, records, 8, 8);
-NERUPAZHIL_MEMBER(check_reply, later, 8, 9);
+NERUPAZHIL_MEMBER(check_reply, checksum_left_out, 8, 9);
+NERUPAZHIL_MEMBER(check_reply, later, 8, 10);
 NERUPAZHIL_ARRAY(name, 8, 3);
 NERUPAZHIL_MEMBER(name, buffer, 8, 0);
 NERUPAZHIL_MEMBER(name, offset, 8, 1);
@@ -292,7 +301,7 @@ NERUPAZHIL_MEMBER(step_reply, left, 8, 6);
 
 /* ---- calls that read */
 
-/* Checks the file: 0 says that it is a sound index, and what is in it. */
+/* Checks the file: 0 says that it is a sound index, what is in it, and whether its checksum was left out. */
 void nerupazhil_check(uint32_t kind, const uint8_t *file, size_t file_length, uint8_t *work, size_t work_length,
                       struct nerupazhil_check_reply *reply);
 
@@ -327,8 +336,9 @@ void nerupazhil_walk_next(uint32_t kind, const uint8_t *file, size_t file_length
 /* ---- calls that write: the records of the file, with a change, as a new index in the output
  *
  * `asked` is the version to write: one of NERUPAZHIL_VERSION_*. The lowest is 2 if no entry needs the extended word
- * (skip-worktree or intent-to-add), else 3. Cache tree and resolve undo are kept, other extensions dropped. Nothing is
- * saved: that is the caller's, and c/examples/save.c shows how to do it safely.
+ * (skip-worktree or intent-to-add), else 3. Cache tree and resolve undo are kept, other extensions dropped. A checksum
+ * is written, also where the file's was left out. Nothing is saved: that is the caller's, and c/examples/save.c shows
+ * how to do it safely.
  */
 
 /* The records as they are. */
@@ -378,7 +388,7 @@ static inline const char *nerupazhil_refusal_text(uint64_t refusal)
         "the file, or the one that would be written, is longer than 16777216 bytes",
         "the file does not begin with DIRC, as an index does",
         "the version of the file, or the one asked for, is not one that this call takes",
-        "the file is damaged: its checksum is not that of its bytes",
+        "the file is damaged: its checksum is neither that of its bytes nor left out",
         "an entry runs past the end of the file",
         "the mode of an entry is not 100644, 100755, 120000 or 160000",
         "the flags of an entry are wrong: a bit that its version does not have, or a stage above 3",

@@ -13,7 +13,7 @@ use std::io::{self, Write};
 use std::path::Path;
 use std::process::ExitCode;
 
-use nerupazhil::{Entry, Index, Refusal, Summary, WORKSPACE};
+use nerupazhil::{Checksum, Entry, Index, Refusal, Summary, WORKSPACE};
 
 fn main() -> ExitCode {
     let arguments: Vec<_> = env::args_os().skip(1).collect();
@@ -57,7 +57,11 @@ fn list(path: &Path) -> Result<(), Failure> {
 fn print_index(index: &Index<'_>, out: &mut impl Write) -> Result<(), Failure> {
     let summary = index.summary();
     let (version, entries) = (summary.version, summary.entries);
-    writeln!(out, "version {version} entries {entries}")?;
+    let checksum = match summary.checksum {
+        Checksum::Matches => "",
+        Checksum::LeftOut => " checksum left out",
+    };
+    writeln!(out, "version {version} entries {entries}{checksum}")?;
     match index.entries() {
         Ok(mut walk) => walk.try_for_each(|entry| print_entry(&entry, out))?,
         Err(_) => print_one_by_one(index, out)?,

@@ -61,6 +61,11 @@
 //! # Ok::<(), nerupazhil::Refusal>(())
 //! ```
 //!
+//! # Checksums
+//!
+//! A file with a wrong checksum is refused. One whose checksum was left out is taken, and [`Summary::checksum`] says so:
+//! [`Checksum`] has what to do then.
+//!
 //! # Buffers
 //!
 //! [`check`], [`entry`], [`tree_node`], [`undo_record`], [`walk()`], [`rewrite`], [`put`] and [`remove`] allocate
@@ -109,7 +114,7 @@ pub use index::Index;
 pub use objects::{Kind, ObjectName, WrongLength};
 pub use raw::{Fields, Stage, DIGEST, DIGEST_SHA256, WORKSPACE};
 pub use read::{check, entry, tree_node, undo_record};
-pub use records::{mode, Entry, Summary, Tree, TreeNode, UndoRecord, Version};
+pub use records::{mode, Checksum, Entry, Summary, Tree, TreeNode, UndoRecord, Version};
 pub use refusal::{Reason, Refusal};
 pub use walk::{walk, Walk};
 pub use write::{put, remove, rewrite};

@@ -38,7 +38,8 @@ fn yes(number: u64) -> bool {
 impl CheckReply {
     #[inline]
     pub(crate) fn of(reply: [u64; 16]) -> Self {
-        let [refusal, place, version, entries, end, has_tree, nodes, has_undo, records, ..] = reply;
+        let [refusal, place, version, entries, end, has_tree, nodes, has_undo, records, left_out, ..] =
+            reply;
         Self {
             refusal: narrow(refusal),
             version: narrow(version),
@@ -49,6 +50,7 @@ impl CheckReply {
             records: narrow(records),
             has_tree: yes(has_tree),
             has_undo: yes(has_undo),
+            checksum_left_out: yes(left_out),
         }
     }
 }

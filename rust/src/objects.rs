@@ -8,7 +8,9 @@ use crate::{sha1, sha256, EMPTY, EMPTY_SHA256};
 
 /// Which hash function gives the object names of a repository, and the checksum of its index.
 ///
-/// An index does not say of which kind it is; its repository does: `git rev-parse --show-object-format`.
+/// An index does not say of which kind it is; its repository does: `git rev-parse --show-object-format`. One of the other
+/// kind is refused, nearly always with 5; but with its [checksum left out](crate::Checksum::LeftOut) the same bytes may
+/// be read as both.
 #[derive(Clone, Copy, Debug, Default, PartialEq, Eq, PartialOrd, Ord, Hash)]
 pub enum Kind {
     /// SHA-1, whose digests have 20 bytes.

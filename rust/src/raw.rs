@@ -50,6 +50,8 @@ pub struct CheckReply {
     pub has_tree: bool,
     /// Whether the file has the extension of resolve undo.
     pub has_undo: bool,
+    /// Whether the checksum was left out: zeros are in its place.
+    pub checksum_left_out: bool,
 }
 
 /// Where a name is: `buffer` is 1 for the file, 2 for the workspace, 0 for none. It lies in its buffer, also where it
@@ -202,7 +204,8 @@ pub struct StepReply {
 
 extern "C" {
     /// Checks the file. The reply: refusal, place, version, entries, end, whether there is a cache tree, its nodes,
-    /// whether there is a resolve-undo extension, its records, and seven numbers that are 0.
+    /// whether there is a resolve-undo extension, its records, whether the checksum was left out, and six numbers that
+    /// are 0.
     pub fn nerupazhil_check(
         kind: u32,
         file: *const u8,

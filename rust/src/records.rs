@@ -54,6 +54,8 @@ pub struct Summary {
     pub nodes: Option<u32>,
     /// How many resolve-undo records it has, where it has their extension.
     pub records: Option<u32>,
+    /// Whether its checksum is there. No other call tells.
+    pub checksum: Checksum,
 }
 
 impl Summary {
@@ -80,8 +82,45 @@ impl Summary {
             end: reply.end,
             nodes: reply.has_tree.then_some(reply.nodes),
             records: reply.has_undo.then_some(reply.records),
+            checksum: match reply.checksum_left_out {
+                true => Checksum::LeftOut,
+                false => Checksum::Matches,
+            },
         }
     }
+}
+
+/// What is in the place of an accepted file's checksum. All else is [`Reason::Checksum`](crate::Reason::Checksum).
+///
+/// Nothing guards a file whose checksum was left out: a change in its middle can't be told by it, and a file that lost
+/// its tail to zeros may look like one. So show the list, say that it is unguarded, and rewrite it: a file that is
+/// written here always has a real checksum.
+///
+/// ```
+/// # let file = include_bytes!(concat!(env!("CARGO_MANIFEST_DIR"), "/../tests/vectors/real/v2-committed.index"));
+/// # let mut file = file.to_vec();
+/// use nerupazhil::{Checksum, Index, Reason};
+///
+/// let place = file.len() - 20;
+/// file[place..].fill(0);
+/// let index = Index::read(&file)?;
+/// assert_eq!(index.summary().checksum, Checksum::LeftOut);
+/// assert_eq!(index.entries()?.count(), 20);
+///
+/// let new = index.rewritten(index.summary().version_kept())?;
+/// assert_eq!(Index::read(&new)?.summary().checksum, Checksum::Matches);
+///
+/// // Zeros but for one byte are a wrong checksum.
+/// file[place] = 1;
+/// assert_eq!(Index::read(&file).unwrap_err().reason(), Reason::Checksum);
+/// # Ok::<(), nerupazhil::Refusal>(())
+/// ```
+#[derive(Clone, Copy, Debug, PartialEq, Eq, Hash)]
+pub enum Checksum {
+    /// The hash of all bytes before it.
+    Matches,
+    /// Zeros, as Git's index.skipHash writes them: damage can't be told by it.
+    LeftOut,
 }
 
 /// An entry. Its name is a part of the buffer in which it was read.

@@ -17,7 +17,7 @@ use std::fmt;
 /// assert_eq!(refusal.reason(), Reason::Checksum);
 /// assert_eq!(
 ///     refusal.to_string(),
-///     "refused 5 at 12: the file is damaged: its checksum is not that of its bytes"
+///     "refused 5 at 12: the file is damaged: its checksum is neither that of its bytes nor left out"
 /// );
 /// ```
 ///
@@ -125,7 +125,7 @@ reasons! {
     2 TooLong "the file, or the one that would be written, is longer than 16777216 bytes"
     3 Signature "the file does not begin with DIRC, as an index does"
     4 Version "the version of the file, or the one asked for, is not one that this call takes"
-    5 Checksum "the file is damaged: its checksum is not that of its bytes"
+    5 Checksum "the file is damaged: its checksum is neither that of its bytes nor left out"
     6 EntryCut "an entry runs past the end of the file"
     7 EntryMode "the mode of an entry is not 100644, 100755, 120000 or 160000"
     8 EntryFlags "the flags of an entry are wrong: a bit that its version does not have, or a stage above 3"

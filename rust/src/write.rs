@@ -6,7 +6,8 @@ use crate::{Kind, Refusal, Version};
 
 /// Writes the records of a file in a version, and answers the part of the output that was written.
 ///
-/// The file is checked first. A refusal leaves the output as it was. Extensions other than TREE and REUC are dropped.
+/// The file is checked first. A refusal leaves the output as it was. Extensions other than TREE and REUC are dropped. A
+/// checksum is written, also where the file's was left out.
 ///
 /// ```
 /// # let file = include_bytes!(concat!(env!("CARGO_MANIFEST_DIR"), "/../tests/vectors/real/v4-committed.index"));

@@ -1,6 +1,8 @@
 //! The programs of `examples`, which `cargo test` builds: the listing against the stored ones, and the safe save.
 
 mod common;
+#[path = "../examples/save/mod.rs"]
+mod save;
 
 use std::env;
 use std::fs;
@@ -8,8 +10,8 @@ use std::os::unix::fs::{symlink, PermissionsExt};
 use std::path::{Path, PathBuf};
 use std::process::{Command, Output};
 
-use common::{folder, regular, stored, vectors};
-use nerupazhil::{Fields, Index, Kind};
+use common::{folder, regular, stored, vectors, with_zeros};
+use nerupazhil::{Checksum, Fields, Index, Kind};
 
 const OBJECT: &str = "5a5a5a5a5a5a5a5a5a5a5a5a5a5a5a5a5a5a5a5a";
 
@@ -79,6 +81,20 @@ fn list_prints_the_stored_listings() {
     assert_eq!(listed, 30);
 }
 
+/// The first line ends in other words, and the rest is as with a checksum.
+#[test]
+fn list_tells_that_the_checksum_was_left_out() {
+    for name in ["real/empty", "real/v2-committed", "real/v4-committed"] {
+        let scene = Scene::new("list-left-out", &with_zeros(Kind::Sha1, &stored(name)));
+        let output = program("list").arg(&scene.index).output().unwrap();
+        let listing = folder().join(name).with_extension("list");
+        let listing = fs::read_to_string(listing).unwrap();
+        let expected = listing.replacen('\n', " checksum left out\n", 1);
+        assert_eq!(text(&output.stdout), expected);
+        assert_eq!((text(&output.stderr), output.status.code()), ("", Some(0)));
+    }
+}
+
 #[test]
 fn list_tells_what_is_wrong() {
     let output = program("list").output().unwrap();
@@ -123,6 +139,24 @@ fn put_saves_a_record() {
         let mode = fs::metadata(&scene.index).unwrap().permissions().mode();
         assert_eq!(mode & 0o777, 0o640);
         assert!(!scene.lock.exists());
+    }
+}
+
+/// An index whose checksum was left out is taken, and has one then.
+#[test]
+fn put_saves_a_checksum() {
+    for name in ["v2-committed", "v4-committed"] {
+        let file = stored(&format!("real/{name}"));
+        let saved = |file: &[u8]| {
+            let scene = Scene::new(&format!("put-checksum-{name}"), file);
+            let output = scene.put(&["100644", OBJECT, "saw/cut.txt"]);
+            assert_eq!((text(&output.stderr), output.status.code()), ("", Some(0)));
+            fs::read(&scene.index).unwrap()
+        };
+        let new = saved(&with_zeros(Kind::Sha1, &file));
+        assert_eq!(new, saved(&file));
+        let summary = Index::read(&new).unwrap().summary();
+        assert_eq!(summary.checksum, Checksum::Matches);
     }
 }
 
@@ -172,7 +206,8 @@ fn put_leaves_a_damaged_index_alone() {
     let mut file = stored("real/v2-committed");
     file[40] ^= 1;
     let scene = Scene::new("put-damaged", &file);
-    let message = "refused 5 at 1982: the file is damaged: its checksum is not that of its bytes";
+    let message = "refused 5 at 1982: \
+                   the file is damaged: its checksum is neither that of its bytes nor left out";
     scene.is_unchanged(&scene.put(&["100644", OBJECT, "a"]), &file, message);
     assert!(!scene.lock.exists());
 }
@@ -207,6 +242,24 @@ fn put_loses_nothing_where_the_disk_is_full() {
     let message = "not changed: cannot write the new index: File too large (os error 27)";
     scene.is_unchanged(&output, &file, message);
     assert!(!scene.lock.exists());
+}
+
+/// The save itself refuses bytes that are no sound index, and an index without a checksum.
+#[test]
+fn unsound_bytes_are_not_saved() {
+    let file = stored("real/v2-committed");
+    let scene = Scene::new("save-unsound", &file);
+    let (cut, zeros) = (file[..31].to_vec(), with_zeros(Kind::Sha1, &file));
+    for (new, message) in [
+        (cut, "the new index is refused 1 at 0: "),
+        (zeros, "the checksum of the new index was left out"),
+    ] {
+        let error = save::edit(&scene.index, |_| Ok(new)).unwrap_err();
+        let message = format!("not changed: {message}");
+        assert!(error.to_string().starts_with(&message), "{error}");
+        assert_eq!(fs::read(&scene.index).unwrap(), file);
+        assert!(!scene.lock.exists());
+    }
 }
 
 #[test]

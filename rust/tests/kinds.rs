@@ -7,11 +7,11 @@ use std::collections::{BTreeSet, HashSet};
 use std::process::Command;
 use std::{env, fs, process};
 
-use common::{accepted, number, object, regular, KINDS};
+use common::{accepted, number, object, regular, with_checksum, with_zeros, KINDS};
 use nerupazhil::raw::{CheckReply, EntryReply, StepReply, WriteReply, OBJECT};
 use nerupazhil::{
     calls, check, entry, mode, put, raw, remove, rewrite, sha1, sha256, tree_node, undo_record,
-    walk, Fields, Index, Kind, ObjectName, Reason, Refusal, Version, WrongLength, EMPTY,
+    walk, Checksum, Fields, Index, Kind, ObjectName, Reason, Refusal, Version, WrongLength, EMPTY,
     EMPTY_SHA256, WORKSPACE,
 };
 use Kind::{Sha1, Sha256};
@@ -117,14 +117,17 @@ fn git_writes_the_same_empty_index() {
 
 // ---- files of the other kind
 
-/// No stored file is sound with both kinds; every call refuses it with the same number and place.
+/// No stored file is sound with both kinds; every call refuses it with the same number and place. It is 1 or 5, but for
+/// a file whose checksum was left out.
 #[test]
 fn a_file_of_the_other_kind_is_refused() {
     let (work, out) = (&mut [0; WORKSPACE], &mut [0; 4096]);
     for vector in accepted() {
         let (kind, file) = (other(vector.kind), &vector.file);
         let refusal = check(kind, file, work).unwrap_err();
-        assert!([1, 5].contains(&refusal.number()), "{}", vector.name);
+        let signed = vector.expected.unwrap().checksum == Checksum::Matches;
+        let told = !signed || [1, 5].contains(&refusal.number());
+        assert!(told, "{}", vector.name);
         assert_eq!(entry(kind, file, work, 0).err(), Some(refusal));
         assert_eq!(tree_node(kind, file, work, 0).err(), Some(refusal));
         assert_eq!(undo_record(kind, file, work, 0).err(), Some(refusal));
@@ -152,6 +155,44 @@ fn the_empty_index_of_the_other_kind_is_refused() {
     let mut damaged = EMPTY_SHA256;
     damaged[43] ^= 1;
     assert_eq!(check(Sha256, &damaged, work), Err(Refusal::new(5, 12)));
+    // With the checksum left out, the first 12 of its 32 zeros are no extension.
+    let file = with_zeros(Sha256, &EMPTY_SHA256);
+    assert_eq!(check(Sha1, &file, work), Err(Refusal::new(13, 12)));
+}
+
+/// A file without a checksum, made so that both kinds read it: with SHA-1 names it has the entries ab and bb and an
+/// extension, with SHA-256 names x, which lies in the second ctime, and y, which lies in the extension's data.
+fn of_both_kinds() -> Vec<u8> {
+    let mode = mode::REGULAR.to_be_bytes();
+    let mut file = vec![0; 204];
+    for (at, bytes) in [
+        (0, &b"DIRC\0\0\0\x02\0\0\0\x02"[..]),
+        (36, &mode),
+        (72, b"\0\x02ab"),
+        (84, b"\0\x01x"),
+        (108, &mode),
+        (116, &mode),
+        (144, b"\0\x02bb"),
+        (156, b"SOME\0\0\0\x14\0\x01y"),
+    ] {
+        file[at..at + bytes.len()].copy_from_slice(bytes);
+    }
+    file
+}
+
+/// So a client has to know the kind: no refusal tells. With its checksum a file is of one kind.
+#[test]
+fn with_its_checksum_left_out_a_file_may_be_of_both_kinds() {
+    let file = of_both_kinds();
+    for (kind, expected) in [(Sha1, [&b"ab"[..], b"bb"]), (Sha256, [b"x", b"y"])] {
+        let index = Index::read_kind(kind, &file).unwrap();
+        assert_eq!(index.summary().checksum, Checksum::LeftOut);
+        let names = index.entries().unwrap().map(|entry| entry.name);
+        assert!(names.eq(expected));
+        let signed = with_checksum(kind, file[..204 - kind.width()].to_vec());
+        assert!(Index::read_kind(kind, &signed).is_ok());
+        assert_eq!(number(Index::read_kind(other(kind), &signed)), 5);
+    }
 }
 
 // ---- numbers that are no kind

@@ -20,7 +20,7 @@ use std::io::{self, Write};
 use std::os::unix::fs::OpenOptionsExt;
 use std::path::{Path, PathBuf};
 
-use nerupazhil::{check, Kind, Refusal, WORKSPACE};
+use nerupazhil::{check, Checksum, Kind, Refusal, WORKSPACE};
 
 /// Replaces an index, which has to be there, by what a change makes of its bytes.
 pub fn edit<F>(index: &Path, change: F) -> Result<(), SaveError>
@@ -82,8 +82,13 @@ impl Place {
     {
         let old = load::load(&self.index).map_err(failed("read the index"))?;
         let new = change(&old).map_err(SaveError::Refused)?;
-        // Whatever made these bytes: what is no sound index does not replace one.
-        check(Kind::Sha1, &new, &mut [0; WORKSPACE]).map_err(SaveError::NewRefused)?;
+        // Whatever made these bytes: what is no sound index does not replace one. The library writes a checksum, so one
+        // that was left out is a sign of bytes that were lost.
+        let summary =
+            check(Kind::Sha1, &new, &mut [0; WORKSPACE]).map_err(SaveError::NewRefused)?;
+        if summary.checksum == Checksum::LeftOut {
+            return Err(SaveError::NewUnguarded);
+        }
         self.write(file, &new)?;
         lock.rename(&self.index)
             .map_err(failed("rename the new index"))?;
@@ -143,6 +148,8 @@ pub enum SaveError {
     Refused(Refusal),
     /// The new bytes are no sound index.
     NewRefused(Refusal),
+    /// The new bytes are an index without a checksum.
+    NewUnguarded,
     /// What could not be done, and why.
     Failed(&'static str, io::Error),
     /// The new index is in place, but a loss of power may bring back the old one.
@@ -166,6 +173,9 @@ impl fmt::Display for SaveError {
             ),
             Self::Refused(refusal) => refusal.fmt(f),
             Self::NewRefused(refusal) => write!(f, "not changed: the new index is {refusal}"),
+            Self::NewUnguarded => {
+                write!(f, "not changed: the checksum of the new index was left out")
+            }
             Self::Failed(step, error) => write!(f, "not changed: cannot {step}: {error}"),
             Self::Unsure(error) => write!(
                 f,

@@ -5,8 +5,8 @@ use std::fs;
 use std::path::PathBuf;
 
 use nerupazhil::{
-    check, entry, mode, tree_node, undo_record, Fields, Kind, ObjectName, Refusal, Stage, Summary,
-    Tree, WORKSPACE,
+    check, entry, mode, tree_node, undo_record, Checksum, Fields, Kind, ObjectName, Refusal, Stage,
+    Summary, Tree, WORKSPACE,
 };
 
 /// The kinds of object names.
@@ -34,11 +34,16 @@ pub struct Vector {
 /// All stored files.
 pub fn vectors() -> Vec<Vector> {
     let mut vectors = Vec::new();
-    for (kind, below) in [(Kind::Sha1, ""), (Kind::Sha256, "sha256/")] {
+    let folders = [
+        (Kind::Sha1, ""),
+        (Kind::Sha1, "left-out/"),
+        (Kind::Sha256, "sha256/"),
+    ];
+    for (kind, below) in folders {
         let table = fs::read_to_string(folder().join(below).join("expected.tsv")).unwrap();
         vectors.extend(table.lines().map(|line| vector(kind, below, line)));
     }
-    assert_eq!(vectors.len(), 192 + 79);
+    assert_eq!(vectors.len(), 192 + 78 + 79);
     vectors
 }
 
@@ -46,7 +51,7 @@ pub fn vectors() -> Vec<Vector> {
 pub fn accepted() -> Vec<Vector> {
     let mut vectors = vectors();
     vectors.retain(|vector| vector.expected.is_ok());
-    assert_eq!(vectors.len(), 50 + 5);
+    assert_eq!(vectors.len(), 53 + 5 + 5);
     vectors
 }
 
@@ -61,7 +66,8 @@ fn vector(kind: Kind, below: &str, line: &str) -> Vector {
     }
 }
 
-/// `accepted version V entries N end B nodes N|absent records N|absent`, or `refused NUMBER at PLACE`.
+/// `accepted version V entries N end B nodes N|absent records N|absent`, then `checksum left out` where it was; or
+/// `refused NUMBER at PLACE`.
 fn expected(words: &[&str]) -> Result<Summary, Refusal> {
     let number = |k: usize| words[k].parse::<u32>();
     match words[0] {
@@ -72,6 +78,11 @@ fn expected(words: &[&str]) -> Result<Summary, Refusal> {
             end: words[6].parse().unwrap(),
             nodes: number(8).ok(),
             records: number(10).ok(),
+            checksum: match &words[11..] {
+                [] => Checksum::Matches,
+                ["checksum", "left", "out"] => Checksum::LeftOut,
+                other => panic!("{other:?}"),
+            },
         }),
     }
 }
@@ -157,6 +168,14 @@ pub fn laid_out(kind: Kind, version: u32, names: &[Vec<u8>]) -> Vec<u8> {
 /// The file with its checksum.
 pub fn with_checksum(kind: Kind, mut file: Vec<u8>) -> Vec<u8> {
     file.extend(kind.hash(&file).as_bytes());
+    file
+}
+
+/// The file with zeros in place of its checksum, as Git's index.skipHash writes it.
+pub fn with_zeros(kind: Kind, file: &[u8]) -> Vec<u8> {
+    let mut file = file.to_vec();
+    let place = file.len() - kind.width();
+    file[place..].fill(0);
     file
 }
 
