@@ -38,6 +38,7 @@ impl Arrays {
                 r.nodes.into(),
                 r.has_undo.into(),
                 r.records.into(),
+                r.checksum_left_out.into(),
             ])
             .zeros_to(16),
             Reply::Entry(r) => Self::shown(r.refusal, r.place, r.name, &[]).with_fields(&r.fields),

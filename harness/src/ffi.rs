@@ -30,7 +30,8 @@ macro_rules! call {
 pub fn check(kind: u32, file: &[u8], work: &mut [u8]) -> CheckReply {
     let mut reply = [0; 16];
     call!(nerupazhil_check, kind, file, mut work; &mut reply);
-    let [refusal, place, version, entries, end, has_tree, nodes, has_undo, records, ..] = reply;
+    let [refusal, place, version, entries, end, has_tree, nodes, has_undo, records, left_out, ..] =
+        reply;
     CheckReply {
         refusal: refusal as u32,
         version: version as u32,
@@ -41,6 +42,7 @@ pub fn check(kind: u32, file: &[u8], work: &mut [u8]) -> CheckReply {
         records: records as u32,
         has_tree: has_tree != 0,
         has_undo: has_undo != 0,
+        checksum_left_out: left_out != 0,
     }
 }
 

@@ -19,6 +19,8 @@ pub struct CheckReply {
     pub records: u32,
     pub has_tree: bool,
     pub has_undo: bool,
+    /// Whether zeros are in place of the checksum.
+    pub checksum_left_out: bool,
 }
 
 /// Where a name is: `buffer` is 1 for the file, 2 for the workspace, 0 for none.
