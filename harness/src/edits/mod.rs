@@ -3,7 +3,7 @@
 
 mod drawn;
 mod large;
-mod records;
+pub(crate) mod records;
 mod refusals;
 mod results;
 mod trees;
