@@ -231,7 +231,7 @@ def goes_on(snapshot: Snapshot, repository: Repository, expected: dict, call, re
 def left_out(snapshot: Snapshot, repository: Repository, expected: dict, requests: list, call, report: Report) -> None:
     """Makes these requests, and lets Git look, with zeros in place of the checksum: all is as with the checksum."""
     name = f"{snapshot.name}: without a checksum"
-    data = git_files.without_checksum(snapshot)
+    data = repository.kind.zeroed(snapshot.data)
     for request in requests:
         with_checksum, without = call(request), call(request._replace(data=data))
         report.same(f"{name}, {request.call}, asked {request.asked}", with_checksum, without)
@@ -242,9 +242,10 @@ def left_out(snapshot: Snapshot, repository: Repository, expected: dict, request
     report.same(f"{name}, what Git sees", expected, seen)
     report.same(f"{name}, as Git writes it", *(written_by_git(repository, index) for index in (snapshot.data, data)))
     skipped = written_by_git(repository, snapshot.data, "-c", "index.skipHash=true")
+    # Git 2.39 does not know the setting.
     if not any(skipped[-repository.kind.width :]):
-        right = written_by_git(repository, snapshot.data)
-        report.same(f"{name}, as Git leaves it out", right[: -repository.kind.width], skipped[: -repository.kind.width])
+        again = written_by_git(repository, snapshot.data)
+        report.same(f"{name}, as Git leaves it out", repository.kind.zeroed(again), skipped)
 
 
 # ---- the run

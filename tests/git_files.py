@@ -24,7 +24,7 @@ from typing import NamedTuple, Optional
 
 import index_reader
 from kinds import SHA1, Kind
-from layout import Maker, Record, left_out
+from layout import Maker, Record
 from report import WIDTH, Program, ProgramFailed, Report, difference
 
 
@@ -509,19 +509,12 @@ def undo_of_reader(records: Optional[list]) -> list:
     ]
 
 
-def without_checksum(snapshot: Snapshot) -> bytes:
-    """The file with zeros in place of its checksum."""
-    kind = snapshot.repository.kind
-    return left_out(snapshot.data[: -kind.width], kind)
-
-
 def compare_left_out(snapshot: Snapshot, listing: bytes, listing_of, report: Report) -> None:
     """Holds the listing of the file without a checksum against that with one, and sees that Git reads both. Git 2.40 and
     later write such files with index.skipHash. Git 2.39 reads them: only its fsck looks at the checksum of an index."""
-    data = without_checksum(snapshot)
+    data = snapshot.repository.kind.zeroed(snapshot.data)
     if snapshot.refusal is None:
-        first, rest = listing.split(b"\n", 1)
-        listing = first + b" checksum left out\n" + rest
+        listing = listing.replace(b"\n", b" checksum left out\n", 1)
         staged = snapshot.repository.staged_in(data)
         report.same(f"{snapshot.name}: without a checksum, for Git", (0, snapshot.stage), staged)
     report.same(f"{snapshot.name}: without a checksum, listing", listing, listing_of(data))

@@ -13,6 +13,10 @@ class Kind(NamedTuple):
     def hash(self, message: bytes) -> bytes:
         return self.function(message).digest()
 
+    def zeroed(self, data: bytes) -> bytes:
+        """A file with zeros in place of its checksum, as Git's index.skipHash writes it."""
+        return data[: -self.width] + bytes(self.width)
+
 
 SHA1 = Kind(1, "sha1", 20, hashlib.sha1)
 SHA256 = Kind(2, "sha256", 32, hashlib.sha256)

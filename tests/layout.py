@@ -20,7 +20,7 @@ __all__ = [
     "UNDO_MODES", "WRONG_MODES",
     "Extension", "Made", "Maker", "Plan", "Record", "Tree", "Undo",
     "arrange", "bad_names", "end_of_entries", "git_order", "index_order", "compose", "compose_number", "compose_record",
-    "compose_tree", "compose_undo", "left_out", "left_out_too", "refused", "with_checksum", "whole_tree",
+    "compose_tree", "compose_undo", "left_out_too", "refused", "with_checksum", "whole_tree",
 ]
 
 REGULAR, EXECUTABLE, LINK, GITLINK = 0o100644, 0o100755, 0o120000, 0o160000
@@ -46,7 +46,7 @@ class Made(NamedTuple):
         answer = self.answer
         if answer is not None and answer[0] == "accepted":
             answer += (LEFT_OUT,)
-        return Made(f"{self.name}-left-out", left_out(self.data[: -kind.width], kind), answer)
+        return Made(f"{self.name}-left-out", kind.zeroed(self.data), answer)
 
 
 # ---- the parts of a file
@@ -185,10 +185,6 @@ def with_checksum(body: bytes, kind: Kind = SHA1) -> bytes:
     return body + kind.hash(body)
 
 
-def left_out(body: bytes, kind: Kind = SHA1) -> bytes:
-    return body + bytes(kind.width)
-
-
 def end_of_entries(end: int, extensions: list, kind: Kind = SHA1) -> Extension:
     """A right EOIE extension, to be written after the given ones."""
     heads = b"".join(e.signature + struct.pack(">I", len(e.data)) for e in extensions)
@@ -266,8 +262,7 @@ class Maker:
         self.width = kind.width
         self.fixed = 42 + kind.width  # an entry's bytes before the extended word and the name
         self.plan = partial(Plan, kind=kind)
-        functions = (compose, compose_record, compose_tree, compose_undo, end_of_entries)
-        for function in functions + (left_out, refused, with_checksum):
+        for function in (compose, compose_record, compose_tree, compose_undo, end_of_entries, refused, with_checksum):
             setattr(self, function.__name__, partial(function, kind=kind))
 
 
