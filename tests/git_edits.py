@@ -10,7 +10,10 @@ Each file is listed and held against Git as git_files does it. Then, with a copy
     when Git writes the file again, its records and, where it has no other extension, its bytes are the same;
 
     after a put the entries, valid nodes and bytes are those that 'git update-index --cacheinfo' leaves, after a remove
-    those of '--force-remove', and Git goes on: it adds, refreshes, removes and writes the same tree.
+    those of '--force-remove', and Git goes on: it adds, refreshes, removes and writes the same tree;
+
+    with zeros in place of its checksum, as Git 2.40 and later write it with index.skipHash, the file is listed, rewritten
+    and edited as with its checksum, and Git sees the same in both.
 
 Not compared, since Git does more than document 01 asks: the nodes at and below the path of a put entry, which Git
 drops; resolve undo after a remove of stages 1 to 3, where Git adds a record; extensions that the library passes over.
@@ -61,10 +64,10 @@ def look(repository: Repository, index: bytes, names: tuple = tuple(name for nam
     return seen
 
 
-def written_by_git(repository: Repository, index: bytes) -> bytes:
+def written_by_git(repository: Repository, index: bytes, *options: str) -> bytes:
     """The index as Git writes it again."""
     repository.install(index)
-    repository.git("update-index", "--force-write-index")
+    repository.git(*options, "update-index", "--force-write-index")
     return repository.index()
 
 
@@ -222,6 +225,29 @@ def goes_on(snapshot: Snapshot, repository: Repository, expected: dict, call, re
     os.remove(os.path.join(repository.path, "added-later", "file"))
 
 
+# ---- without a checksum
+
+
+def left_out(snapshot: Snapshot, repository: Repository, expected: dict, requests: list, call, report: Report) -> None:
+    """Makes these requests, and lets Git look, with zeros in place of the checksum: all is as with the checksum."""
+    name = f"{snapshot.name}: without a checksum"
+    data = repository.kind.zeroed(snapshot.data)
+    for request in requests:
+        with_checksum, without = call(request), call(request._replace(data=data))
+        report.same(f"{name}, {request.call}, asked {request.asked}", with_checksum, without)
+    seen = look(repository, data)
+    # Git 2.39 looks at the checksum in fsck alone, and takes zeros for a wrong one.
+    if b"bad index file sha1 signature" in seen["fsck"][2]:
+        seen["fsck"] = expected["fsck"]
+    report.same(f"{name}, what Git sees", expected, seen)
+    report.same(f"{name}, as Git writes it", *(written_by_git(repository, index) for index in (snapshot.data, data)))
+    skipped = written_by_git(repository, snapshot.data, "-c", "index.skipHash=true")
+    # Git 2.39 does not know the setting.
+    if not any(skipped[-repository.kind.width :]):
+        again = written_by_git(repository, snapshot.data)
+        report.same(f"{name}, as Git leaves it out", repository.kind.zeroed(again), skipped)
+
+
 # ---- the run
 
 
@@ -249,11 +275,17 @@ def compare(snapshot: Snapshot, root: str, call, report: Report) -> None:
         index = read(repository, snapshot.data)
         object_name = bytes.fromhex(repository.blob().decode())
         expected = rewritten(snapshot, repository, call, report)
+        requests = [Request("rewrite", snapshot.data, asked, ROOM) for asked in (0, 2, 3, 4)]
         for _ in range(2):
-            put(snapshot, repository, draw_put(rng, index, object_name), call, report)
+            entry = draw_put(rng, index, object_name)
+            put(snapshot, repository, entry, call, report)
+            requests.append(Request("put", snapshot.data, 4, ROOM, entry))
         if index.entries:
-            remove(snapshot, repository, rng.choice(index.entries).name, call, report)
+            entry = rng.choice(index.entries)
+            remove(snapshot, repository, entry.name, call, report)
+            requests.append(Request("remove", snapshot.data, 4, ROOM, name=entry.name, stage=entry.stage))
         goes_on(snapshot, repository, expected, call, report)
+        left_out(snapshot, repository, expected, requests, call, report)
     finally:
         shutil.rmtree(repository.path)
 

@@ -4,7 +4,8 @@
 
 For a file that is accepted, the entry lines must be those of 'git ls-files --stage', byte for byte after the
 escapes are undone, and the counts those of index_reader; index_reader in turn is held against what Git tells
-of the other fields. For a file that is refused, the refusal is the one named here. The files have SHA-1 names, as the
+of the other fields. For a file that is refused, the refusal is the one named here. Each file is also listed without its
+checksum: zeros are in its place, as Git writes them with index.skipHash. The files have SHA-1 names, as the
 program takes them; git_edits holds those of other kinds against Git. The last line is 'N passed, M failed', and the exit
 status is 0 only where M is 0.
 
@@ -83,9 +84,10 @@ class Repository:
         other.environment = dict(self.environment)
         return other
 
-    def run(self, *arguments, given: bytes = b"") -> subprocess.CompletedProcess:
+    def run(self, *arguments, given: bytes = b"", **variables) -> subprocess.CompletedProcess:
+        environment = {**self.environment, **variables}
         return subprocess.run(
-            ["git", *arguments], cwd=self.path, env=self.environment, input=given, capture_output=True, check=False
+            ["git", *arguments], cwd=self.path, env=environment, input=given, capture_output=True, check=False
         )
 
     def git(self, *arguments, given: bytes = b"", may_fail: bool = False) -> bytes:
@@ -129,6 +131,15 @@ class Repository:
     def install(self, index: bytes) -> None:
         with open(os.path.join(self.path, ".git", "index"), "wb") as stream:
             stream.write(index)
+
+    def staged_in(self, index: bytes) -> tuple:
+        """What 'git ls-files --stage -z' says of another index: status and output."""
+        path = os.path.join(self.path, ".git", "other-index")
+        with open(path, "wb") as stream:
+            stream.write(index)
+        done = self.run("ls-files", "--stage", "-z", GIT_INDEX_FILE=path)
+        os.remove(path)
+        return done.returncode, done.stdout
 
     def snapshot(self, name: str, refusal: Optional[int] = None, extensions: tuple = ()) -> Snapshot:
         data = self.index()
@@ -498,11 +509,23 @@ def undo_of_reader(records: Optional[list]) -> list:
     ]
 
 
+def compare_left_out(snapshot: Snapshot, listing: bytes, listing_of, report: Report) -> None:
+    """Holds the listing of the file without a checksum against that with one, and sees that Git reads both. Git 2.40 and
+    later write such files with index.skipHash. Git 2.39 reads them: only its fsck looks at the checksum of an index."""
+    data = snapshot.repository.kind.zeroed(snapshot.data)
+    if snapshot.refusal is None:
+        listing = listing.replace(b"\n", b" checksum left out\n", 1)
+        staged = snapshot.repository.staged_in(data)
+        report.same(f"{snapshot.name}: without a checksum, for Git", (0, snapshot.stage), staged)
+    report.same(f"{snapshot.name}: without a checksum, listing", listing, listing_of(data))
+
+
 def compare(snapshot: Snapshot, listing_of, report: Report) -> None:
     """Holds a listing against Git, and index_reader against Git."""
     name, data, kind = snapshot.name, snapshot.data, snapshot.repository.kind
     try:
         listing = listing_of(data)
+        compare_left_out(snapshot, listing, listing_of, report)
     except ProgramFailed as failure:
         report.test(f"{name}: listing", False, failure)
         return

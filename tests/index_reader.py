@@ -3,8 +3,8 @@
 It shares nothing with the proved library: the tests hold the library's answers against it. It is written for
 clarity, one rule after the other in the order in which the rules are tested.
 
-    check(data)    ('accepted', version, entries, end, nodes or None, records or None)
-                   or ('refused', number, place)
+    check(data)    ('accepted', version, entries, end, nodes or None, records or None), with LEFT_OUT at its end where
+                   the checksum was left out, or ('refused', number, place)
     entries(data)  the entries, a list of Entry
     nodes(data)    the nodes of the cache tree, a list of Node, or None without the extension
     undo(data)     the resolve-undo records, a list of Undo, or None without the extension
@@ -29,6 +29,8 @@ LEVEL_LIMIT = 128
 
 HEADER = 12
 OBJECT_AT = 40  # where an entry's object name is: after ten numbers
+
+LEFT_OUT = "checksum left out"  # the words of check's answer and of the listing
 
 MODES = (0o100644, 0o100755, 0o120000, 0o160000)
 LENGTH_MAX = 4095  # the largest value of the length field: the name has this length or more
@@ -86,6 +88,7 @@ class Index(NamedTuple):
     nodes: Optional[list]
     undo: Optional[list]
     others: list  # (signature, place) of each extension that was passed over
+    left_out: bool  # zeros are in place of the checksum
 
 
 # ---- the whole file
@@ -103,13 +106,16 @@ def read(data: bytes, limit: int = FILE_LIMIT, kind: Kind = SHA1) -> Index:
     if version not in (2, 3, 4):
         raise Refused(4, 0)
     # The body is the file less the checksum. No rule below looks past it.
-    body = data[: -kind.width]
-    if kind.hash(body) != data[-kind.width :]:
+    body, last = data[: -kind.width], data[-kind.width :]
+    # A checksum that is itself all zeros would match.
+    matches = kind.hash(body) == last
+    left_out = not matches and not any(last)
+    if not matches and not left_out:
         raise Refused(5, len(body))
 
     found, places, end = read_entries(body, kind, version, number(body, 8, 4))
     tree, undo_records, others = read_extensions(body, kind, end, [entry.name for entry in found])
-    return Index(version, found, places, end, tree, undo_records, others)
+    return Index(version, found, places, end, tree, undo_records, others, left_out)
 
 
 def number(data: bytes, at: int, width: int) -> int:
@@ -401,7 +407,7 @@ def check(data: bytes, limit: int = FILE_LIMIT, kind: Kind = SHA1) -> tuple:
         index = read(data, limit, kind)
     except Refused as refusal:
         return ("refused", refusal.number, refusal.place)
-    return (
+    accepted = (
         "accepted",
         index.version,
         len(index.entries),
@@ -409,6 +415,7 @@ def check(data: bytes, limit: int = FILE_LIMIT, kind: Kind = SHA1) -> tuple:
         None if index.nodes is None else len(index.nodes),
         None if index.undo is None else len(index.undo),
     )
+    return accepted + (LEFT_OUT,) if index.left_out else accepted
 
 
 def entries(data: bytes, kind: Kind = SHA1) -> list:
@@ -438,7 +445,8 @@ def listing(data: bytes, limit: int = LISTING_LIMIT, kind: Kind = SHA1) -> bytes
         index = read(data, limit, kind)
     except Refused as refusal:
         return b"refused %d at %d\n" % (refusal.number, refusal.place)
-    lines = [b"version %d entries %d\n" % (index.version, len(index.entries))]
+    lines = [b"version %d entries %d" % (index.version, len(index.entries))]
+    lines += [b" " + LEFT_OUT.encode(), b"\n"] if index.left_out else [b"\n"]
     for entry in index.entries:
         object_name = entry.object.hex().encode()
         lines.append(b"%o %s %d\t%s\n" % (entry.mode, object_name, entry.stage, escape(entry.name)))

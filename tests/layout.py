@@ -16,11 +16,11 @@ from kinds import SHA1, Kind
 
 # what the makers of files take from here, each by "from layout import *"
 __all__ = [
-    "COUNT_TEXTS", "EXECUTABLE", "GITLINK", "LINK", "LISTING_LIMIT", "MODES", "REGULAR", "SUBTREE_TEXTS",
+    "COUNT_TEXTS", "EXECUTABLE", "GITLINK", "LEFT_OUT", "LINK", "LISTING_LIMIT", "MODES", "REGULAR", "SUBTREE_TEXTS",
     "UNDO_MODES", "WRONG_MODES",
     "Extension", "Made", "Maker", "Plan", "Record", "Tree", "Undo",
     "arrange", "bad_names", "end_of_entries", "git_order", "index_order", "compose", "compose_number", "compose_record",
-    "compose_tree", "compose_undo", "refused", "with_checksum", "whole_tree",
+    "compose_tree", "compose_undo", "left_out_too", "refused", "with_checksum", "whole_tree",
 ]
 
 REGULAR, EXECUTABLE, LINK, GITLINK = 0o100644, 0o100755, 0o120000, 0o160000
@@ -31,6 +31,7 @@ WRONG_MODES = (
 )
 
 LISTING_LIMIT = 65_536
+LEFT_OUT = "checksum left out"  # the end of check's answer
 
 
 class Made(NamedTuple):
@@ -39,6 +40,13 @@ class Made(NamedTuple):
     name: str
     data: bytes
     answer: Optional[tuple] = None
+
+    def left_out(self, kind: Kind) -> "Made":
+        """The same with zeros in place of the checksum, which is right."""
+        answer = self.answer
+        if answer is not None and answer[0] == "accepted":
+            answer += (LEFT_OUT,)
+        return Made(f"{self.name}-left-out", kind.zeroed(self.data), answer)
 
 
 # ---- the parts of a file
@@ -232,6 +240,18 @@ class Plan:
 def refused(name: str, body: bytes, number: int, place: int, kind: Kind = SHA1) -> Made:
     """A file with one fault and a right checksum."""
     return Made(name, with_checksum(body, kind), ("refused", number, place))
+
+
+def left_out_too(files, kind: Kind):
+    """These files; of those with a right checksum, the first of each version and each refusal with it left out too."""
+    met = set()
+    for made in files:
+        yield made
+        if made.answer is None or made.answer[:2] in met:
+            continue
+        if with_checksum(made.data[: -kind.width], kind) == made.data:
+            met.add(made.answer[:2])
+            yield made.left_out(kind)
 
 
 class Maker:

@@ -32,6 +32,7 @@ resolve-undo none
 """
 DOCUMENT = {
     "document/listing-example": EXAMPLE,
+    "checksum/listing-example": EXAMPLE.replace(b"entries 2", b"entries 2 checksum left out"),
     "document/listing-example-wrong-checksum": b"refused 5 at 148\n",
     "document/empty-index": b"version 2 entries 0\ncache tree none\nresolve-undo none\n",
     "document/resolve-undo": b"version 2 entries 0\ncache tree none\nresolve-undo 1 paths\n",
@@ -62,20 +63,29 @@ def parse_answer(text: str) -> tuple:
     words = text.split(" ")
     if words[0] == "refused":
         return ("refused", int(words[1]), int(words[3]))
-    return ("accepted",) + tuple(None if word == "absent" else int(word) for word in words[2::2])
+    counts = tuple(None if word == "absent" else int(word) for word in words[2:11:2])
+    return ("accepted",) + counts + ((" ".join(words[11:]),) if words[11:] else ())
+
+
+def answers(folder: str = "") -> dict:
+    """The answers of a folder of the vectors, by the names of the files."""
+    lines = load(folder, "expected.tsv").decode().splitlines()
+    rows = (line.split("\t") for line in lines)
+    return {os.path.join(folder, name): parse_answer(text) for name, text in rows}
 
 
 def vectors():
-    """The stored vectors. Each has a row in expected.tsv; a file without one is an error."""
-    rows = dict(line.split("\t") for line in load("expected.tsv").decode().splitlines())
-    files = {f"{folder}/{name}" for folder in ("made", "real") for name in os.listdir(os.path.join(VECTORS, folder))}
+    """The stored vectors with SHA-1 names. Each has a row in an expected.tsv; a file without one is an error."""
+    rows = {**answers(), **answers("left-out")}
+    folders = ("made", "real", "left-out")
+    files = {f"{folder}/{name}" for folder in folders for name in os.listdir(os.path.join(VECTORS, folder))}
     indexes = {name for name in files if name.endswith(".index")}
     if indexes != set(rows):
         raise SystemExit(f"expected.tsv and the vectors differ: {sorted(indexes ^ set(rows))}")
-    for name, text in rows.items():
+    for name, answer in rows.items():
         list_name = name[: -len(".index")] + ".list"
         listing = load(list_name) if list_name in files else None
-        yield Case(name, load(name), parse_answer(text), listing)
+        yield Case(name, load(name), answer, listing)
 
 
 def made(files):
@@ -99,11 +109,12 @@ def shows(listing: bytes, answer: tuple, size: int) -> bool:
         return listing == b"refused 2 at 0\n"
     if answer[0] == "refused":
         return listing == b"refused %d at %d\n" % answer[1:]
-    _, version, entries, _, nodes, records = answer
+    _, version, entries, _, nodes, records, *left_out = answer
+    first = b"version %d entries %d" % (version, entries) + b"".join(b" " + words.encode() for words in left_out)
     lines = listing.splitlines()
     return (
         len(lines) == entries + 3
-        and lines[0] == b"version %d entries %d" % (version, entries)
+        and lines[0] == first
         and lines[-2] == (b"cache tree none" if nodes is None else b"cache tree %d nodes" % nodes)
         and lines[-1] == (b"resolve-undo none" if records is None else b"resolve-undo %d paths" % records)
     )

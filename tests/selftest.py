@@ -53,10 +53,9 @@ def vectors(report: Report) -> None:
         report.same(f"{case.name}: check", case.answer, index_reader.check(case.data))
         wrong = run_listing.problem(case, index_reader.listing)
         report.test(f"{case.name}: listing", wrong is None, *(wrong or ()))
-    for line in run_listing.load("sha256", "expected.tsv").decode().splitlines():
-        name, answer = line.split("\t")
-        data = run_listing.load("sha256", name)
-        report.same(f"sha256/{name}: check", run_listing.parse_answer(answer), index_reader.check(data, kind=SHA256))
+    for name, answer in run_listing.answers("sha256").items():
+        data = run_listing.load(name)
+        report.same(f"{name}: check", answer, index_reader.check(data, kind=SHA256))
 
 
 def made_files(report: Report) -> None:
@@ -77,7 +76,10 @@ def made_files_of(kind: Kind, report: Report) -> None:
         if file.answer is not None:
             report.same(file.name, file.answer, answer)
         if answer[0] == "accepted":
-            report.same(f"{file.name} as {other.name}", "refused", index_reader.check(file.data, kind=other)[0])
+            # Without a checksum the same bytes may read as both.
+            otherwise = index_reader.check(file.data, kind=other)
+            refused = otherwise[0] == "refused" or otherwise[-1] == index_reader.LEFT_OUT
+            report.test(f"{file.name} as {other.name}", refused, otherwise)
         names.append(file.name)
         numbers.add(answer[1] if answer[0] == "refused" else 0)
         over += len(file.data) > index_reader.LISTING_LIMIT
@@ -119,6 +121,7 @@ def hand_written(report: Report) -> None:
     report.same("listing example, wrong checksum", b"refused 5 at 148\n", index_reader.listing(example[:-1] + b"\0"))
     listed = {file.name: file.data for file in make_cases.document_cases()}
     report.same("listing example, as made", example, listed["document/listing-example"])
+    left_out_by_hand(empty, example, report)
 
     undo = b"plan\x00100644\x000\x00100644\x00" + b"\x44" * 20 + b"\x66" * 20
     report.same("resolve undo: length", 61, len(undo))
@@ -158,6 +161,21 @@ def hand_written(report: Report) -> None:
         report.same(f"all fields of an entry, version {version}", [fields], [tuple(e) for e in read])
 
 
+def left_out_by_hand(empty: bytes, example: bytes, report: Report) -> None:
+    """Two files with zeros in place of their checksums, and a made-up hash function that gives zeros."""
+    zeros = bytes(20)
+    answer = ("accepted", 2, 0, 12, None, None, "checksum left out")
+    report.same("empty index, no checksum", answer, index_reader.check(empty[:12] + zeros))
+    expected = run_listing.EXAMPLE.replace(b"version 2 entries 2\n", b"version 2 entries 2 checksum left out\n")
+    report.same("listing example, no checksum", expected, index_reader.listing(example[:148] + zeros))
+    for at in range(148, 168):
+        wrong = bytearray(example[:148] + zeros)
+        wrong[at] = 1
+        report.same(f"listing example, byte {at} alone", b"refused 5 at 148\n", index_reader.listing(bytes(wrong)))
+    matching = Kind(1, "zeros", 20, lambda _: types.SimpleNamespace(digest=lambda: zeros))
+    report.same("a checksum that is zeros matches", answer[:-1], index_reader.check(empty[:12] + zeros, kind=matching))
+
+
 def hand_written_sha256(report: Report) -> None:
     """The same examples with SHA-256 names."""
 
@@ -167,7 +185,10 @@ def hand_written_sha256(report: Report) -> None:
     head = bytes.fromhex("44495243 00000002 00000000")
     report.same("SHA-256, empty index", ("accepted", 2, 0, 12, None, None), check(head))
     report.same("SHA-256, 43 bytes", ("refused", 1, 0), index_reader.check(bytes(43), kind=SHA256))
-    report.same("SHA-256, wrong checksum", ("refused", 5, 12), index_reader.check(head + bytes(32), kind=SHA256))
+    report.same("SHA-256, wrong checksum", ("refused", 5, 12), index_reader.check(head + b"\1" * 32, kind=SHA256))
+    left_out = ("accepted", 2, 0, 12, None, None, "checksum left out")
+    report.same("SHA-256, no checksum", left_out, index_reader.check(head + bytes(32), kind=SHA256))
+    report.same("SHA-256, 20 zeros", ("refused", 5, 12), index_reader.check(head + b"\1" * 12 + bytes(20), kind=SHA256))
     for count, word, length in ((5, b"", 80), (6, b"", 88), (3, bytes(2), 80), (4, bytes(2), 88)):
         flags = (0x4000 if word else 0) | count
         entry = bytes(24) + bytes.fromhex("000081a4") + bytes(12) + b"\x11" * 32

@@ -20,8 +20,8 @@ def words(answer: tuple) -> str:
     if answer[0] == "refused":
         return "refused %d at %d" % answer[1:]
     names = ("version", "entries", "end", "nodes", "records")
-    counts = ("absent" if number is None else str(number) for number in answer[1:])
-    return " ".join(("accepted", *(f"{name} {count}" for name, count in zip(names, counts))))
+    counts = ("absent" if number is None else str(number) for number in answer[1:6])
+    return " ".join(("accepted", *(f"{name} {count}" for name, count in zip(names, counts)), *answer[6:]))
 
 
 def main() -> int:

@@ -15,7 +15,7 @@ const WORKSPACE_SMALL: u32 = 19;
 /// The refusal of a kind.
 const UNKNOWN_KIND: u32 = 29;
 
-#[derive(Debug, PartialEq)]
+#[derive(Clone, Debug, PartialEq)]
 pub enum Reply {
     Check(CheckReply),
     Entry(EntryReply),
@@ -38,6 +38,17 @@ impl Reply {
             Self::Start(reply) => reply.refusal,
             Self::Step(reply) => reply.refusal,
             Self::Digest(..) => 0,
+        }
+    }
+
+    /// The name that it shows, an empty one where it shows none.
+    pub fn name(&self) -> Name {
+        match self {
+            Self::Entry(reply) => reply.name,
+            Self::Node(reply) => reply.name,
+            Self::Undo(reply) => reply.path,
+            Self::Step(reply) => reply.name,
+            _ => Name::default(),
         }
     }
 }

@@ -62,6 +62,21 @@ impl Kind {
         body
     }
 
+    /// The bytes of a file whose checksum is left out.
+    pub fn left_out(self, body: &[u8]) -> Vec<u8> {
+        [body, &vec![0; self.width()]].concat()
+    }
+
+    /// A file, which is long enough to have one, less its checksum.
+    pub fn body(self, file: &[u8]) -> &[u8] {
+        &file[..file.len() - self.width()]
+    }
+
+    /// Whether zeros are in place of a file's checksum. No digest of a test is zeros itself.
+    pub fn is_left_out(self, file: &[u8]) -> bool {
+        file.len() >= self.width() && file.iter().rev().take(self.width()).all(|byte| *byte == 0)
+    }
+
     /// The object name of these bytes, of which there are enough, with zeros after it.
     pub fn object(self, bytes: &[u8]) -> Object {
         let mut object = [0; OBJECT];

@@ -19,5 +19,6 @@ pub mod plain;
 pub mod random;
 pub mod replies;
 pub mod stack;
+pub mod tails;
 pub mod timing;
 pub mod vectors;

@@ -2,6 +2,7 @@
 
 use crate::kind::Kind;
 use crate::replies::{CheckReply, Fields};
+use crate::vectors::left_out;
 
 /// The listing of an accepted file: `entry` gives the fields and the name of an entry by its number.
 pub fn listing(
@@ -9,7 +10,12 @@ pub fn listing(
     checked: &CheckReply,
     mut entry: impl FnMut(u32) -> (Fields, Vec<u8>),
 ) -> String {
-    let mut text = format!("version {} entries {}\n", checked.version, checked.entries);
+    let mut text = format!(
+        "version {} entries {}{}\n",
+        checked.version,
+        checked.entries,
+        left_out(checked)
+    );
     for k in 0..checked.entries {
         let (fields, name) = entry(k);
         add_line(&mut text, kind, &fields, &name);

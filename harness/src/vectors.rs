@@ -14,12 +14,17 @@ pub struct Vector {
 
 /// One of the files of `tests/vectors` with SHA-1 names.
 pub fn file(name: &str) -> Vec<u8> {
-    load(&folder(Kind::Sha1), name)
+    load(&folder(), name)
 }
 
 /// All of `tests/vectors` with object names of a kind.
 pub fn all(kind: Kind) -> Vec<Vector> {
-    let vectors = of(&folder(kind));
+    let folders: &[&str] = match kind {
+        Kind::Sha1 => &["", "left-out"],
+        Kind::Sha256 => &["sha256"],
+    };
+    let vectors = folders.iter().map(|name| of(&folder().join(name)));
+    let vectors: Vec<Vector> = vectors.flatten().collect();
     assert!(vectors.len() > 50);
     vectors
 }
@@ -37,12 +42,8 @@ pub fn of(folder: &Path) -> Vec<Vector> {
         .collect()
 }
 
-fn folder(kind: Kind) -> PathBuf {
-    let vectors = PathBuf::from(env!("CARGO_MANIFEST_DIR")).join("../tests/vectors");
-    match kind {
-        Kind::Sha1 => vectors,
-        Kind::Sha256 => vectors.join("sha256"),
-    }
+fn folder() -> PathBuf {
+    PathBuf::from(env!("CARGO_MANIFEST_DIR")).join("../tests/vectors")
 }
 
 fn load(folder: &Path, name: &str) -> Vec<u8> {
@@ -61,12 +62,21 @@ pub fn words(reply: &CheckReply) -> String {
     if reply.refusal > 0 {
         return format!("refused {} at {}", reply.refusal, reply.place);
     }
-    format!(
+    let counts = format!(
         "accepted version {} entries {} end {} nodes {} records {}",
         reply.version,
         reply.entries,
         reply.end,
         count(reply.has_tree, reply.nodes),
         count(reply.has_undo, reply.records)
-    )
+    );
+    counts + left_out(reply)
+}
+
+/// What is said, after all else in the line, of a checksum that was left out.
+pub fn left_out(reply: &CheckReply) -> &'static str {
+    match reply.checksum_left_out {
+        true => " checksum left out",
+        false => "",
+    }
 }

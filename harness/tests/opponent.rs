@@ -172,6 +172,48 @@ fn the_listing_of_document_01() {
     }
 }
 
+/// Zeros in place of the checksum: check and the first line of the listing say so.
+#[test]
+fn a_checksum_that_is_left_out() {
+    for kind in Kind::ALL {
+        for version in 2..=4 {
+            let file = index(kind, version, &[b"a", b"b/c"]);
+            let zeros = kind.left_out(kind.body(&file));
+            let expected = check(kind, &file) + " checksum left out";
+            assert_eq!(check(kind, &zeros), expected);
+            let lines = listing(kind, &file);
+            let first = format!("version {version} entries 2");
+            let expected = format!("{first} checksum left out{}", &lines[first.len()..]);
+            assert_eq!(listing(kind, &zeros), expected);
+            for asked in [0, 2, 3, 4] {
+                assert_eq!(rewrite(kind, &zeros, asked), rewrite(kind, &file, asked));
+            }
+            let fields = list_entry(kind);
+            let [with, without] = [&file, &zeros].map(|file| put(kind, file, 0, b"c", fields));
+            assert_eq!(with, without);
+        }
+        let empty = kind.left_out(b"DIRC\0\0\0\x02\0\0\0\0");
+        let expected =
+            "accepted version 2 entries 0 end 12 nodes absent records absent checksum left out";
+        assert_eq!(check(kind, &empty), expected);
+        assert_eq!(check(kind, &empty[1..]), "refused 1 at 0");
+    }
+}
+
+/// What else is wrong with a file is told as with a checksum.
+#[test]
+fn single_rules_are_kept_without_a_checksum() {
+    for kind in Kind::ALL {
+        for (file, answer) in cases::all(kind) {
+            let zeros = kind.left_out(kind.body(&file));
+            let given = check(kind, &zeros);
+            let accepted = given.ends_with(" checksum left out");
+            assert!(given.starts_with(&answer), "{given}, not {answer}");
+            assert_eq!(accepted, given.starts_with("accepted"), "{given}");
+        }
+    }
+}
+
 #[test]
 fn an_empty_index() {
     for (kind, length) in [(Kind::Sha1, 32), (Kind::Sha256, 44)] {

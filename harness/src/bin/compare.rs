@@ -36,6 +36,8 @@ use std::time::Instant;
 const REFUSALS: [u32; 23] = [
     0, 1, 2, 3, 4, 5, 6, 7, 8, 9, 10, 11, 12, 13, 14, 15, 16, 17, 18, 19, 20, 21, 29,
 ];
+/// The refusal of a checksum.
+const WRONG_CHECKSUM: u32 = 5;
 /// A run of the given number of inputs or more must meet every refusal.
 const COVERING: u64 = 10_000;
 /// How many failures of a thread are told in full.
@@ -222,10 +224,8 @@ impl Questions {
         self.kind = input.kind;
         self.lend(random, &input.bytes, b"");
         let checked = self.check()?;
-        self.counts.input(input, checked.refusal == 0);
-        if input.sound && checked.refusal > 0 {
-            return Err(format!("a sound file is refused: {checked:?}"));
-        }
+        self.counts.input(input, &checked);
+        expected_of(input, &checked)?;
         let words = vectors::words(&checked);
         if expected.map_or(false, |expected| expected != words) {
             return Err(format!("{words}, not {expected:?}"));
@@ -281,7 +281,8 @@ impl Questions {
         self.comparison.inputs_stay(&input.bytes, call.name())
     }
 
-    /// Makes one of the calls with each other kind of object names: no file has two.
+    /// Makes one of the calls with each other kind of object names: no file has two, but where zeros are in place of the
+    /// checksum.
     fn other_kinds(
         &mut self,
         random: &mut Random,
@@ -293,7 +294,8 @@ impl Questions {
             self.kind = kind;
             self.lend(random, &input.bytes, call.name());
             let reply = self.both(call, requests::workspace(random), input.room)?;
-            if call.works() && reply.refusal() == 0 {
+            let accepted = call.works() && reply.refusal() == 0;
+            if accepted && !kind.is_left_out(&input.bytes) {
                 return Err(format!("{call}, as {}: {reply:?}", kind.name()));
             }
             self.comparison.inputs_stay(&input.bytes, call.name())?;
@@ -318,12 +320,13 @@ impl Questions {
         self.comparison.inputs_stay(&input.bytes, call.name())
     }
 
-    /// Sees that a file that was written is accepted, and stays as it is when it is rewritten in its version.
+    /// Sees that a file that was written is accepted, with a checksum, and stays as it is when it is rewritten in its
+    /// version.
     fn again(&mut self, random: &mut Random, result: &[u8]) -> Result<(), String> {
         self.lend(random, result, b"");
         let checked = self.check()?;
-        if checked.refusal > 0 {
-            return Err(format!("the result is refused: {checked:?}"));
+        if checked.refusal > 0 || checked.checksum_left_out {
+            return Err(format!("the result: {checked:?}"));
         }
         let reply = self.both(&Call::Rewrite(checked.version), WORKSPACE, result.len())?;
         match reply.refusal() == 0 && self.comparison.written(result.len()) == result {
@@ -368,26 +371,51 @@ impl Questions {
     }
 }
 
+/// Sees that check answers what is known of an input.
+fn expected_of(input: &Input, checked: &CheckReply) -> Result<(), String> {
+    let left_out = input.kind.is_left_out(&input.bytes);
+    let right = match (checked.refusal, input.shape) {
+        (0, Shape::NearlyLeftOut) => false,
+        (0, _) => checked.checksum_left_out == left_out,
+        (number, Shape::NearlyLeftOut) => {
+            let place = input.bytes.len() - input.kind.width();
+            (number, checked.place) == (WRONG_CHECKSUM, place)
+        }
+        (number, _) => !input.sound && !(number == WRONG_CHECKSUM && left_out),
+    };
+    match right {
+        true => Ok(()),
+        false => Err(format!(
+            "{:?}, checksum left out {left_out}: {checked:?}",
+            input.shape
+        )),
+    }
+}
+
 // ---- what was met
 
 #[derive(Default)]
 struct Counts {
     failed: u64,
+    /// How many inputs were accepted whose checksum was left out.
+    left_out: u64,
     /// How many inputs of each kind and shape there were, and how many of these were accepted.
     inputs: BTreeMap<(Kind, Shape), (u64, u64)>,
     refusals: BTreeMap<u32, u64>,
 }
 
 impl Counts {
-    fn input(&mut self, input: &Input, accepted: bool) {
+    fn input(&mut self, input: &Input, checked: &CheckReply) {
         let of_its_sort = self.inputs.entry((input.kind, input.shape));
         let (inputs, sound) = of_its_sort.or_default();
         *inputs += 1;
-        *sound += u64::from(accepted);
+        *sound += u64::from(checked.refusal == 0);
+        self.left_out += u64::from(checked.checksum_left_out);
     }
 
     fn add(&mut self, other: Self) {
         self.failed += other.failed;
+        self.left_out += other.left_out;
         for (sort, (inputs, accepted)) in other.inputs {
             let (all, sound) = self.inputs.entry(sort).or_default();
             *all += inputs;
@@ -417,6 +445,8 @@ impl Counts {
             let (shape, kind) = (format!("{shape:?}"), kind.name());
             println!("{shape:>16}  {inputs:>9}  {accepted:>9}  {kind}");
         }
+        let left_out = self.left_out;
+        println!("{:>16}  {:>9}  {left_out:>9}  checksum left out", "", "");
         println!("{:>16}  {:>9}", "refusal", "calls");
         for refusal in REFUSALS {
             println!("{refusal:>16}  {:>9}", self.of(refusal));
@@ -425,11 +455,15 @@ impl Counts {
         println!("{:>16}  {calls:>9}", "all");
     }
 
-    /// How many refusals were not met, and tells them.
+    /// How many refusals were not met, or accepted files without a checksum, and tells them.
     fn missed(&self) -> u64 {
         let missed = REFUSALS.iter().filter(|refusal| self.of(**refusal) == 0);
-        missed
+        let refusals = missed
             .inspect(|refusal| println!("FAILED: no call was answered with refusal {refusal}"))
-            .count() as u64
+            .count() as u64;
+        if self.left_out == 0 {
+            println!("FAILED: no input was accepted with its checksum left out");
+        }
+        refusals + u64::from(self.left_out == 0)
     }
 }

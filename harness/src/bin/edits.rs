@@ -1,6 +1,6 @@
 //! Has made requests to rewrite and edit files answered by the proved library and by the independent one, and compares
-//! the answers with the known ones, byte for byte. A file that was written must then be accepted, and stay as it is
-//! when it is rewritten in its version.
+//! the answers with the known ones, byte for byte. A file that was written must then be accepted, with a checksum, and
+//! stay as it is when it is rewritten in its version.
 //!
 //!     edits [DRAWN [FIRST]]
 //!
@@ -130,11 +130,11 @@ impl Tests {
         }
     }
 
-    /// Lends a result and sees that check accepts it.
+    /// Lends a result and sees that check accepts it and finds a checksum.
     fn accepted(&mut self, kind: u32, result: &[u8]) -> Result<(), String> {
         self.lend(result, &Call::Check);
         match self.comparison.both(kind, &Call::Check, WORKSPACE, 0)? {
-            Reply::Check(reply) if reply.refusal == 0 => Ok(()),
+            Reply::Check(reply) if reply.refusal == 0 && !reply.checksum_left_out => Ok(()),
             reply => Err(format!("its result: {reply:?}")),
         }
     }

@@ -1,7 +1,7 @@
 //! Requests on files that are drawn by chance, with names near those of the file.
 
 use super::records::{file, putting, removing, rewriting};
-use super::{in_versions, refused, Case, ASKED};
+use super::{in_versions, left_out, refused, Case, ASKED};
 use crate::inputs::records::{self, Entry, Records};
 use crate::inputs::{self, names, requests, Shape};
 use crate::kind::Kind;
@@ -21,7 +21,8 @@ const SHAPES: [Shape; 8] = [
 /// Puts and removes on one file.
 const EDITS: usize = 12;
 
-/// The requests of one number and kind: a file in every version, with puts and removes.
+/// The requests of one number and kind: a file in every version, with puts and removes. Every third file has its checksum
+/// left out.
 pub fn drawn(kind: Kind, number: u64) -> Vec<Case> {
     let random = &mut Random::of(1, number);
     let before = inputs::drawn(random, kind, SHAPES[number as usize % SHAPES.len()]);
@@ -36,7 +37,10 @@ pub fn drawn(kind: Kind, number: u64) -> Vec<Case> {
         ));
         cases.push(remove(random, &before));
     }
-    cases
+    match number % 3 {
+        2 => left_out(kind, cases),
+        _ => cases,
+    }
 }
 
 /// An entry to put: one that is there as it is, or another of a name at or near one of the file's.

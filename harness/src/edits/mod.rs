@@ -3,7 +3,7 @@
 
 mod drawn;
 mod large;
-mod records;
+pub(crate) mod records;
 mod refusals;
 mod results;
 mod trees;
@@ -64,13 +64,14 @@ impl Answer {
 pub type Group = fn(Kind) -> Vec<Case>;
 
 /// The cases without chance, by groups.
-pub const GROUPS: [(&str, Group); 10] = [
+pub const GROUPS: [(&str, Group); 11] = [
     ("document", results::document),
     ("place", results::places),
     ("name", results::names),
     ("number", results::numbers),
     ("word", results::words),
     ("extension", results::extensions),
+    ("checksum", results::checksums),
     ("tree", trees::whole),
     ("part of a tree", trees::parts),
     ("order", refusals::orders),
@@ -97,6 +98,16 @@ fn in_versions(name: &str, before: &Records, changes: &[Change], asked: &[u32]) 
         }
     }
     cases
+}
+
+/// The same requests on files whose checksum is left out. What is written has one all the same.
+fn left_out(kind: Kind, cases: Vec<Case>) -> Vec<Case> {
+    let without = |case: Case| Case {
+        name: format!("{}, checksum left out", case.name),
+        file: Arc::new(kind.left_out(kind.body(&case.file))),
+        ..case
+    };
+    cases.into_iter().map(without).collect()
 }
 
 /// A request that is refused at place 0.

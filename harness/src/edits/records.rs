@@ -2,7 +2,7 @@
 
 use super::Answer;
 use crate::index_file::subdirectories;
-use crate::inputs::layout::{signed, Layout};
+use crate::inputs::layout::Layout;
 use crate::inputs::records::{
     Entry, Extension, Node, Records, Undo, INTENT_TO_ADD, MODE, MODES, SKIP_WORKTREE,
 };
@@ -126,7 +126,7 @@ pub fn of_names(kind: Kind, version: u32, names: &[&[u8]], tree: bool) -> Record
 }
 
 pub fn file(records: &Records) -> Vec<u8> {
-    signed(records.kind, Layout::new(records).body(), true)
+    records.kind.signed(Layout::new(records).body())
 }
 
 // ---- changes

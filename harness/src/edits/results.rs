@@ -3,7 +3,7 @@
 use super::records::{
     entry, file, of_names, putting, records, removing, rewriting, undo, Tree, EXECUTABLE, REGULAR,
 };
-use super::{in_versions, refused, Case, ASKED};
+use super::{in_versions, left_out, refused, Answer, Case, ASKED};
 use crate::inputs::names;
 use crate::inputs::records::{Entry, Extension, INTENT_TO_ADD, MODE, MODES, SKIP_WORKTREE};
 use crate::inputs::requests::Call;
@@ -292,4 +292,46 @@ fn with_others(mut row: Vec<Extension>) -> Vec<Extension> {
     row.push(Extension::Passed(*b"UNTR", b"last".to_vec()));
     row.push(Extension::Passed(*b"EOIE", vec![0; 24]));
     row
+}
+
+/// Files whose checksum is left out, and ones that have zeros in its place but for one byte.
+pub fn checksums(kind: Kind) -> Vec<Case> {
+    let mut cases = left_out(kind, document(kind));
+    cases.extend(left_out(kind, extensions(kind)));
+    for version in 2..=4 {
+        cases.extend(left_out(kind, few_entries(kind, version)));
+        let before = of_names(kind, version, &[b"a", b"b/c"], true);
+        let changes = [
+            rewriting(&before),
+            putting(&before, &entry(b"b/c", 1)),
+            removing(&before, b"a", 0),
+        ];
+        let sound = left_out(kind, in_versions("zeros", &before, &changes, &ASKED));
+        for case in &sound {
+            cases.extend(one_zero_changed(kind, case));
+        }
+        cases.extend(sound);
+    }
+    cases
+}
+
+/// A request on a file whose checksum is left out, with one of the zeros another byte: the first, the last, or the ones
+/// where 20 begin or end.
+fn one_zero_changed(kind: Kind, case: &Case) -> Vec<Case> {
+    let (width, body) = (kind.width(), case.file.len() - kind.width());
+    let mut cases = Vec::new();
+    for (at, byte) in [(0, 0x80), (width - 20, 1), (19, 0xff), (width - 1, 1)] {
+        let mut file = case.file.to_vec();
+        file[body + at] = byte;
+        cases.push(Case {
+            kind: case.kind,
+            name: format!("{}, but for byte {at}", case.name),
+            file: Arc::new(file),
+            call: case.call.clone(),
+            work: case.work,
+            room: Some(0),
+            answer: Answer::Refused(5, body),
+        });
+    }
+    cases
 }

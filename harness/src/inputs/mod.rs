@@ -47,6 +47,10 @@ pub enum Shape {
     /// Bytes changed anywhere.
     Bytes,
     Cut,
+    /// Zeros from some place on.
+    Zeroed,
+    /// Zeros in place of the checksum, but for one byte.
+    NearlyLeftOut,
     Noise,
     HeaderAndNoise,
     Limit,
@@ -55,8 +59,8 @@ pub enum Shape {
 }
 
 /// Which shapes follow each other, so that each run has its share of each.
-const TURN: [(Shape, usize); 18] = [
-    (Shape::Few, 10),
+const TURN: [(Shape, usize); 20] = [
+    (Shape::Few, 9),
     (Shape::Some, 4),
     (Shape::Hundreds, 1),
     (Shape::Wide, 1),
@@ -68,10 +72,12 @@ const TURN: [(Shape, usize); 18] = [
     (Shape::Undo, 2),
     (Shape::Extension, 2),
     (Shape::Offset, 1),
-    (Shape::Field, 11),
+    (Shape::Field, 9),
     (Shape::Fields, 3),
-    (Shape::Bytes, 5),
-    (Shape::Cut, 7),
+    (Shape::Bytes, 4),
+    (Shape::Cut, 6),
+    (Shape::Zeroed, 4),
+    (Shape::NearlyLeftOut, 1),
     (Shape::Noise, 1),
     (Shape::HeaderAndNoise, 2),
 ];
@@ -79,8 +85,11 @@ const TURN: [(Shape, usize); 18] = [
 const TURN_LENGTH: u64 = 64;
 /// One input of this number is at a limit of the sizes.
 const LIMIT_TURN: u64 = 4096;
-/// Small files of at most the given number of bytes are cut at every length, with and without a corrected checksum.
+/// Small files of at most the given number of bytes are cut at every length, with and without a corrected checksum, and
+/// zeroed from every place on.
 const CUTS: u64 = 256;
+/// One input in the given number has its checksum left out, whatever its shape.
+const LEFT_OUT: usize = 8;
 /// How many limits there are.
 const LIMITS: u64 = 4;
 
@@ -102,7 +111,7 @@ pub fn input(seed: u64, number: u64) -> Input {
     let random = &mut Random::of(seed, number);
     let (shape, nth) = shape(number);
     let kind = kind(seed, number, shape, nth);
-    match shape {
+    let mut input = match shape {
         Shape::Few | Shape::Some | Shape::Hundreds | Shape::LongNames | Shape::Deep => {
             sound(shape, &drawn(random, kind, shape))
         }
@@ -116,10 +125,16 @@ pub fn input(seed: u64, number: u64) -> Input {
         Shape::Field | Shape::Fields => fields(random, kind, shape),
         Shape::Bytes => bytes(random, kind),
         Shape::Cut => cut(random, kind, seed, nth),
+        Shape::Zeroed => zeroed(random, kind, seed, nth),
+        Shape::NearlyLeftOut => return nearly_left_out(random, kind),
         Shape::Noise | Shape::HeaderAndNoise => noise(random, kind, shape),
         Shape::Limit => limit(random, kind, nth),
         Shape::Stored => unreachable!("no number has this shape"),
+    };
+    if input.bytes.len() >= kind.width() && random.one_in(LEFT_OUT) {
+        input.bytes = kind.left_out(kind.body(&input.bytes));
     }
+    input
 }
 
 /// The input of bytes that are given.
@@ -134,10 +149,12 @@ pub fn stored(kind: Kind, bytes: &[u8]) -> Input {
     named(Shape::Stored, kind, names, bytes.to_vec())
 }
 
-/// The kind of the n-th input of a shape. All cuts of a file have one, and each limit has all in turn.
+/// The kind of the n-th input of a shape. All cuts of a file have one, and all its zeroed tails; each limit has all in
+/// turn.
 fn kind(seed: u64, number: u64, shape: Shape, nth: u64) -> Kind {
     let drawn = match shape {
         Shape::Cut => (nth / (2 * CUTS)) as usize,
+        Shape::Zeroed => (nth / CUTS) as usize,
         Shape::Limit => (nth / LIMITS) as usize,
         _ => Random::of(!seed, !number).below(Kind::ALL.len()),
     };
@@ -370,26 +387,62 @@ fn bytes(random: &mut Random, kind: Kind) -> Input {
     input_of(Shape::Bytes, &records, file)
 }
 
-/// The n-th cut: each small file has its turn to be cut at every length, as it is and with a corrected checksum. In
-/// place of a cut behind its end a longer file is cut somewhere.
+/// The n-th cut: each small file has its turn to be cut at every length, as it is and with a corrected checksum.
 fn cut(random: &mut Random, kind: Kind, seed: u64, nth: u64) -> Input {
     let (turn, place) = (nth / (2 * CUTS), nth % (2 * CUTS));
     let (length, corrected) = ((place / 2) as usize, place % 2 == 1);
-    let small = &mut Random::of(!seed, turn);
-    let mut records = drawn(small, kind, Shape::Few);
-    records.entries.truncate(2);
-    let mut file = signed(kind, Layout::new(&records).body(), true);
-    let mut length = length;
-    if length >= file.len() {
-        records = victim(random, kind);
-        file = signed(kind, Layout::new(&records).body(), true);
-        length = random.below(file.len());
-    }
+    let (records, mut file, length) =
+        file_and_place(random, kind, &mut Random::of(!seed, turn), length);
     file.truncate(length);
     if corrected {
         file = signed(kind, file, true);
     }
     input_of(Shape::Cut, &records, file)
+}
+
+/// The n-th file that ends in zeros: each small one has its turn to be zeroed from every place on.
+fn zeroed(random: &mut Random, kind: Kind, seed: u64, nth: u64) -> Input {
+    let small = &mut Random::of(!seed, !(nth / CUTS));
+    let (records, mut file, place) = file_and_place(random, kind, small, (nth % CUTS) as usize);
+    file[place..].fill(0);
+    input_of(Shape::Zeroed, &records, file)
+}
+
+/// A small file, drawn by its own numbers, and a place in it. Where that is behind its end, a longer file and any place,
+/// often near the end.
+fn file_and_place(
+    random: &mut Random,
+    kind: Kind,
+    small: &mut Random,
+    place: usize,
+) -> (Records, Vec<u8>, usize) {
+    let mut few = drawn(small, kind, Shape::Few);
+    few.entries.truncate(2);
+    let few = records::records(small, kind, few.version, few.entries);
+    let file = signed(kind, Layout::new(&few).body(), true);
+    if place < file.len() {
+        return (few, file, place);
+    }
+    let records = victim(random, kind);
+    let file = signed(kind, Layout::new(&records).body(), true);
+    let most = match random.one_in(2) {
+        true => file.len(),
+        false => file.len().min(100),
+    };
+    let place = file.len() - 1 - random.below(most);
+    (records, file, place)
+}
+
+/// A sound file but for zeros in place of its checksum, of which one is another byte.
+fn nearly_left_out(random: &mut Random, kind: Kind) -> Input {
+    let records = victim(random, kind);
+    let mut file = kind.left_out(&Layout::new(&records).body());
+    let place = file.len() - 1 - random.below(kind.width());
+    file[place] = match random.one_in(2) {
+        true => 1 << random.below(8),
+        false => 1 + random.below(255) as u8,
+    };
+    input_of(Shape::NearlyLeftOut, &records, file)
 }
 
 // ---- no files

@@ -1,6 +1,6 @@
-//! A second library for the index file in plain Rust, written from document 01 and the kinds of document 02 alone: it
-//! shares nothing with the proved one. The calls have the signatures of `ffi`, so that answers, workspaces and outputs can
-//! be compared; `check` is also what the speed of the proved check is measured against.
+//! A second library for the index file in plain Rust, written from document 01 and requests 1 and 10 of document 02
+//! alone: it shares nothing with the proved one. The calls have the signatures of `ffi`, so that answers, workspaces and
+//! outputs can be compared; `check` is also what the speed of the proved check is measured against.
 
 mod counts;
 mod entries;
@@ -18,7 +18,7 @@ use crate::replies::{
 };
 use entries::{Entries, HEADER};
 use refusal::Refusal;
-use whole::Contents;
+use whole::{Checksum, Contents};
 use write::Change;
 
 /// Checks an index.
@@ -32,6 +32,7 @@ pub fn check(kind: u32, file: &[u8], work: &mut [u8]) -> CheckReply {
             records: contents.undo.as_ref().map_or(0, |undo| undo.records),
             has_tree: contents.tree.is_some(),
             has_undo: contents.undo.is_some(),
+            checksum_left_out: contents.checksum == Checksum::LeftOut,
             ..CheckReply::default()
         },
         Err(Refusal { number, place }) => CheckReply {

@@ -17,10 +17,19 @@ pub const SIGNATURE: &[u8] = b"DIRC";
 /// The bytes of an extension before its data.
 const EXTENSION_HEADER: usize = 8;
 
+/// What the last bytes of a file are: the hash of all before, zeros in its place, or neither.
+#[derive(Clone, Copy, PartialEq, Eq)]
+pub enum Checksum {
+    Matches,
+    LeftOut,
+    Wrong,
+}
+
 /// What a file holds.
 pub struct Contents<'a> {
     pub kind: Kind,
     pub file: &'a [u8],
+    pub checksum: Checksum,
     pub entries: Entries<'a>,
     pub tree: Option<Tree<'a>>,
     pub undo: Option<Undo>,
@@ -33,7 +42,8 @@ pub fn read(kind: Kind, file: &[u8]) -> Result<Contents<'_>, Refusal> {
     }
     let (version, count) = header(kind, file).map_err(Refusal::whole)?;
     let body = body(kind, file);
-    if kind.hash(body)[..kind.width()] != file[body.len()..] {
+    let checksum = checksum(kind, body, &file[body.len()..]);
+    if checksum == Checksum::Wrong {
         return Err(Refusal {
             number: refusal::CHECKSUM,
             place: body.len(),
@@ -42,6 +52,7 @@ pub fn read(kind: Kind, file: &[u8]) -> Result<Contents<'_>, Refusal> {
     let mut contents = Contents {
         kind,
         file,
+        checksum,
         entries: Entries::read(kind, body, version, count)?,
         tree: None,
         undo: None,
@@ -67,6 +78,17 @@ pub fn header(kind: Kind, file: &[u8]) -> Result<(u32, u32), u32> {
 /// The file less its checksum.
 pub fn body(kind: Kind, file: &[u8]) -> &[u8] {
     &file[..file.len() - kind.width()]
+}
+
+/// What the bytes after a body are. A hash that is zeros itself matches.
+fn checksum(kind: Kind, body: &[u8], last: &[u8]) -> Checksum {
+    if kind.hash(body)[..kind.width()] == *last {
+        Checksum::Matches
+    } else if last.iter().all(|byte| *byte == 0) {
+        Checksum::LeftOut
+    } else {
+        Checksum::Wrong
+    }
 }
 
 impl Contents<'_> {

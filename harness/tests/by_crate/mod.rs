@@ -103,6 +103,7 @@ fn check(reply: raw::CheckReply) -> Reply {
         records: reply.records,
         has_tree: reply.has_tree,
         has_undo: reply.has_undo,
+        checksum_left_out: reply.checksum_left_out,
     })
 }
 

@@ -197,6 +197,7 @@ fn files_for_single_rules() {
     for kind in Kind::ALL {
         for (file, _) in cases::all(kind) {
             all_calls(kind, &file);
+            all_calls(kind, &kind.left_out(kind.body(&file)));
         }
     }
 }
@@ -209,6 +210,18 @@ fn all_cuts_of_small_files() {
             let cut = &file[..length];
             both!(kind, cut, 0, |work, _out| check(cut, work));
             all_calls(kind, &kind.signed(cut.to_vec()));
+        }
+    }
+}
+
+/// As long as they are, but zeros from a place on; and cut there, with the checksum left out.
+#[test]
+fn all_zeroed_tails_of_small_files() {
+    for (kind, mut file) in small_files() {
+        for place in (0..file.len()).rev() {
+            file[place] = 0;
+            all_calls(kind, &file);
+            all_calls(kind, &kind.left_out(&file[..place]));
         }
     }
 }
