@@ -71,7 +71,7 @@ WRONG_PAGES = (
     ("a field that is not there", r"`subtrees`, `object` \|", "`subtrees`, `object`, `mode` |"),
     ("a field twice", r"`subtrees`, `object` \|", "`subtrees`, `subtrees`, `object` |"),
     ("an answer that is missing", r"(?m)^\| \[NodeAnswer\].*\n", ""),
-    ("a number of a reply that is missing", r"`has_undo`, `records`, `later`", "`has_undo`, `records`"),
+    ("a number of a reply that is missing", r"`checksum_left_out`, `later`", "`later`"),
     ("numbers of a reply that are exchanged", r"`has_tree`, `nodes`", "`nodes`, `has_tree`"),
     ("a reply that is missing", r"(?m)^\| `nerupazhil_node_reply` .*\n", ""),
     ("a reply that nothing pins", r"(?m)^(\| `nerupazhil_node_reply`.*?\|.*?\|) .*? (\|.*)$", r"\1 nothing \2"),
