@@ -1,5 +1,5 @@
--- The demands: Statements states them, Proved and Written have the proofs, Demands joins the two. Witness and WitnessSha256 have closed cases,
--- made of Samples.
+-- The demands: Statements states them, Proved, Written and Tails have the proofs, Demands joins the two. Witness, WitnessSha256 and WitnessLeftOut
+-- have closed cases, made of Samples.
 pub mod Demands
 pub mod Proved
 pub mod Samples

@@ -16,7 +16,7 @@ use Rattle.format_laws.proofs.Readings.{none-some}
 use Rattle.answers.specs.declared.Summary.{Summary}
 use Rattle.answers.specs.declared.Checked.{Checked}
 use Rattle.answers.specs.declared.Checked.the-variants.{Refused, Accepted}
-use Rattle.answers.specs.Answers.{tooSmall, summaryOf, View, pick}
+use Rattle.answers.specs.Answers.{tooSmall, summaryOf, pick}
 use Rattle.kinds.specs.Kinds.{okKind, widthOf, hashOf, readKind}
 use Rattle.kinds.proofs.Laws.{length-hash, file-known}
 use Rattle.spelling.proofs.File.{contentsOf, spelledSum, file-long}

@@ -7,7 +7,7 @@ use Prim.Native.Nat.{ℕ}
 use lib.ListN.{length, replicate}
 use Rattle.format.specs.Bytes.{eqList, zeros}
 use Rattle.format.specs.Checksum.{Checksum, matches, leftOut, wrong, checksumOf, isSound}
-use Rattle.format_laws.proofs.Tests.{false-true, by-test, by-cond}
+use Rattle.format_laws.proofs.Tests.{false-true, by-cond}
 use Rattle.format_laws.proofs.Lists.{eqList-true, eqList-refl}
 use Rattle.spelling.proofs.Bytes.{zeros-replicate, replicate-zeros}
 

@@ -79,11 +79,19 @@ plain-cut f n s fits pads =
     sym (take-append-drop n (take m s))
     ∙ rw (take-take n m s (omega arith), replicate-zeros (drop n (take m s)) pads, size) refl
 
-plain-read :
-    (f p field : ℕ) (s name : List ℕ) (m : ℕ) → readPlain f p field s ≡ good name m →
-    (m ≤ length s) × Plain f name (take m s) × (okName name ≡ true) × (field ≡ lengthField (length name))
+-- what a reading of a plain name of n bytes goes by
+pub record PlainRead (f field : ℕ) (s name : List ℕ) (m n : ℕ) : Type 0 where
+  pub within : n < length s
+  pub ok : okName (take n s) ≡ true
+  pub field-is : field ≡ lengthField n
+  pub fits : entryLength f n ≤ f + length s
+  pub pads : zeros (drop n (take (entryLength f n - f) s)) ≡ true
+  pub name-is : take n s ≡ name
+  pub size : entryLength f n - f ≡ m
+
+pub plain-inv : (f p field : ℕ) (s name : List ℕ) (m : ℕ) → readPlain f p field s ≡ good name m → PlainRead f field s name m (plainLength field s)
 unfolding readPlain
-plain-read f p field s name m e =
+plain-inv f p field s name m e =
     let n : ℕ = plainLength field s in
     need-inv _ _ _ _ _ _ e λ within e₁.
     need-inv _ _ _ _ _ _ e₁ λ named e₂.
@@ -91,9 +99,16 @@ plain-read f p field s name m e =
     need-inv _ _ _ _ _ _ e₃ λ pads e₄.
     good-inv _ _ _ _ e₄ λ name-is m-is.
     let (ok, same) = and-inv (okName (take n s)) (eqb field (lengthField n)) named in
-    let size : length (take n s) ≡ n = length-take-le n s (omega (arith, ltb-true)) in
-    let enough : entryLength f n ≤ f + length s = leb-true _ _ fits in
-    rw (← name-is, ← m-is, size) (omega arith, plain-cut f n s enough pads, ok, eqb-true _ _ same)
+    record { within = ltb-true _ _ within; ok = ok; field-is = eqb-true _ _ same; fits = leb-true _ _ fits; pads = pads; name-is = name-is; size = m-is }
+
+plain-read :
+    (f p field : ℕ) (s name : List ℕ) (m : ℕ) → readPlain f p field s ≡ good name m →
+    (m ≤ length s) × Plain f name (take m s) × (okName name ≡ true) × (field ≡ lengthField (length name))
+plain-read f p field s name m e =
+    let n : ℕ = plainLength field s in
+    let h : PlainRead f field s name m n = plain-inv f p field s name m e in
+    let size : length (take n s) ≡ n = length-take-le n s (omega (arith, h .within)) in
+    rw (← (h .name-is), ← (h .size), size) (omega (arith, h .fits), plain-cut f n s (h .fits) (h .pads), h .ok, h .field-is)
 
 -- ---- the packed name of version 4: the number N
 

@@ -1,16 +1,16 @@
 -- A whole file, and the same with zeros from a place on: where records spell both, they have the same version and as many entries, all equal but
 -- perhaps the last. Of the hash only the width is used.
 use mathlib.Core.Path.{_≡_, refl, sym, ap, _∙_}
-use mathlib.Core.List.{List, [], _∷_, _++_, append-assoc}
+use mathlib.Core.List.{List, [], _∷_, _++_}
 use mathlib.Core.Logic.{_⊎_, inl, inr, ⊎-elim}
-use Prim.Native.Nat.{ℕ, zero, suc, _+_, _-_, _*_, _≤_, _<_}
+use Prim.Native.Nat.{ℕ, _+_, _-_, _≤_, _<_}
 use native.Mathlib.Omega.{arith}
 use lib.ListN.{length, take, drop, getD, replicate, length-append, length-drop, length-replicate}
 use lib.Seq.{drop-at}
 use lib.Dec.{leb}
 use borrow.Author.Tests.{leb-true}
 use Rattle.format.specs.Bytes.{Bytes, be16, be32}
-use Rattle.format.specs.Records.{Entry, Key, keyOf, start, Records}
+use Rattle.format.specs.Records.{Entry, Key, start, Records}
 use Rattle.format.specs.Layout.{Extension, cacheTree, resolveUndo, other, optional, Says, Entries, entries-end, entries-more, Extensions, extensions-end, extensions-more, Body, Spells}
 use Rattle.format.specs.Reading.{good}
 use Rattle.format.specs.Reader.{readEntries}
@@ -18,7 +18,7 @@ use Rattle.format.specs.Tails.{zeroedFrom, Kept, kept-end}
 use Rattle.format_laws.proofs.Tests.{and-inv}
 use Rattle.format_laws.proofs.Numbers.{bytes-take, bytes-drop}
 use Rattle.spelling.proofs.Entries.{entry-long, read-entries}
-use Rattle.spelling.proofs.File.{headed, headed-version, headed-count, headed-rest, headed-length, body-first}
+use Rattle.spelling.proofs.File.{headed-version, headed-count, headed-rest, headed-length, body-first}
 use Rattle.spelling.proofs.ZeroedNames.{by-place, zeroed-length, zeroed-drop, zeroed-past, zeroed-part, zeroed-before, zeroed-from, getD-zeros}
 use Rattle.spelling.proofs.Zeroed.{be16-same, zeros-none, none-read, entries-zeroed}
 

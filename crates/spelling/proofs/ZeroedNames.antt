@@ -10,9 +10,9 @@ use native.Mathlib.Omega.{arith}
 use lib.ListN.{length, take, drop, getD, replicate, length-append, length-take, length-drop, length-replicate, take-append-drop}
 use lib.Seq.{take-nil, take-all, take-take, getD-take, getD-drop, length-take-le}
 use lib.Dec.{eqb, leb, ltb}
-use borrow.Author.Tests.{ltb-true, ltb-false, leb-true, eqb-true}
+use borrow.Author.Tests.{ltb-true, ltb-false, leb-true}
 use Rattle.format.specs.Bytes.{Bytes, two, putN, before, lacks}
-use Rattle.format.specs.Names.{okName, lengthField, compare}
+use Rattle.format.specs.Names.{lengthField, compare}
 use Rattle.format.specs.declared.Order.the-variants.{Above}
 use Rattle.format.specs.Layout.{entryLength}
 use Rattle.format.specs.Reading.{good}
@@ -24,7 +24,7 @@ use Rattle.format_laws.proofs.Names.{okName-length, okName-lacks}
 use Rattle.format_laws.proofs.Texts.{before-le, lacks-before}
 use Rattle.format_laws.proofs.Orders.{compare-next}
 use Rattle.format_laws.proofs.Readings.{good-inv, need-inv, bind-inv}
-use Rattle.spelling.proofs.Names.{read-n, n-read, name-read}
+use Rattle.spelling.proofs.Names.{PlainRead, plain-inv, read-n, n-read, name-read}
 
 -- ---- bytes with zeros from the place c on
 
@@ -128,37 +128,6 @@ pub record Cut (name less : List ℕ) : Type 0 where
   pub most : length name ≤ kept + 7
   pub is : less ≡ take kept name
 
--- what a reading of a plain name goes by, but for the padding
-record PlainRead (f field : ℕ) (s name : List ℕ) (m n : ℕ) : Type 0 where
-  within : n < length s
-  lacking : lacks 0 (take n s) ≡ true
-  some : 1 ≤ n
-  field-is : field ≡ lengthField n
-  fits : entryLength f n ≤ f + length s
-  name-is : take n s ≡ name
-  size : entryLength f n - f ≡ m
-
-plain-inv : (f p field : ℕ) (s name : List ℕ) (m : ℕ) → readPlain f p field s ≡ good name m → PlainRead f field s name m (plainLength field s)
-unfolding readPlain
-plain-inv f p field s name m e =
-    let n : ℕ = plainLength field s in
-    need-inv _ _ _ _ _ _ e λ within e₁.
-    need-inv _ _ _ _ _ _ e₁ λ named e₂.
-    need-inv _ _ _ _ _ _ e₂ λ fits e₃.
-    need-inv _ _ _ _ _ _ e₃ λ pads e₄.
-    good-inv _ _ _ _ e₄ λ name-is m-is.
-    let (ok, same) = and-inv (okName (take n s)) (eqb field (lengthField n)) named in
-    let short : n < length s = ltb-true _ _ within in
-    record {
-      within = short;
-      lacking = okName-lacks (take n s) ok;
-      some = omega (arith, okName-length (take n s) ok .0, length-take-le n s (omega arith));
-      field-is = eqb-true _ _ same;
-      fits = leb-true _ _ fits;
-      name-is = name-is;
-      size = m-is;
-    }
-
 -- the same length, or a smaller one that the field does not count
 plainLength-zeroed :
     (field c : ℕ) (s : List ℕ) → let n : ℕ = plainLength field (zeroedFrom c s) in
@@ -179,7 +148,9 @@ entryLength-zeroed f n l total less all fits = omega arith
 plain-place : (f p field c : ℕ) (s less : List ℕ) (m : ℕ) → readPlain f p field (zeroedFrom c s) ≡ good less m → 0 < c
 plain-place f p field c s less m q =
     let b : PlainRead f field (zeroedFrom c s) less m (plainLength field (zeroedFrom c s)) = plain-inv f p field (zeroedFrom c s) less m q in
-    omega (arith, zeroed-length c s, unzeroed (plainLength field (zeroedFrom c s)) c s (omega (arith, zeroed-length c s)) (b .lacking))
+    let l : ℕ = plainLength field (zeroedFrom c s) in
+    let some : 1 ≤ l = omega (arith, okName-length (take l (zeroedFrom c s)) (b .ok) .0, length-take-le l (zeroedFrom c s) (omega (arith, b .within))) in
+    omega (arith, unzeroed l c s (omega (arith, zeroed-length c s, b .within)) (okName-lacks (take l (zeroedFrom c s)) (b .ok)))
 
 plain-zeroed :
     (f p field c : ℕ) (s name less : List ℕ) (m : ℕ) →
@@ -195,7 +166,7 @@ plain-zeroed f p field c s name less m e q =
     let long : length (zeroedFrom c s) ≡ length s = zeroed-length c s in
     let (no-more, uncounted) = plainLength-zeroed field c s in
     let (size, seven) = entryLength-zeroed f l n (length s) no-more (b .size) (a .fits) in
-    let place : l ≤ c = unzeroed l c s (omega arith) (b .lacking) in
+    let place : l ≤ c = unzeroed l c s (omega arith) (okName-lacks (take l (zeroedFrom c s)) (b .ok)) in
     let is : less ≡ take l s = sym (b .name-is) ∙ zeroed-take l c s place in
     let count : length (take n s) ≡ n = length-take-le n s (omega arith) in (
       sym (a .size) ∙ size,
