@@ -1,4 +1,4 @@
--- Files whose checksum was left out: one that is accepted, one zero changed, one that is rewritten; and the two ways in which zeros from a place
+-- Files whose checksum was left out: some that are accepted, some with a zero changed, one that is rewritten; and the two ways in which zeros from a place
 -- on can change the last entry of a file that is still accepted.
 use mathlib.Core.Path.{_≡_, refl, sym, ap, _∙_}
 use mathlib.Core.Logic.{inr, ⊎-elim}
@@ -22,7 +22,7 @@ use Rattle.format.specs.Requests.{anyWord}
 use Rattle.format.specs.Tails.{zeroedFrom}
 use Rattle.kinds.specs.Kinds.{widthOf}
 use Rattle.kinds.proofs.Laws.{sha1-known}
-use Rattle.answers.specs.declared.Count.the-variants.{Absent}
+use Rattle.answers.specs.declared.Count.the-variants.{Absent, Present}
 use Rattle.answers.specs.declared.Checksum.the-variants.{LeftOut}
 use Rattle.answers.specs.declared.Checked.the-variants.{Refused, Accepted}
 use Rattle.answers.specs.Answers.{inFile, inWorkspace, pick}
@@ -35,6 +35,7 @@ use Rattle.demands.proofs.Statements.{check, entry, rewrite}
 use Rattle.demands.proofs.Demands.{demand3}
 use Rattle.demands.proofs.Samples.{work, closed, room, below, all-below, plainEntry}
 use Rattle.demands.proofs.Witness.{file}
+use Rattle.demands.proofs.WitnessSha256.{full}
 
 -- ---- left out, wrong, written again
 
@@ -49,6 +50,13 @@ changed :
     × (check 1 work (take 76 file ++ (1 ∷ replicate 19 0)) ≡ Refused 5 76)
 unfolding closed file
 changed = (refl, refl)
+
+-- of SHA-256 there are thirty-two zeros; twenty are not enough
+accepted-sha256 :
+    (check 2 work (take 230 full ++ replicate 32 0) ≡ Accepted (record { version = 2; entries = 1; end = 92; nodes = Present 1; records = Present 1; checksum = LeftOut }))
+    × (check 2 work (take 230 full ++ (replicate 12 1 ++ replicate 20 0)) ≡ Refused 5 230)
+unfolding closed full
+accepted-sha256 = (refl, refl)
 
 -- what is written has a real one
 written : rewrite 1 work 0 96 (take 76 file ++ replicate 20 0) ≡ good (take 96 file) 96

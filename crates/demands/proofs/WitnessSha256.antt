@@ -26,7 +26,7 @@ use Rattle.demands.proofs.Samples.{work, closed, room, below, all-below
 use Rattle.demands.proofs.Witness.{file}
 
 -- a-b, the root "1 0", and plan
-full : List ℕ
+unfoldable pub full : List ℕ
 full = indexBytes 32 1 (plain 32 17 a-b) (0 ∷ 49 ∷ 32 ∷ 48 ∷ 10 ∷ replicate 32 68) (190 ∷ 65 ∷ 210 ∷ 85 ∷ 101 ∷ 101 ∷ 25 ∷ 65 ∷ 254 ∷ 113 ∷ 20 ∷ 255 ∷ 75 ∷ 78 ∷ 112 ∷ 201 ∷ 92 ∷ 115 ∷ 252 ∷ 25 ∷ 220 ∷ 182 ∷ 65 ∷ 58 ∷ 232 ∷ 93 ∷ 31 ∷ 151 ∷ 88 ∷ 194 ∷ 28 ∷ 191 ∷ [])
 
 full-bytes : Bytes full
