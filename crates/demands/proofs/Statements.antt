@@ -12,7 +12,7 @@ use Prim.Native.Nat.{ℕ, suc, _+_, _-_, _<_}
 use lib.ListN.{length, take, drop, getElem?, replicate}
 use lib.Dec.{eqb}
 use Rattle.format.specs.Bytes.{Bytes, fit32, eqList}
-use Rattle.format.specs.Records.{Records, Entry, Key, keyOf, Item, Undo}
+use Rattle.format.specs.Records.{Records, Entry, Key, keyOf, start, Item, Undo}
 use Rattle.format.specs.Checksum.{checksumOf}
 use Rattle.format.specs.Layout.{Spells}
 use Rattle.format.specs.Reading.{Read, bad, good}
@@ -148,7 +148,7 @@ module _ (kind : ℕ) (work : List ℕ) where
         ⊎ ((t : Summary) × (check (take c f) ≡ Accepted t) × (t .entries ≡ s .entries) × ((k : ℕ) → k < s .entries → entry k (take c f) ≡ entry k f))
 
   -- Of the files f and g entry k shows whole and read, and they differ, as Lost says: k is the last, and nothing is between it and the checksum.
-  -- previous is the key of the entry before it
+  -- previous is the key of the entry before it, that of the empty name where there is none
   pub record LastLost (f g : List ℕ) (s : Summary) (k : ℕ) : Type 0 where
     pub last : suc k ≡ s .entries
     pub no-extension : s .end + w ≡ length f
@@ -158,6 +158,7 @@ module _ (kind : ℕ) (work : List ℕ) where
     pub lost : Lost (s .version) previous whole read
     pub shown : entry k f ≡ pick (eqb (s .version) 4) (some whole)
     pub shown-again : entry k g ≡ pick (eqb (s .version) 4) (some read)
+    pub first : k ≡ 0 → previous ≡ start
     pub before : (j : ℕ) (e : Entry) → k ≡ suc j → entry j f ≡ pick (eqb (s .version) 4) (some e) → previous ≡ keyOf e
 
   -- Beside demand 3, since a checksum may be left out: whichever place of an accepted file all bytes from there on are made zero, at the same

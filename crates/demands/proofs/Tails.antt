@@ -110,6 +110,7 @@ module _ (kind : ℕ) (work : List ℕ) (demand : Demand3 kind work) (known : ok
               lost = how;
               shown = shown i ∙ rw there refl;
               shown-again = shown-again i ∙ rw is refl;
+              first = λ i-is. rw i-is refl;
               before = λ j b i-is sight. rw i-is (key-before start (r .entries) j b (pick-some packed _ b (sym (shown j) ∙ sight)));
             }))
             (kept-item (same .kept) i e there)
