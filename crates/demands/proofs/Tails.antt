@@ -11,7 +11,7 @@ use lib.Dec.{eqb}
 use Rattle.format.specs.Bytes.{Bytes}
 use Rattle.format.specs.Records.{Entry, Key, keyOf, start, Records}
 use Rattle.format.specs.Layout.{Spells}
-use Rattle.format.specs.Tails.{zeroedFrom, Lost, Kept, kept-end, kept-same, kept-lost, keyBefore}
+use Rattle.format.specs.Tails.{zeroedFrom, Lost}
 use Rattle.format_laws.proofs.Readings.{none-some}
 use Rattle.answers.specs.declared.Summary.{Summary}
 use Rattle.answers.specs.declared.Checked.{Checked}
@@ -20,7 +20,7 @@ use Rattle.answers.specs.Answers.{tooSmall, summaryOf, pick}
 use Rattle.kinds.specs.Kinds.{okKind, widthOf, hashOf, readKind}
 use Rattle.kinds.proofs.Laws.{length-hash, file-known}
 use Rattle.spelling.proofs.File.{contentsOf, spelledSum, file-long}
-use Rattle.spelling.proofs.Zeroed.{kept-length}
+use Rattle.spelling.proofs.Zeroed.{Kept, kept-end, kept-same, kept-lost, kept-length}
 use Rattle.spelling.proofs.ZeroedNames.{zeroed-bytes}
 use Rattle.spelling.proofs.ZeroedFile.{Same, file-zeroed}
 use Rattle.demands.proofs.Statements.{check, entry, Demand3, LastLost, ZeroedTails}
@@ -39,7 +39,12 @@ pick-some false none a e = let z : _≡_ {A = ℕ} 0 1 = cc in absurd (omega ari
 pick-some true (some x) a e = cc
 pick-some false (some x) a e = cc
 
--- the entry before one
+-- the key of the entry before number i, where k is the one before the first
+abbrev keyBefore : Key → List Entry → ℕ → Key
+keyBefore k es zero = k
+keyBefore k [] (suc i) = k
+keyBefore k (e ∷ es) (suc i) = keyBefore (keyOf e) es i
+
 key-before : (k : Key) (es : List Entry) (j : ℕ) (e : Entry) → getElem? es j ≡ some e → keyBefore k es (suc j) ≡ keyOf e
 key-before k [] j e q = none-some q
 key-before k (x ∷ es) zero e q = let same : x ≡ e = cc in ap keyOf same

@@ -1,12 +1,12 @@
 -- A file that keeps its length and has zeros from some place on: what a crash often leaves of a file that was being written. With a checksum
 -- that may be left out such a file can be accepted, and then its last entry is all that can differ: in these two ways.
 use mathlib.Core.Path.{_≡_}
-use mathlib.Core.List.{List, [], _∷_, _++_}
+use mathlib.Core.List.{List, _++_}
 use mathlib.Core.Bool.{true, false, _||_}
-use Prim.Native.Nat.{ℕ, zero, suc, _+_, _-_, _≤_, _<_}
+use Prim.Native.Nat.{ℕ, _+_, _-_, _≤_, _<_}
 use lib.ListN.{length, take, replicate}
 use lib.Dec.{eqb}
-use Rattle.format.specs.Records.{Entry, Key, keyOf}
+use Rattle.format.specs.Records.{Entry, Key}
 
 -- the first c bytes of f, then zeros
 unfoldable pub zeroedFrom : ℕ → List ℕ → List ℕ
@@ -41,15 +41,3 @@ wordCleared e = record {
 pub data Lost (v : ℕ) (k : Key) (e : Entry) : Entry → Type 0 where
   name-cut : eqb v 4 ≡ false → (kept : ℕ) → 4095 ≤ kept → kept < length (e .name) → length (e .name) ≤ kept + 7 → Lost v k e (named (take kept (e .name)) e)
   word-lost : eqb v 4 ≡ true → (e .skipWorktree || e .intentToAdd) ≡ true → e .name ≡ k .name → Lost v k e (wordCleared e)
-
--- what is read for the entries that come after one of the key k
-pub data Kept (v : ℕ) : Key → List Entry → List Entry → Type 0 where
-  kept-end : {k : Key} → Kept v k [] []
-  kept-same : {k : Key} {e : Entry} {es ds : List Entry} → Kept v (keyOf e) es ds → Kept v k (e ∷ es) (e ∷ ds)
-  kept-lost : {k : Key} {e d : Entry} → Lost v k e d → Kept v k (e ∷ []) (d ∷ [])
-
--- the key of the entry before number i, where k is the one before the first
-abbrev pub keyBefore : Key → List Entry → ℕ → Key
-keyBefore k es zero = k
-keyBefore k [] (suc i) = k
-keyBefore k (e ∷ es) (suc i) = keyBefore (keyOf e) es i

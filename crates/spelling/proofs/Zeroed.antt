@@ -16,7 +16,7 @@ use Rattle.format.specs.Records.{Entry, Key, keyOf}
 use Rattle.format.specs.Layout.{okMode, fixedLength, bit}
 use Rattle.format.specs.Reading.{good}
 use Rattle.format.specs.Reader.{isSet, okWord, entryOf, readName, readEntry, readEntries}
-use Rattle.format.specs.Tails.{zeroedFrom, Lost, name-cut, word-lost, Kept, kept-end, kept-same, kept-lost}
+use Rattle.format.specs.Tails.{zeroedFrom, Lost, name-cut, word-lost}
 use Rattle.format_laws.proofs.Tests.{false-true, clash, and-inv, by-test}
 use Rattle.format_laws.proofs.Names.{okName-length}
 use Rattle.format_laws.proofs.Numbers.{bytes-drop}
@@ -194,6 +194,12 @@ none-read w v zero k p s es m h q = good-inv _ _ _ _ q λ es-is m-is. (sym es-is
 none-read w v (suc n) k p s es m h q = absurd (omega arith)
 
 -- ---- a run of entries
+
+-- what is read for the entries that come after one of the key k: the same, but perhaps for the last
+pub data Kept (v : ℕ) : Key → List Entry → List Entry → Type 0 where
+  kept-end : {k : Key} → Kept v k [] []
+  kept-same : {k : Key} {e : Entry} {es ds : List Entry} → Kept v (keyOf e) es ds → Kept v k (e ∷ es) (e ∷ ds)
+  kept-lost : {k : Key} {e d : Entry} → Lost v k e d → Kept v k (e ∷ []) (d ∷ [])
 
 -- a run is an entry and a shorter run
 entries-inv :

@@ -14,13 +14,13 @@ use Rattle.format.specs.Records.{Entry, Key, start, Records}
 use Rattle.format.specs.Layout.{Extension, cacheTree, resolveUndo, other, optional, Says, Entries, entries-end, entries-more, Extensions, extensions-end, extensions-more, Body, Spells}
 use Rattle.format.specs.Reading.{good}
 use Rattle.format.specs.Reader.{readEntries}
-use Rattle.format.specs.Tails.{zeroedFrom, Kept, kept-end}
+use Rattle.format.specs.Tails.{zeroedFrom}
 use Rattle.format_laws.proofs.Tests.{and-inv}
 use Rattle.format_laws.proofs.Numbers.{bytes-take, bytes-drop}
 use Rattle.spelling.proofs.Entries.{entry-long, read-entries}
 use Rattle.spelling.proofs.File.{headed-version, headed-count, headed-rest, headed-length, body-first}
 use Rattle.spelling.proofs.ZeroedNames.{by-place, zeroed-length, zeroed-drop, zeroed-past, zeroed-part, zeroed-before, zeroed-from, getD-zeros}
-use Rattle.spelling.proofs.Zeroed.{be16-same, zeros-none, none-read, entries-zeroed}
+use Rattle.spelling.proofs.Zeroed.{be16-same, zeros-none, none-read, Kept, kept-end, entries-zeroed}
 
 -- ---- no extension is all zeros, and no entry is without bytes
 
