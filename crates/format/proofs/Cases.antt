@@ -1,7 +1,7 @@
 -- The cases that the requirements mark P: one table over the definitions.
 use mathlib.Core.Path.{_≡_, refl}
 use mathlib.Core.List.{List, [], _∷_, _++_}
-use mathlib.Core.Bool.{true, false}
+use mathlib.Core.Bool.{Bool, true, false}
 use mathlib.Core.Option.{none, some}
 use Prim.Native.Nat.{ℕ}
 use lib.ListN.{length, replicate}
@@ -12,9 +12,9 @@ use Rattle.format.specs.Records.{modeOf, valid, invalid, nil, tree, Tree
 use Rattle.format.specs.Layout.{okMode, fixedLength, entryLength, flagsOf, wordOf, okNodeName, has, distinct, under, inside, files, allValid, sum, okCount, okCounts, okTreeCounts, optional, trees, undos, names}
 use Rattle.format.specs.Checksum.{matches, checksumOf, checksumIn}
 use Rattle.format.specs.Reading.{good, need, shift, bind}
-use Rattle.format.specs.Reader.{isSet, okWord, plainLength, readPlain, readN, joined, readName, entryOf, readTail, readFixed, readEntry, readEntries, readText, countIn, needSome, readCount, readSubtrees, readObject, readNode, readSiblings, readForest, readNodes, readTree, readData, readExtension, readExtensions, readBody, readFile}
+use Rattle.format.specs.Reader.{isSet, okWord, plainLength, readPlain, readN, joined, readSuffix, readPacked, readName, entryOf, readTail, readFixed, readEntry, readEntries, readText, countIn, needSome, readCount, readSubtrees, readObject, readNode, readSiblings, readForest, readNodes, readTree, readData, readExtension, readExtensions, readBody, readFile}
 use Rattle.format.specs.Writer.{needsWord, writePlain, writePacked, writeName, writeRest, writeEntry, writeEntries, digitsOf, decimalOf, writeCount, writeObject, writeNode, writeForest, writeTree, writeExtension, writeCacheTree, writeResolveUndo, writeExtensions, writeHeader, writeBody, writeFile}
-use Rattle.format.specs.Requests.{goesBefore, sameKey, putEntry, invalidNode, invalidPath, invalidTree, invalidCacheTree, putRecord, anyWord, okAsked, versionFor, fitting, writing, putRequest}
+use Rattle.format.specs.Requests.{goesBefore, sameKey, mixes, putEntry, mixed, invalidNode, invalidPath, invalidTree, invalidCacheTree, putRecord, anyWord, okAsked, versionFor, fitting, writing, putRequest}
 use Rattle.format.proofs.Examples.{hash, fileEntry}
 
 -- the names of the entries
@@ -72,6 +72,11 @@ cutter = 115 ∷ 97 ∷ 119 ∷ 47 ∷ 99 ∷ 117 ∷ 116 ∷ 116 ∷ 101 ∷ 11
 rest : List ℕ
 rest = 116 ∷ 101 ∷ 114 ∷ 46 ∷ 116 ∷ 120 ∷ 116 ∷ []
 
+-- what the closed cases look through, said once: where this unfolds, all that its line names does
+unfoldable pub closed : Bool
+unfolding hash put16 put32 put32s putN be16 be32 be32s two eqList before lacks zeros digits decimal valueFrom value componentsFrom components okComponent okComponents okName lengthField compare common modeOf width okMode fixedLength entryLength flagsOf wordOf okNodeName has distinct under inside files allValid sum okCount okCounts okTreeCounts optional trees undos names need shift bind isSet okWord plainLength readPlain readN joined readSuffix readPacked readName entryOf readTail readFixed readEntry readEntries readText countIn needSome readCount readSubtrees readObject readNode readSiblings readForest readNodes readTree readData readExtension readExtensions checksumOf checksumIn readBody readFile needsWord writePlain writePacked writeName writeRest writeEntry writeEntries digitsOf decimalOf writeCount writeObject writeNode writeForest writeTree writeExtension writeCacheTree writeResolveUndo writeExtensions writeHeader writeBody writeFile goesBefore sameKey mixes mixed putEntry invalidNode invalidPath invalidTree invalidCacheTree putRecord anyWord okAsked versionFor fitting writing putRequest
+closed = true
+
 abbrev Table : Type 0
 Table =
     (entryLength 62 1 ≡ 64)
@@ -108,5 +113,5 @@ Table =
     × (readFile 20 hash (indexBytes 6 clearedBytes) ≡ good (record { version = 2; checksum = matches; end = 228; records = index 6 cleared }) 249)
 
 table : Table
-unfolding whole wholeBytes cleared clearedBytes cut cutter rest hash put16 put32 put32s putN be16 be32 be32s two eqList before lacks zeros digits decimal valueFrom value componentsFrom components okComponent okComponents okName lengthField compare common modeOf width okMode fixedLength entryLength flagsOf wordOf okNodeName has distinct under inside files allValid sum okCount okCounts okTreeCounts optional trees undos names need shift bind isSet okWord plainLength readPlain readN joined readName entryOf readTail readFixed readEntry readEntries readText countIn needSome readCount readSubtrees readObject readNode readSiblings readForest readNodes readTree readData readExtension readExtensions checksumOf checksumIn readBody readFile needsWord writePlain writePacked writeName writeRest writeEntry writeEntries digitsOf decimalOf writeCount writeObject writeNode writeForest writeTree writeExtension writeCacheTree writeResolveUndo writeExtensions writeHeader writeBody writeFile goesBefore sameKey putEntry invalidNode invalidPath invalidTree invalidCacheTree putRecord anyWord okAsked versionFor fitting writing putRequest
+unfolding closed whole wholeBytes cleared clearedBytes cut cutter rest
 table = (refl, refl, refl, refl, refl, refl, refl, refl, refl, refl, refl, refl, refl, refl, refl, refl, refl, refl, refl, refl, refl, refl, refl, refl, refl, refl, refl, refl, refl, refl, refl, refl)

@@ -2,3 +2,4 @@
 pub mod Cases
 pub mod Examples
 pub mod Requested
+pub mod Stages

@@ -11,17 +11,17 @@ use Rattle.format.specs.Records.{Entry, modeOf, Count, valid, invalid, N
 use Rattle.format.specs.Layout.{okMode, fixedLength, entryLength, flagsOf, wordOf, under}
 use Rattle.format.specs.Reading.{bad, good, need}
 use Rattle.format.specs.Writer.{needsWord, writePlain, writePacked, writeName, writeRest, writeEntry, writeEntries, writeCacheTree, writeResolveUndo, writeExtensions, writeHeader, writeBody, writeFile}
-use Rattle.format.specs.Requests.{goesBefore, sameKey, putEntry, removeEntry, holds, invalidNode, invalidPath, invalidCacheTree, putRecord, removeRecord, anyWord, okAsked, versionFor, fitting, writing, rewriteRequest, putRequest, removeRequest}
+use Rattle.format.specs.Requests.{goesBefore, sameKey, mixes, putEntry, removeEntry, holds, mixed, invalidNode, invalidPath, invalidCacheTree, putRecord, removeRecord, anyWord, okAsked, versionFor, fitting, writing, rewriteRequest, putRequest, removeRequest}
 use Rattle.format.proofs.Examples.{hash, object, fileEntry, listing}
 
-abbrev a : List ℕ
+abbrev pub a : List ℕ
 a = 97 ∷ []
 
-abbrev bc : List ℕ
+abbrev pub bc : List ℕ
 bc = 98 ∷ 47 ∷ 99 ∷ []
 
 -- the entry of a name at a stage, with or without skip-worktree
-abbrev entryOf : ℕ → Bool → List ℕ → Entry
+abbrev pub entryOf : ℕ → Bool → List ℕ → Entry
 entryOf stage skip name = record {
   numbers = 0 ∷ 0 ∷ 0 ∷ 0 ∷ 0 ∷ 0 ∷ 0x81a4 ∷ 0 ∷ 0 ∷ 0 ∷ [];
   object = object 5;
@@ -32,7 +32,7 @@ entryOf stage skip name = record {
   name = name;
 }
 
-records : Records
+unfoldable pub records : Records
 records = record { entries = fileEntry 0x81a4 0x11 a ∷ fileEntry 0x81ed 0x22 bc ∷ []; cacheTree = none; resolveUndo = none }
 
 -- rewritten, the listing's example is the same file; it needs 168 bytes
@@ -67,7 +67,7 @@ refusals :
     × (removeRequest 20 hash 4 (record { name = []; stage = 9 }) 0 records ≡ bad 18 0)
     × (removeRequest 20 hash 4 (record { name = a; stage = 1 }) 0 records ≡ bad 18 0)
     × (removeRequest 20 hash 4 (record { name = a; stage = 0 }) 0 records ≡ bad 20 0)
-unfolding records hash put16 put32 put32s putN eqList lacks componentsFrom components okComponent okComponents okName lengthField compare common modeOf okMode fixedLength entryLength flagsOf wordOf need needsWord writePlain writePacked writeName writeRest writeEntry writeEntries writeCacheTree writeResolveUndo writeExtensions writeHeader writeBody writeFile goesBefore sameKey putEntry removeEntry holds invalidCacheTree putRecord removeRecord anyWord okAsked versionFor fitting writing putRequest removeRequest
+unfolding records hash put16 put32 put32s putN eqList lacks componentsFrom components okComponent okComponents okName lengthField compare common modeOf okMode fixedLength entryLength flagsOf wordOf need needsWord writePlain writePacked writeName writeRest writeEntry writeEntries writeCacheTree writeResolveUndo writeExtensions writeHeader writeBody writeFile goesBefore sameKey mixes mixed putEntry removeEntry holds invalidCacheTree putRecord removeRecord anyWord okAsked versionFor fitting writing putRequest removeRequest
 refusals = (refl, refl, refl, refl, refl, refl, refl, refl, refl, refl)
 
 -- the version of the result: 2, or 3 where an entry needs the extended word

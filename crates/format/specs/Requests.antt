@@ -6,7 +6,7 @@ use Prim.Native.Nat.{ℕ, _+_}
 use lib.ListN.{length, drop, replicate}
 use lib.Dec.{eqb, leb, ltb}
 use Rattle.format.specs.Bytes.{eqList}
-use Rattle.format.specs.Names.{okName, compare, rises}
+use Rattle.format.specs.Names.{okName, compare, precedes}
 use Rattle.format.specs.Records.{Entry, modeOf, Key, keyOf, invalid, Node, Forest, nil, tree, Tree, Records}
 use Rattle.format.specs.Layout.{okMode, under}
 use Rattle.format.specs.Reading.{Read, good, need}
@@ -16,10 +16,14 @@ use Rattle.format.specs.Writer.{needsWord, writeFile}
 
 -- by name, then by stage: whether an entry of the key a is before one of the key b
 unfoldable pub goesBefore : Key → Key → Bool
-goesBefore a b = rises (compare (a .name) (b .name)) (a .stage) (b .stage)
+goesBefore a b = precedes (compare (a .name) (b .name)) (a .stage) (b .stage)
 
 unfoldable pub sameKey : Key → Key → Bool
 sameKey a b = eqList (a .name) (b .name) && eqb (a .stage) (b .stage)
+
+-- stage 0 and another stage, of one name
+unfoldable pub mixes : Key → Key → Bool
+mixes a b = eqList (a .name) (b .name) && (not (eqb (a .stage) (b .stage)) && (eqb (a .stage) 0 || eqb (b .stage) 0))
 
 -- the entry of the same name and stage is replaced, or e is inserted in its place
 unfoldable pub putEntry : Entry → List Entry → List Entry
@@ -33,6 +37,11 @@ removeEntry k (x ∷ xs) = cond (sameKey (keyOf x) k) xs (x ∷ removeEntry k xs
 unfoldable pub holds : Key → List Entry → Bool
 holds k [] = false
 holds k (x ∷ xs) = cond (sameKey (keyOf x) k) true (holds k xs)
+
+-- whether the key k would bring stage 0 together with another stage of its name
+unfoldable pub mixed : Key → List Entry → Bool
+mixed k [] = false
+mixed k (x ∷ xs) = mixes (keyOf x) k || mixed k xs
 
 -- ---- the cache tree: the root and each node on the path to the name's directory are made invalid
 
@@ -88,7 +97,9 @@ rewriteRequest w hash asked room r = need (okAsked asked) 4 0 (writing w hash as
 unfoldable pub putRequest : ℕ → (List ℕ → List ℕ) → ℕ → Entry → ℕ → Records → Read (List ℕ)
 putRequest w hash asked e room r =
     need (okAsked asked) 4 0
-    (need (okMode (modeOf e)) 7 0 (need (ltb (e .stage) 4) 8 0 (need (okName (e .name)) 9 0 (writing w hash asked room (putRecord w e r)))))
+    (need (okMode (modeOf e)) 7 0
+    (need (ltb (e .stage) 4) 8 0
+    (need (okName (e .name)) 9 0 (need (not (mixed (keyOf e) (r .entries))) 11 0 (writing w hash asked room (putRecord w e r))))))
 
 unfoldable pub removeRequest : ℕ → (List ℕ → List ℕ) → ℕ → Key → ℕ → Records → Read (List ℕ)
 removeRequest w hash asked k room r =
