@@ -79,7 +79,7 @@ pub fn name_at<'a>(b: &'a [u8], v: u32, work: &'a [u8], start: usize, len: usize
     &b[start..end]
 }
 
-// Whether a name of stage t may follow the previous one, of stage s, and how many bytes the two have in common.
+// Whether a name of stage t may follow the previous one, of stage s, and how many bytes the two have in common. After stage 0 the name must differ.
 fn standing_of(previous: &[u8], name: &[u8], s: u32, t: u32) -> Standing
     ensures { λ r. ⌜ StandingOf (now (previous .entry)) (now (name .entry)) s t r ⌝ }
 {
@@ -91,7 +91,7 @@ fn standing_of(previous: &[u8], name: &[u8], s: u32, t: u32) -> Standing
             common: n,
         },
         Order::Same => Standing {
-            rises: s < t,
+            rises: (0 < s) & (s < t),
             common: n,
         },
         Order::Above => Standing {

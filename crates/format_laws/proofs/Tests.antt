@@ -40,6 +40,10 @@ pub or-inv {ℓ} : {X : Type ℓ} (a b : Bool) → (a || b) ≡ true → (a ≡ 
 or-inv true b e f g = f refl
 or-inv false b e f g = g e
 
+pub or-none : (a b : Bool) → (a || b) ≡ false → (a ≡ false) × (b ≡ false)
+or-none true b e = false-true (sym e)
+or-none false b e = (refl, e)
+
 -- ---- a choice by a test
 
 -- which branch was taken

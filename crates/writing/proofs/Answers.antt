@@ -91,7 +91,7 @@ module _ {w : ℕ} {hash : List ℕ → List ℕ} (asked room : ℕ) (bytes : Li
   unfolding rewriteRequest
   rewrite-answers r sound q = need-inv _ _ _ _ _ _ q λ ok q₁. writing-answers r ok sound q₁
 
-  -- the request tests the entry's mode, stage and name
+  -- the request tests the entry's mode, stage and name, and that it mixes with none
   pub put-answers : (e : Entry) (r : Records) → SoundRecords w r → length (e .numbers) ≡ 10 → fit32 (e .numbers) ≡ true → length (e .object) ≡ w
       → putRequest w hash asked e room r ≡ good bytes n
       → FileAnswered w hash (versionFor asked (putRecord w e r .entries)) (putRecord w e r) room bytes n
@@ -101,8 +101,9 @@ module _ {w : ℕ} {hash : List ℕ → List ℕ} (asked room : ℕ) (bytes : Li
       need-inv _ _ _ _ _ _ q₁ λ mode q₂.
       need-inv _ _ _ _ _ _ q₂ λ stage q₃.
       need-inv _ _ _ _ _ _ q₃ λ name q₄.
+      need-inv _ _ _ _ _ _ q₄ λ apart q₅.
       let own : SoundEntry w e = record { ten = ten; fit = fit; mode = mode; object = object; stage = ltb-true _ _ stage; name = name } in
-      writing-answers (putRecord w e r) ok (put-sound e sound own) q₄
+      writing-answers (putRecord w e r) ok (put-sound e sound own (not-true _ apart)) q₅
 
   pub remove-answers : (k : Key) (r : Records) → SoundRecords w r → removeRequest w hash asked k room r ≡ good bytes n
       → FileAnswered w hash (versionFor asked (removeRecord w k r .entries)) (removeRecord w k r) room bytes n

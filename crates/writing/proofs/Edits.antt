@@ -1,39 +1,40 @@
 -- Records stay sound where one is put or removed.
 use mathlib.Core.Path.{_≡_, ap}
 use mathlib.Core.List.{List, [], _∷_}
-use mathlib.Core.Bool.{true}
+use mathlib.Core.Bool.{true, false}
 use Prim.Native.Nat.{ℕ}
 use Rattle.format.specs.Records.{Entry, Key, keyOf, Records}
 use Rattle.format.specs.Layout.{names}
-use Rattle.format.specs.Requests.{goesBefore, sameKey, putEntry, removeEntry, putRecord, removeRecord}
-use Rattle.format_laws.proofs.Tests.{by-cond}
+use Rattle.format.specs.Requests.{goesBefore, sameKey, mixes, mixed, putEntry, removeEntry, putRecord, removeRecord}
+use Rattle.format_laws.proofs.Tests.{by-cond, or-none}
 use Rattle.writing.specs.Sound.{SoundEntry, SoundEntries, entries-none, entries-next, SoundRecords}
-use Rattle.format_laws.proofs.Keys.{before-trans, before-total, same-key, start-before}
+use Rattle.format_laws.proofs.Keys.{mayFollow, follow-trans, follow-by, follow-after, same-key, start-follow}
 use Rattle.writing.proofs.Counts.{AlikeBut, alike-end, alike-same, alike-left, alike-right, alike-self}
 use Rattle.writing.proofs.Invalid.{cacheTree-kept}
 
 -- ---- entries
 
-entries-put : {w : ℕ} {k : Key} (e : Entry) {es : List Entry} → SoundEntry w e → goesBefore k (keyOf e) ≡ true → SoundEntries w k es
+-- an entry is put among others with which it does not mix
+entries-put : {w : ℕ} {k : Key} (e : Entry) {es : List Entry} → SoundEntry w e → mayFollow k (keyOf e) ≡ true → mixed (keyOf e) es ≡ false → SoundEntries w k es
     → SoundEntries w k (putEntry e es)
-unfolding putEntry goesBefore
-entries-put e h order entries-none = entries-next h order entries-none
-entries-put {w} {k} e h order (entries-next {e = x} {es = xs} hx before t) =
+unfolding putEntry mixed
+entries-put e h order apart entries-none = entries-next h order entries-none
+entries-put {w} {k} e h order apart (entries-next {e = x} {es = xs} hx before t) =
+    let (own, rest) = or-none (mixes (keyOf x) (keyOf e)) (mixed (keyOf e) xs) apart in
     by-cond (SoundEntries w k) (goesBefore (keyOf x) (keyOf e)) _ _
-    (λ later. entries-next hx before (entries-put e h later t))
+    (λ later. entries-next hx before (entries-put e h (follow-by (keyOf x) (keyOf e) later own) rest t))
     (λ here.
     by-cond (SoundEntries w k) (sameKey (keyOf x) (keyOf e)) _ _
     (λ same. entries-next h order (rw (same-key (keyOf x) (keyOf e) same) at t))
-    (λ new. entries-next h order (entries-next hx (before-total (keyOf x) (keyOf e) here new) t)))
+    (λ new. entries-next h order (entries-next hx (follow-after (keyOf x) (keyOf e) here new own) t)))
 
 -- entries that rise from a key rise from one before it
-entries-from : {w : ℕ} (j k : Key) {es : List Entry} → goesBefore j k ≡ true → SoundEntries w k es → SoundEntries w j es
-unfolding goesBefore
+entries-from : {w : ℕ} (j k : Key) {es : List Entry} → mayFollow j k ≡ true → SoundEntries w k es → SoundEntries w j es
 entries-from j k h entries-none = entries-none
-entries-from j k h (entries-next {e = x} hx before t) = entries-next hx (before-trans j k (keyOf x) h before) t
+entries-from j k h (entries-next {e = x} hx before t) = entries-next hx (follow-trans j k (keyOf x) h before) t
 
 entries-removed : {w : ℕ} {k : Key} (key : Key) {es : List Entry} → SoundEntries w k es → SoundEntries w k (removeEntry key es)
-unfolding removeEntry goesBefore
+unfolding removeEntry
 entries-removed key entries-none = entries-none
 entries-removed {w} {k} key (entries-next {e = x} {es = xs} hx before t) =
     by-cond (SoundEntries w k) (sameKey (keyOf x) key) _ _
@@ -66,10 +67,10 @@ names-removed k (x ∷ xs) =
 
 -- ---- all records
 
-pub put-sound : {w : ℕ} (e : Entry) {r : Records} → SoundRecords w r → SoundEntry w e → SoundRecords w (putRecord w e r)
+pub put-sound : {w : ℕ} (e : Entry) {r : Records} → SoundRecords w r → SoundEntry w e → mixed (keyOf e) (r .entries) ≡ false → SoundRecords w (putRecord w e r)
 unfolding putRecord
-put-sound e {r} h sound = record {
-  entries = entries-put e sound (start-before (keyOf e) (sound .name)) (h .entries);
+put-sound e {r} h sound apart = record {
+  entries = entries-put e sound (start-follow (keyOf e) (sound .name)) apart (h .entries);
   cacheTree = cacheTree-kept (e .name) (names-put e (r .entries)) (r .cacheTree) (h .cacheTree);
   resolveUndo = h .resolveUndo;
 }
