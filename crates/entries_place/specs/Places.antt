@@ -7,13 +7,14 @@ use lib.ListN.{drop}
 use lib.Dec.{ltb}
 use Rattle.format.specs.declared.Order.{Order}
 use Rattle.format.specs.declared.Order.the-variants.{Below, Same, Above}
-use Rattle.format.specs.Names.{compare}
+use Rattle.format.specs.Names.{compare, rises}
 use Rattle.format.specs.Records.{Entry, Key, keyOf}
 use Rattle.format.specs.Layout.{bit}
-use Rattle.format.specs.Requests.{goesBefore, sameKey}
+use Rattle.format.specs.Requests.{goesBefore, sameKey, mixes, mixed}
 use Rattle.fields.specs.Workspace.{Frame}
 use Rattle.entries_run.specs.Steps.{EntriesRead}
 use Rattle.entries_place.specs.declared.Place.{Place}
+use Rattle.entries_place.specs.declared.Compared.{Compared}
 
 -- how stage s of a name compares to stage t of another, where the names compare as the order says
 abbrev pub thenStage : Order → ℕ → ℕ → Order
@@ -39,13 +40,18 @@ startsWith k (x ∷ xs) = sameKey (keyOf x) k
 abbrev pub isThere : Key → List Entry → Bool
 isThere k es = startsWith k (drop (rank k es) es)
 
--- whether each entry is after the one before it, and the first after the key k
+-- whether each entry may follow the one before it, and the first the key k
 unfoldable pub rising : Key → List Entry → Bool
 rising k [] = true
-rising k (x ∷ xs) = goesBefore k (keyOf x) && rising (keyOf x) xs
+rising k (x ∷ xs) = rises (compare (k .name) (x .name)) (k .stage) (x .stage) && rising (keyOf x) xs
 
--- the place of the key k among the first count entries of the body b, and what the search leaves of the workspace
+-- how the key a compares to the key b, and whether they mix
+pub record KeysCompared (a b : Key) (r : Compared) : Type 0 where
+  pub order : r .order ≡ compareKeys a b
+  pub mixes : r .mixes ≡ mixes a b
+
+-- the place of the key k among the first count entries of the body b, whether it mixes with one, and what the search leaves of the workspace
 pub record PlaceFound (w : ℕ) (v : ℕ) (b work : List ℕ) (count : ℕ) (k : Key) (work′ : List ℕ) (r : Place) : Type 0 where
-  pub is : (es : List Entry) (m : ℕ) → EntriesRead w v count b es m → (r .before ≡ rank k es) × (r .there ≡ isThere k es)
+  pub is : (es : List Entry) (m : ℕ) → EntriesRead w v count b es m → (r .before ≡ rank k es) × (r .there ≡ isThere k es) × (r .mixed ≡ mixed k es)
   pub few : r .before + bit (r .there) ≤ count
   pub frame : Frame work work′

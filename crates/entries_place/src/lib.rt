@@ -1,44 +1,65 @@
 // Where a name and a stage are among the entries of a body.
-ghost use mathlib.Core.Path.{_≡_};
 ghost use Prim.Native.Nat.{_≤_};
 ghost use lib.ListN.{length};
-ghost use Rattle.format.specs.Names as Names;
 ghost use Rattle.entries_run.specs.Steps.{keyAt, Room, Inside, AllRead};
-ghost use Rattle.entries_place.specs.Places.{thenStage, compareKeys, PlaceFound};
+ghost use Rattle.entries_place.specs.Places.{KeysCompared, PlaceFound};
 use entries_run::Cursor;
 use entries_run::Next;
 use format::Order;
 
-// How many entries are before a name and stage, and whether the next one has them.
+// How many entries are before a name and stage, whether the next one has them, and whether entries are there with which these would bring stage 0
+// together with another stage of the name.
 pub struct Place {
     pub before: u32,
     pub there: bool,
+    pub mixed: bool,
+}
+
+// How an entry compares to a name and stage, and whether the two are stage 0 and another stage of one name.
+pub struct Compared {
+    pub order: Order,
+    pub mixes: bool,
 }
 
 // How the name x, of stage s, compares to the name y, of stage t.
-fn order_of(x: &[u8], s: u32, y: &[u8], t: u32) -> Order
-    ensures { λ r. ⌜ r ≡ thenStage (Names.compare (now (x .entry)) (now (y .entry))) s t ⌝ }
+fn order_of(x: &[u8], s: u32, y: &[u8], t: u32) -> Compared
+    ensures { λ r. ⌜ KeysCompared (record { name = now (x .entry); stage = s }) (record { name = now (y .entry); stage = t }) r ⌝ }
 {
     let o = fields::compare(x, y);
     match o {
-        Order::Below => Order::Below,
-        Order::Above => Order::Above,
+        Order::Below => Compared {
+            order: Order::Below,
+            mixes: false,
+        },
+        Order::Above => Compared {
+            order: Order::Above,
+            mixes: false,
+        },
         Order::Same => {
             if s < t {
-                return Order::Below;
+                return Compared {
+                    order: Order::Below,
+                    mixes: s == 0,
+                };
             }
             if t < s {
-                return Order::Above;
+                return Compared {
+                    order: Order::Above,
+                    mixes: t == 0,
+                };
             }
-            Order::Same
+            Compared {
+                order: Order::Same,
+                mixes: false,
+            }
         }
     }
 }
 
 // How the entry before a cursor compares to a name and stage. Its name is in the workspace in version 4, else in the body.
-fn order_at(b: &[u8], v: u32, work: &[u8], c: Cursor, name: &[u8], stage: u32) -> Order
+fn order_at(b: &[u8], v: u32, work: &[u8], c: Cursor, name: &[u8], stage: u32) -> Compared
     requires { ⌜ Inside (now b) c × (8192 ≤ length (now work)) ⌝ }
-    ensures { λ r. ⌜ r ≡ compareKeys (keyAt v (now (b .entry)) (now (work .entry)) c) (record { name = now (name .entry); stage = stage }) ⌝ }
+    ensures { λ r. ⌜ KeysCompared (keyAt v (now (b .entry)) (now (work .entry)) c) (record { name = now (name .entry); stage = stage }) r ⌝ }
 {
     let len = c.len;
     if v == 4 {
@@ -49,7 +70,8 @@ fn order_at(b: &[u8], v: u32, work: &[u8], c: Cursor, name: &[u8], stage: u32) -
     order_of(&b[a..e], c.stage, name, stage)
 }
 
-// Where an entry of this name and stage is, or would be, among the first count entries of a body, which were read before.
+// Where an entry of this name and stage is, or would be, among the first count entries of a body, which were read before. Entries after that place
+// can mix with it only where the one at the place does.
 pub fn find_place(
     b: &[u8],
     v: u32,
@@ -64,6 +86,7 @@ pub fn find_place(
 {
     let mut c = entries_run::first();
     let mut before = 0;
+    let mut mixed = false;
     while before < count {
         let g = entries_run::pass_entry(b, v, &mut *work, c, w);
         match g {
@@ -71,13 +94,16 @@ pub fn find_place(
                 return Place {
                     before: before,
                     there: false,
+                    mixed: mixed,
                 };
             }
             Next::Good(st) => {
                 c = st.next;
             }
         }
-        let o = order_at(b, v, &work[..], c, name, stage);
+        let d = order_at(b, v, &work[..], c, name, stage);
+        mixed = mixed | d.mixes;
+        let o = d.order;
         match o {
             Order::Below => {
                 before += 1;
@@ -86,12 +112,14 @@ pub fn find_place(
                 return Place {
                     before: before,
                     there: true,
+                    mixed: mixed,
                 };
             }
             Order::Above => {
                 return Place {
                     before: before,
                     there: false,
+                    mixed: mixed,
                 };
             }
         }
@@ -99,5 +127,6 @@ pub fn find_place(
     Place {
         before: before,
         there: false,
+        mixed: mixed,
     }
 }

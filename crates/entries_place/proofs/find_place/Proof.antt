@@ -12,10 +12,10 @@ use Rattle.entries_place.proofs.find_place.Statement.{statement}
 use Rattle.entries_place.proofs.find_place.Tie as tie
 
 abbrev Inv-loop : tie.InvT-loop
-Inv-loop b v work₀ count name stage w c₀ before₀ work c before = Searching w v b work₀ (record { name = name; stage = stage }) before work c × (before ≤ count)
+Inv-loop b v work₀ count name stage w c₀ before₀ mixed₀ work c before mixed = Searching w v b work₀ (record { name = name; stage = stage }) before mixed work c × (before ≤ count)
 
 abbrev μ-loop : tie.MeasureT-loop
-μ-loop b v work₀ count name stage w c₀ before₀ work c before = count - before
+μ-loop b v work₀ count name stage w c₀ before₀ mixed₀ work c before mixed = count - before
 
 first-requires : tie.Need-first-requires Inv-loop μ-loop
 first-requires c κs = search needs
@@ -65,7 +65,7 @@ enum-told-2 c = search needs
 
 add-before : tie.Need-add-before Inv-loop μ-loop
 add-before c =
-    let e = c .before .before .before .before .before .before .before .before .before .before in
+    let e = c .before .before .before .before .before .before .before .before .before .before .before in
     omega (arith, e .before .before .loop-test .taken, e .before .before .before .before .before .before .before .before .fits)
 
 loop-less : tie.Need-loop-less Inv-loop μ-loop
@@ -73,11 +73,11 @@ loop-less c = omega arith
 
 loop-again : tie.Need-loop-again Inv-loop μ-loop
 loop-again c =
-    let o = c .before .before in
+    let o = c .before .before .before in
     let g = o .before .before .before .before in
     let e = g .before .before .before .before in
     let t = rw (g .g .given .1) at (again e _ _ (e .pass-entry .ensures)) in
-    (search-more (e .before .before .before .loop .inv .0) (e .before .before .loop-test .taken) t (rw (c .enum-told2 .given .1) at (o .order-at .ensures)) refl, omega arith)
+    (search-more (e .before .before .before .loop .inv .0) (e .before .before .loop-test .taken) t (o .order-at .ensures) (c .enum-told2 .given .1) refl, omega arith)
 
 enum-told-3 : tie.Need-enum-told-3 Inv-loop μ-loop
 enum-told-3 c = search needs
@@ -87,11 +87,11 @@ same-length-2 c = omega arith
 
 returns-2 : tie.Need-returns-2 Inv-loop μ-loop
 returns-2 c =
-    let o = c .before .before in
+    let o = c .before .before .before in
     let g = o .before .before .before .before in
     let e = g .before .before .before .before in
     let t = rw (g .g .given .1) at (again e _ _ (e .pass-entry .ensures)) in
-    search-stop (e .before .before .before .loop .inv .0) (e .before .before .loop-test .taken) t (rw (c .enum-told3 .given .1) at (o .order-at .ensures)) refl
+    search-stop (e .before .before .before .loop .inv .0) (e .before .before .loop-test .taken) t (o .order-at .ensures) (c .enum-told3 .given .1) refl
 
 enum-told-4 : tie.Need-enum-told-4 Inv-loop μ-loop
 enum-told-4 c = search needs
@@ -101,11 +101,11 @@ same-length-3 c = omega arith
 
 returns-3 : tie.Need-returns-3 Inv-loop μ-loop
 returns-3 c =
-    let o = c .before .before in
+    let o = c .before .before .before in
     let g = o .before .before .before .before in
     let e = g .before .before .before .before in
     let t = rw (g .g .given .1) at (again e _ _ (e .pass-entry .ensures)) in
-    search-stop (e .before .before .before .loop .inv .0) (e .before .before .loop-test .taken) t (rw (c .enum-told4 .given .1) at (o .order-at .ensures)) refl
+    search-stop (e .before .before .before .loop .inv .0) (e .before .before .loop-test .taken) t (o .order-at .ensures) (c .enum-told4 .given .1) refl
 
 same-length-4 : tie.Need-same-length-4 Inv-loop μ-loop
 same-length-4 c = c .before .loop .inv .0 .walking .frame .long

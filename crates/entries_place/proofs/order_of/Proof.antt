@@ -1,7 +1,7 @@
 -- The proof that `order_of` meets its contract.
 use mathlib.Core.Path.{sym, _∙_}
 use borrow.Author.Needs.{needs}
-use borrow.Author.Tests.{lt-ltb, le-ltb}
+use Rattle.entries_place.proofs.Keys.{compared-below, compared-above, compared-less, compared-more, compared-same}
 use Rattle.entries_place.proofs.order_of.Statement.{statement}
 use Rattle.entries_place.proofs.order_of.Tie as tie
 
@@ -20,25 +20,24 @@ enum-told-3 c = search needs
 returns : tie.Need-returns
 returns c =
     let e = c .before in
-    rw (sym (e .before .before .compare .ensures) ∙ e .enum-told3 .given .1, lt-ltb _ _ (c .if1 .taken))
+    compared-less _ _ (sym (e .before .before .compare .ensures) ∙ e .enum-told3 .given .1) (c .if1 .taken)
 
 returns-2 : tie.Need-returns-2
 returns-2 c =
-    let i = c .before in
-    let e = i .before in
-    rw (sym (e .before .before .compare .ensures) ∙ e .enum-told3 .given .1, le-ltb _ _ (i .if1 .left), lt-ltb _ _ (c .if2 .taken))
+    let e = c .before .before in
+    compared-more _ _ (sym (e .before .before .compare .ensures) ∙ e .enum-told3 .given .1) (c .if2 .taken)
 
 returns-3 : tie.Need-returns-3
-returns-3 c = rw (sym (c .before .before .compare .ensures) ∙ c .enum-told .given .1)
+returns-3 c = compared-below _ _ (sym (c .before .before .compare .ensures) ∙ c .enum-told .given .1)
 
 returns-4 : tie.Need-returns-4
-returns-4 c = rw (sym (c .before .before .compare .ensures) ∙ c .enum-told2 .given .1)
+returns-4 c = compared-above _ _ (sym (c .before .before .compare .ensures) ∙ c .enum-told2 .given .1)
 
 returns-5 : tie.Need-returns-5
 returns-5 c =
     let i = c .before in
     let e = i .before in
-    rw (sym (e .before .before .compare .ensures) ∙ e .enum-told3 .given .1, le-ltb _ _ (i .if1 .left), le-ltb _ _ (c .if2 .left))
+    compared-same _ _ (sym (e .before .before .compare .ensures) ∙ e .enum-told3 .given .1) (i .if1 .left) (c .if2 .left)
 
 pub order-of-spec : {M : Type 1} → statement M
 order-of-spec =
