@@ -28,7 +28,7 @@ use Rattle.entries_write.proofs.Lists.{entries-append, anyWord-append}
 use Rattle.entries_write.proofs.Stepping.{step-found, step-name, step-keeps, step-beside, step-common}
 use Rattle.format_laws.proofs.Names.{common-le}
 use Rattle.format_laws.proofs.Orders.{common-through}
-use Rattle.format_laws.proofs.Keys.{before-name}
+use Rattle.format_laws.proofs.Keys.{before-name, mayFollow, follow-before}
 use Rattle.entries_place.specs.Places.{rising}
 use Rattle.entries_place.proofs.Places.{read-rising}
 use Rattle.entries_place.proofs.Finding.{key-at}
@@ -55,7 +55,7 @@ or-swap false false = refl
 
 rising-first : (k : Key) (x : Entry) (xs es : List Entry) → x ∷ xs ≡ es → rising k es ≡ true → goesBefore k (keyOf x) ≡ true
 unfolding rising
-rising-first k x xs es parts h = and-inv (goesBefore k (keyOf x)) (rising (keyOf x) xs) (ap (rising k) parts ∙ h) .0
+rising-first k x xs es parts h = follow-before k (keyOf x) (and-inv (mayFollow k (keyOf x)) (rising (keyOf x) xs) (ap (rising k) parts ∙ h) .0)
 
 -- ---- parts, one after another
 

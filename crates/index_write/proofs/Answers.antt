@@ -1,7 +1,7 @@
 -- What the requests answer: by their tests, and by the reading of the file.
 use mathlib.Core.Path.{_≡_, refl, sym, ap, _∙_}
 use mathlib.Core.List.{List, [], _∷_, _++_}
-use mathlib.Core.Bool.{true, false}
+use mathlib.Core.Bool.{true, false, not}
 use Prim.Native.Nat.{ℕ, _≤_, _<_}
 use native.Mathlib.Omega.{arith}
 use lib.ListN.{length, drop, replicate}
@@ -14,7 +14,7 @@ use Rattle.format.specs.Layout.{okMode}
 use Rattle.format.specs.Reading.{Read, bad, good, need}
 use Rattle.format.specs.Reader.{Contents}
 use Rattle.format.specs.Places.{bodyIn}
-use Rattle.format.specs.Requests.{okAsked, putRecord, removeRecord, holds, writing, rewriteRequest, putRequest, removeRequest}
+use Rattle.format.specs.Requests.{okAsked, mixed, putRecord, removeRecord, holds, writing, rewriteRequest, putRequest, removeRequest}
 use Rattle.format_laws.proofs.Tests.{and-inv, by-test}
 use Rattle.format_laws.proofs.Readings.{good-inv}
 use Rattle.kinds.specs.Kinds.{widthOf, hashOf, readKind}
@@ -82,16 +82,29 @@ module _ (kind : ℕ) (x : Read Contents) (c : Contents) (m : ℕ) (read : x ≡
         (λ stage. rw (read, ok, mode, stage)))
         (λ mode. rw (read, ok, mode))
 
-    pub put-is : okAsked asked ≡ true → recordNumber fields name ≡ 0
-        → requested x (putRequest (widthOf kind) (hashOf kind) asked (entryWith (widthOf kind) fields name) room) ≡ writing (widthOf kind) (hashOf kind) asked room (putRecord (widthOf kind) (entryWith (widthOf kind) fields name) (c .records))
+    -- a sound record: the answer is that of the last test
+    put-sound : okAsked asked ≡ true → recordNumber fields name ≡ 0
+        → requested x (putRequest (widthOf kind) (hashOf kind) asked (entryWith (widthOf kind) fields name) room)
+        ≡ need (not (mixed (record { name = name; stage = fields .stage }) (c .records .entries))) 11 0
+        (writing (widthOf kind) (hashOf kind) asked room (putRecord (widthOf kind) (entryWith (widthOf kind) fields name) (c .records)))
     unfolding putRequest need recordNumber modeOf
-    put-is ok h =
+    put-sound ok h =
         by-test (okMode (fields .mode))
         (λ mode.
         by-test (ltb (fields .stage) 4)
         (λ stage. by-test (okName name) (λ named. rw (read, ok, mode, stage, named)) (λ named. absurd (let z : _≡_ {A = ℕ} 9 0 = rw (mode, stage, named) at h in omega arith)))
         (λ stage. absurd (let z : _≡_ {A = ℕ} 8 0 = rw (mode, stage) at h in omega arith)))
         (λ mode. absurd (let z : _≡_ {A = ℕ} 7 0 = rw mode at h in omega arith))
+
+    pub put-mixed : okAsked asked ≡ true → recordNumber fields name ≡ 0 → mixed (record { name = name; stage = fields .stage }) (c .records .entries) ≡ true
+        → requested x (putRequest (widthOf kind) (hashOf kind) asked (entryWith (widthOf kind) fields name) room) ≡ bad 11 0
+    unfolding need
+    put-mixed ok h clash = put-sound ok h ∙ rw clash
+
+    pub put-is : okAsked asked ≡ true → recordNumber fields name ≡ 0 → mixed (record { name = name; stage = fields .stage }) (c .records .entries) ≡ false
+        → requested x (putRequest (widthOf kind) (hashOf kind) asked (entryWith (widthOf kind) fields name) room) ≡ writing (widthOf kind) (hashOf kind) asked room (putRecord (widthOf kind) (entryWith (widthOf kind) fields name) (c .records))
+    unfolding need
+    put-is ok h apart = put-sound ok h ∙ rw apart
 
   module _ (k : Key) where
     pub remove-refused : okAsked asked ≡ false → requested x (removeRequest (widthOf kind) (hashOf kind) asked k room) ≡ bad 4 0

@@ -6,11 +6,11 @@ use mathlib.Core.Option.{some}
 use Prim.Native.Nat.{ℕ}
 use lib.ListN.{getElem?}
 use Rattle.format.specs.Records.{Entry, Key, keyOf, Records}
-use Rattle.format.specs.Requests.{putRecord, removeRecord, holds}
+use Rattle.format.specs.Requests.{putRecord, removeRecord, holds, mixed}
 use Rattle.entries_run.specs.Steps.{EntriesRead}
 use Rattle.entries_place.specs.declared.Place.{Place}
 use Rattle.entries_place.specs.Places.{PlaceFound}
-use Rattle.entries_place.proofs.Places.{there-inv, there-name, put-at, remove-at, holds-at}
+use Rattle.entries_place.proofs.Places.{there-inv, there-name, put-at, mixed-at, remove-at, holds-at}
 use Rattle.entries_edit.specs.declared.Edit.the-variants as E
 use Rattle.entries_edit.specs.Edits.{Replaces}
 use Rattle.file_write.specs.Bodies.{treeAfter, changed}
@@ -33,10 +33,13 @@ module _ (w v : ℕ) (b work : List ℕ) (count : ℕ) (k : Key) (work′ : List
   pub holds-there : holds k (r .entries) ≡ p .there
   holds-there = holds-at w v b work count k work′ p h (r .entries) m q
 
+  pub mixed-there : mixed k (r .entries) ≡ p .mixed
+  mixed-there = mixed-at w v b work count k work′ p h (r .entries) m q
+
   -- where an entry is there, it has the name
   pub named-there : p .there ≡ true → (x : Entry) → getElem? (r .entries) (p .before) ≡ some x → x .name ≡ k .name
   named-there found x at =
-      let (before, there) = h .is (r .entries) m q in
+      let (before, there, _) = h .is (r .entries) m q in
       there-name k (r .entries) (sym there ∙ found) x (rw before at at) .0
 
   pub put-replaces : Replaces (E.Put (p .before) (p .there)) (k .name) (r .entries)
@@ -49,5 +52,5 @@ module _ (w v : ℕ) (b work : List ℕ) (count : ℕ) (k : Key) (work′ : List
   -- the entry that is there
   pub entry-there {ℓ} : {X : Type ℓ} → p .there ≡ true → ((x : Entry) → getElem? (r .entries) (p .before) ≡ some x → x .name ≡ k .name → X) → X
   entry-there found f =
-      let (before, there) = h .is (r .entries) m q in
+      let (before, there, _) = h .is (r .entries) m q in
       there-inv k (r .entries) (sym there ∙ found) λ x xs at here is. f x (rw before here) (ap (λ (z : Key). z .name) is)

@@ -24,8 +24,8 @@ use Rattle.index_write.specs.declared.Request.{Request}
 use Rattle.index_write.specs.declared.Request.the-variants as Q
 use Rattle.index_write.specs.Calls.{Opened, recordNumber, requestOf, Refuses, Changes}
 use Rattle.index_write.proofs.Files.{name-short, item-short}
-use Rattle.index_write.proofs.Edits.{keep-changed, put-changed, put-replaces, remove-changed, holds-there, entry-there}
-use Rattle.index_write.proofs.Answers.{rewrite-refused, rewrite-is, put-refused, put-unsound, put-is, sound-record, remove-refused, remove-absent, remove-is}
+use Rattle.index_write.proofs.Edits.{keep-changed, put-changed, mixed-there, put-replaces, remove-changed, holds-there, entry-there}
+use Rattle.index_write.proofs.Answers.{rewrite-refused, rewrite-is, put-refused, put-unsound, put-mixed, put-is, sound-record, remove-refused, remove-absent, remove-is}
 
 -- a version that can't be asked for
 pub request-refused : (kind : ℕ) (request : Request) (x : Read Contents) (c : Contents) (m : ℕ) → x ≡ good c m → (name : List ℕ) (fields : Fields) (asked room : ℕ) → okAsked asked ≡ false
@@ -57,22 +57,32 @@ module _ (kind : ℕ) (f work : List ℕ) (parts : Parts) (opened : Opened kind 
 
   -- the place that was found: p, which leaves work₁ of the workspace
   module _ (work₁ : List ℕ) (p : Place) where
-    pub plan-put : PlaceFound (widthOf kind) (parts .version) (bodyIn (widthOf kind) f) work (parts .count) (record { name = name; stage = fields .stage }) work₁ p
-        → recordNumber fields name ≡ 0 → Changes kind f work₁ parts Q.Put name fields (E.Put (p .before) (p .there))
-    plan-put r sound =
-        let (stage, named) = sound-record fields name sound in
-        record {
-          planned = record {
-            opened = record { room = omega (arith, r .frame, opened .room); contains = h };
-            reach = r .few;
-            stage = stage;
-            short = name-short name named;
-            there = put-replaces _ _ _ _ _ _ _ _ r (h .contents .records) _ (h .entries);
-          };
-          is = λ asked room ok.
-              put-is kind (readKind kind f) (h .contents) (h .taken) (h .read) asked room fields name ok sound
-              ∙ ap (writing (widthOf kind) (hashOf kind) asked room) (put-changed _ _ _ _ _ _ _ _ r (h .contents .records) _ (h .entries) (entryWith (widthOf kind) fields name) refl);
-        }
+    module _ (r : PlaceFound (widthOf kind) (parts .version) (bodyIn (widthOf kind) f) work (parts .count) (record { name = name; stage = fields .stage }) work₁ p)
+        (sound : recordNumber fields name ≡ 0) where
+      -- stage 0 would come together with another stage
+      pub plan-mixed : p .mixed ≡ true → Refuses kind f Q.Put name fields 11
+      plan-mixed found = record {
+        is = λ asked room ok.
+            put-mixed kind (readKind kind f) (h .contents) (h .taken) (h .read) asked room fields name ok sound
+            (mixed-there _ _ _ _ _ _ _ _ r (h .contents .records) _ (h .entries) ∙ found);
+      }
+
+      pub plan-put : p .mixed ≡ false → Changes kind f work₁ parts Q.Put name fields (E.Put (p .before) (p .there))
+      plan-put apart =
+          let (stage, named) = sound-record fields name sound in
+          record {
+            planned = record {
+              opened = record { room = omega (arith, r .frame, opened .room); contains = h };
+              reach = r .few;
+              stage = stage;
+              short = name-short name named;
+              there = put-replaces _ _ _ _ _ _ _ _ r (h .contents .records) _ (h .entries);
+            };
+            is = λ asked room ok.
+                put-is kind (readKind kind f) (h .contents) (h .taken) (h .read) asked room fields name ok sound
+                (mixed-there _ _ _ _ _ _ _ _ r (h .contents .records) _ (h .entries) ∙ apart)
+                ∙ ap (writing (widthOf kind) (hashOf kind) asked room) (put-changed _ _ _ _ _ _ _ _ r (h .contents .records) _ (h .entries) (entryWith (widthOf kind) fields name) refl);
+          }
 
     module _ (stage : ℕ) (r : PlaceFound (widthOf kind) (parts .version) (bodyIn (widthOf kind) f) work (parts .count) (record { name = name; stage = stage }) work₁ p) where
       abbrev key : Key

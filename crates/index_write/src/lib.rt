@@ -132,7 +132,7 @@ fn write_edited(
     written
 }
 
-// What a sound record needs to be put: the place of its name and stage.
+// What a sound record needs to be put: the place of its name and stage; 11 where it would bring stage 0 together with another stage of the name.
 fn plan_put(
     kind: u32,
     file: &[u8],
@@ -159,6 +159,9 @@ fn plan_put(
         fields.stage,
         w,
     );
+    if place.mixed {
+        return Plan::Refused(11);
+    }
     Plan::Change(Edit::Put(place.before, place.there))
 }
 
@@ -272,7 +275,8 @@ pub fn rewrite(kind: u32, file: &[u8], work: &mut [u8], out: &mut [u8], asked: u
     )
 }
 
-// The records with this one in place of the entry of its name and stage, or inserted.
+// The records with this one in place of the entry of its name and stage, or inserted. 11 where stage 0 would come together with another stage of
+// the name: a conflict is settled by removing its stages first.
 pub fn put(
     kind: u32,
     file: &[u8],

@@ -230,7 +230,8 @@ module _ (w : ℕ) (hash : List ℕ → List ℕ) (asked : ℕ) where
   unfolding putRequest
   put-numbered e room r =
       numbered-need _ _ _ _ (omega arith)
-      (numbered-need _ _ _ _ (omega arith) (numbered-need _ _ _ _ (omega arith) (numbered-need _ _ _ _ (omega arith) (written _ _))))
+      (numbered-need _ _ _ _ (omega arith)
+      (numbered-need _ _ _ _ (omega arith) (numbered-need _ _ _ _ (omega arith) (numbered-need _ _ _ _ (omega arith) (written _ _)))))
 
   pub remove-numbered : (k : Key) (room : ℕ) (r : Records) → Numbered (removeRequest w hash asked k room r)
   unfolding removeRequest

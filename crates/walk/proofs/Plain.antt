@@ -9,8 +9,7 @@ use Rattle.format.specs.Names.{okName, compare, rises}
 use Rattle.format.specs.Records.{Entry, Key, start}
 use Rattle.format.specs.Reading.{bad, good, need, shift, bind}
 use Rattle.format.specs.Reader.{readPlain, readName, entryOf, readTail, readEntry}
-use Rattle.format.specs.Requests.{goesBefore}
-use Rattle.format_laws.proofs.Keys.{start-before}
+use Rattle.format_laws.proofs.Keys.{start-follow}
 use Rattle.format_laws.proofs.Readings.{good-inv, need-inv, bind-inv, bind-good}
 use Rattle.spelling.proofs.Names.{name-read}
 use Rattle.entries.proofs.Before.{readEntry-head}
@@ -31,9 +30,9 @@ module _ (w v p : ℕ) (old : eqb v 4 ≡ false) where
     -- every name is after the empty one
     pub tail-start : (name : List ℕ) (m : ℕ) → readPlain f p (x % 4096) (drop f s) ≡ good name m
         → readTail w v start p f x y s ≡ good (entryOf w s x y name) (m + 0)
-    unfolding readTail bind shift need goesBefore
+    unfolding readTail bind shift need
     tail-start name m e =
-        let rising : rises (compare (start .name) name) 0 (x / 4096 % 4) ≡ true = start-before (record { name = name; stage = x / 4096 % 4 }) (plain-name f (x % 4096) (drop f s) name m e) in
+        let rising : rises (compare (start .name) name) 0 (x / 4096 % 4) ≡ true = start-follow (record { name = name; stage = x / 4096 % 4 }) (plain-name f (x % 4096) (drop f s) name m e) in
         rw (name-plain (start .name) f (x % 4096) (drop f s), e, rising)
 
     tail-any : (k : Key) (e : Entry) (m : ℕ) → readTail w v k p f x y s ≡ good e m → readTail w v start p f x y s ≡ good e m

@@ -6,7 +6,7 @@ use lib.ListN.{length}
 use lib.Seq.{length-take-le}
 use Rattle.fields.proofs.Workspace.{frame-same}
 use Rattle.index_write.proofs.Files.{long-in, room-in, entries-in}
-use Rattle.index_write.proofs.Plans.{plan-unsound, plan-put}
+use Rattle.index_write.proofs.Plans.{plan-unsound, plan-mixed, plan-put}
 use borrow.Author.Needs.{needs}
 use Rattle.index_write.proofs.plan_put.Statement.{statement}
 use Rattle.index_write.proofs.plan_put.Tie as tie
@@ -37,12 +37,24 @@ same-length c = search needs
 
 returns-2 : tie.Need-returns-2
 returns-2 c =
-    let p = c .before .before in
+    let p = c .before .before .before in
     let u = p .before .before .before in
     let e = u .before in
     let st = e .before .before .before .before .before in
     let r = rw (u .width-of .ensures .0) at (p .find-place .ensures) in
-    record { frame = r .frame; is = plan-put _ _ _ _ (st .pre) _ _ _ _ r (omega (arith, e .before .record-number .ensures, e .if1 .left)) }
+    record { frame = r .frame; is = plan-mixed _ _ _ _ (st .pre) _ _ _ _ r (omega (arith, e .before .record-number .ensures, e .if1 .left)) (c .if2 .taken) }
+
+same-length-2 : tie.Need-same-length-2
+same-length-2 c = search needs
+
+returns-3 : tie.Need-returns-3
+returns-3 c =
+    let p = c .before .before .before in
+    let u = p .before .before .before in
+    let e = u .before in
+    let st = e .before .before .before .before .before in
+    let r = rw (u .width-of .ensures .0) at (p .find-place .ensures) in
+    record { frame = r .frame; is = plan-put _ _ _ _ (st .pre) _ _ _ _ r (omega (arith, e .before .record-number .ensures, e .if1 .left)) (c .if2 .left) }
 
 width-of-requires : tie.Need-width-of-requires
 width-of-requires c κs = search needs
@@ -58,4 +70,6 @@ plan-put-spec =
     slice-aggregate-find-place
     find-place-requires
     same-length
-    returns-2)
+    returns-2
+    same-length-2
+    returns-3)
