@@ -9,8 +9,9 @@ use Rattle.answers.proofs.Laws.{room-small, room-large}
 use Rattle.spelling.proofs.File as spelling
 use Rattle.kinds.specs.Kinds.{widthOf, hashOf, readKind}
 use Rattle.kinds.proofs.Laws.{length-hash, known-file, unknown-file, file-known}
-use Rattle.demands.proofs.Statements.{Demand1, Demand2, Demand3, ZeroedTails}
+use Rattle.demands.proofs.Statements.{Demand1, Demand2, Demand3, ZeroedTails, NoneMixed}
 use Rattle.demands.proofs.Tails.{zeroed-tails}
+use Rattle.demands.proofs.Stages.{none-mixed}
 use Rattle.demands.proofs.Written.{rewritten, put-in, removed, filled}
 use Rattle.demands.proofs.Proved.{read-by, all-refuse, left, zeroed, name-left, file-read, guarded, accepted-inv, checked, entry-shown, node-shown, undo-shown, exact, cut-rule}
 
@@ -66,12 +67,15 @@ module _ (kind : ℕ) (work : List ℕ) where
     pub tails : ZeroedTails kind work
     tails = zeroed-tails kind work room demand3
 
+    pub stages : NoneMixed kind work
+    stages = none-mixed kind work room demand3
+
 -- the demands of a kind, and what is said beside them: all but demand 1 with the workspace that document 01 asks for
 abbrev pub Demands : ℕ → Type 0
-Demands kind = (work : List ℕ) → Demand1 kind work × (tooSmall work ≡ false → Demand2 kind work × Demand3 kind work × ZeroedTails kind work)
+Demands kind = (work : List ℕ) → Demand1 kind work × (tooSmall work ≡ false → Demand2 kind work × Demand3 kind work × ZeroedTails kind work × NoneMixed kind work)
 
 pub every-kind : (kind : ℕ) → Demands kind
-every-kind kind work = (demand1 kind work, λ room. (demand2 kind work room, demand3 kind work room, tails kind work room))
+every-kind kind work = (demand1 kind work, λ room. (demand2 kind work room, demand3 kind work room, tails kind work room, stages kind work room))
 
 pub sha1-demands : Demands 1
 sha1-demands = every-kind 1

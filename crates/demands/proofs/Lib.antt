@@ -1,8 +1,9 @@
--- The demands: Statements states them, Proved, Written and Tails have the proofs, Demands joins the two. Witness, WitnessSha256 and WitnessLeftOut
+-- The demands: Statements states them, Proved, Written, Tails and Stages have the proofs, Demands joins the two. Witness, WitnessSha256 and WitnessLeftOut
 -- have closed cases, made of Samples.
 pub mod Demands
 pub mod Proved
 pub mod Samples
+pub mod Stages
 pub mod Statements
 pub mod Tails
 pub mod Witness

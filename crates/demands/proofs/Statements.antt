@@ -18,7 +18,7 @@ use Rattle.format.specs.Layout.{Spells}
 use Rattle.format.specs.Reading.{Read, bad, good}
 use Rattle.format.specs.Reader.{Contents}
 use Rattle.format.specs.Tails.{zeroedFrom, Lost}
-use Rattle.format.specs.Requests.{putRecord, removeRecord}
+use Rattle.format.specs.Requests.{mixes, putRecord, removeRecord}
 use Rattle.writing.specs.OneFile.{WritesBack}
 use Rattle.kinds.specs.Kinds.{okKind, widthOf, hashOf, readKind}
 use Rattle.answers.specs.declared.Checksum.the-variants.{Matches, LeftOut}
@@ -170,3 +170,9 @@ module _ (kind : ℕ) (work : List ℕ) where
       ((n p : ℕ) × (check g ≡ Refused n p))
       ⊎ ((t : Summary) × (check g ≡ Accepted t) × (t .version ≡ s .version) × (t .entries ≡ s .entries)
       × ((k : ℕ) → k < s .entries → (entry k g ≡ entry k f) ⊎ LastLost f g s k))
+
+  -- Beside demand 3, since a path is merged or in conflict: no two entries of an accepted file are stage 0 and another stage of one name
+  abbrev pub NoneMixed : Type 0
+  NoneMixed =
+      (f : List ℕ) (s : Summary) (j k : ℕ) (x y : Entry) → Bytes f → check f ≡ Accepted s →
+      entry j f ≡ pick (eqb (s .version) 4) (some x) → entry k f ≡ pick (eqb (s .version) 4) (some y) → mixes (keyOf x) (keyOf y) ≡ false

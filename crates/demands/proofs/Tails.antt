@@ -33,7 +33,7 @@ item-some [] k h = absurd (omega arith)
 item-some (a ∷ l) zero h = (a, refl)
 item-some (a ∷ l) (suc k) h = item-some l k (omega arith)
 
-pick-some : {A : Type 0} (t : Bool) (o : Option A) (a : A) → pick t o ≡ pick t (some a) → o ≡ some a
+pub pick-some : {A : Type 0} (t : Bool) (o : Option A) (a : A) → pick t o ≡ pick t (some a) → o ≡ some a
 pick-some true none a e = let z : _≡_ {A = ℕ} 0 1 = cc in absurd (omega arith)
 pick-some false none a e = let z : _≡_ {A = ℕ} 0 1 = cc in absurd (omega arith)
 pick-some true (some x) a e = cc
@@ -70,7 +70,7 @@ module _ (kind : ℕ) (work : List ℕ) (demand : Demand3 kind work) (known : ok
   hash = hashOf kind
 
   -- what check says of a spelled file
-  says : (f : List ℕ) (s : Summary) (r : Records) (h : Spells w hash r f) → check kind work f ≡ Accepted s → s ≡ summaryOf (contentsOf (spelledSum h) (h .body-is))
+  pub says : (f : List ℕ) (s : Summary) (r : Records) (h : Spells w hash r f) → check kind work f ≡ Accepted s → s ≡ summaryOf (contentsOf (spelledSum h) (h .body-is))
   says f s r h e = ap said (sym e ∙ demand .counts known f r h)
     where
       said : Checked → Summary

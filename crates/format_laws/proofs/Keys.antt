@@ -16,7 +16,7 @@ use Rattle.format.specs.Requests.{goesBefore, sameKey, mixes}
 use Rattle.format_laws.proofs.Tests.{false-true, by-test, and-inv, and-inv₃}
 use Rattle.format_laws.proofs.Lists.{eqList-true, eq-eqList}
 use Rattle.format_laws.proofs.Names.{okName-length}
-use Rattle.format_laws.proofs.Orders.{through, names-through, compare-self, compare-same, opposite, compare-opposite}
+use Rattle.format_laws.proofs.Orders.{through, names-through, compare-self, compare-same, other-orders, opposite, compare-opposite}
 
 precedes-most : (o : Order) (s t : ℕ) → precedes o s t ≡ true → o ≡ Above → ⊥
 precedes-most Below s t h e = let z : _≡_ {A = ℕ} 0 1 = cc in omega arith
@@ -137,7 +137,7 @@ mixes-of a b names differ zero =
     (λ p. rw p refl)
     (λ p. let some : a .stage ≡ 0 → ⊥ = eqb-false (a .stage) 0 p in rw p (eq-eqb (b .stage) 0 (omega arith))))
 
-mixes-turned : (a b : Key) → mixes a b ≡ false → mixes b a ≡ false
+pub mixes-turned : (a b : Key) → mixes a b ≡ false → mixes b a ≡ false
 mixes-turned a b h =
     by-test (mixes b a)
     (λ p.
@@ -164,6 +164,20 @@ follow-by a b h apart =
 -- the same of the key that is not before
 pub follow-after : (a b : Key) → goesBefore a b ≡ false → sameKey a b ≡ false → mixes a b ≡ false → mayFollow b a ≡ true
 follow-after a b h other apart = follow-by b a (before-total a b h other) (mixes-turned a b apart)
+
+-- what may follow does not mix
+pub follow-apart : (a b : Key) → mayFollow a b ≡ true → mixes a b ≡ false
+follow-apart a b h =
+    by-test (mixes a b)
+    (λ p.
+    let (names, differ, zero) = mixes-inv a b p in
+    rises-inv (compare (a .name) (b .name)) (a .stage) (b .stage) h
+    (λ below. other-orders below (rw names (compare-self (b .name))))
+    (λ same some less. absurd (omega arith)))
+    (λ p. p)
+
+pub mixes-self : (a : Key) → mixes a a ≡ false
+mixes-self a = by-test (mixes a a) (λ p. absurd (mixes-inv a a p .1 refl)) (λ p. p)
 
 -- where an entry x is not before the key k and does not mix with it, the next one does not either
 pub late-apart : (x y k : Key) → mayFollow x y ≡ true → goesBefore x k ≡ false → mixes x k ≡ false → mixes y k ≡ false
