@@ -94,7 +94,7 @@ static void lay_flags(struct laid *file, const struct nerupazhil_fields *f, size
         lay_number(file, f->intent_to_add << 13 | f->skip_worktree << 14, 2);
 }
 
-/* What version 4 drops of the name before, and the part of this name that is left. */
+/* Lays how many bytes of the name before are dropped in version 4. Answers what is then left of this name. */
 static const char *lay_dropped(struct laid *file, const char *name)
 {
     const char *before = file->before;

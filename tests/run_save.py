@@ -295,7 +295,7 @@ def refused(report: Report, save: Save) -> None:
     for call in save.calls:
         for when in ("before", "after"):
             done = save(**{when: call.number})
-            good = done.status == KILLED and done.files["index"] == save.scene.old
+            good = done.status == KILLED and done.files.get("index") == save.scene.old
             report.test(f"refused, ended {when} call {call.number}, {call.name} {call.file}", good, done)
 
 

@@ -352,10 +352,10 @@ void nerupazhil_rewrite(uint32_t kind, const uint8_t *file, size_t file_length, 
 
 /* With one entry in place of the one of its name and stage, or added. The nodes of the cache tree from the root to
    its directory become invalid.
-   The request is refused, at place 0, with 4 for the version; 7, 8 or 9 for the entry's mode, stage or name; 11 where
-   the file has the name at stage 0 and the entry is of another stage, or the other way round; then 21, 2 or 20. To
-   settle a conflict, remove those of the name's stages 1 to 3 that are there, then put stage 0: each call takes the
-   output of the one before as its file, so that two outputs are used by turns, and only the last result is saved.
+   The request is refused, at place 0 and in this order, with 4 for the version; 7, 8 or 9 for the entry's mode, stage
+   or name; 11 where the file has the name at stage 0 and the entry is of another stage, or the other way round; 21, 2
+   or 20. To settle a conflict, remove those of the name's stages 1 to 3 that are there, then put stage 0: each call
+   takes the output of the one before as its file, so that two outputs are used by turns, and only the last is saved.
    That a name is not also a directory of another entry is for the caller to see to. */
 void nerupazhil_put(uint32_t kind, const uint8_t *file, size_t file_length, uint8_t *work, size_t work_length,
                     uint8_t *out, size_t out_length, uint32_t asked, const uint8_t *name, size_t name_length,

@@ -46,8 +46,8 @@ pub fn rewrite<'a>(
 /// # Ok::<(), nerupazhil::Refusal>(())
 /// ```
 ///
-/// A path is merged, at stage 0, or in conflict, at stages 1 to 3. An entry that would make it both is refused with 11;
-/// [`Index::with`](crate::Index::with) shows how a conflict is settled:
+/// A path is merged, at stage 0, or in conflict, at stages 1 to 3. An entry that would make it both is refused with 11,
+/// and the output stays as it was. [`Index::with`](crate::Index::with) shows how a conflict is settled.
 ///
 /// ```
 /// # let file = include_bytes!(concat!(env!("CARGO_MANIFEST_DIR"), "/../tests/vectors/real/v2-conflict.index"));
