@@ -402,7 +402,20 @@ static void good_puts(void)
     put(0, record);
     put(4, record);
     record.fields.mode = NERUPAZHIL_MODE_GITLINK;
-    record.fields.stage = (old_stage + 1) % 4;
+    record.fields.stage = old_stage == 0 ? 0 : old_stage % 3 + 1;
+    put(0, record);
+}
+
+/* The old name, at stage 0 beside a conflict or at stage 2 beside stage 0. */
+static void mixed_puts(void)
+{
+    struct record record = a_record(old_name, old_length);
+
+    record.fields.stage = old_stage == 0 ? 2 : 0;
+    put(0, record);
+    record.fields.skip_worktree = 1;
+    put(2, record);
+    record.fields.mode = 0100600;
     put(0, record);
 }
 
@@ -493,6 +506,7 @@ static void all_calls(uint64_t number)
         walk();
         rewrites();
         good_puts();
+        mixed_puts();
         bad_puts();
         removals();
         other_settings(counts);

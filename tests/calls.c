@@ -48,7 +48,7 @@ static void test(const char *call, const char *what, int good)
 struct laid {
     uint8_t bytes[ROOM];
     size_t length;
-    size_t last; /* the length of the last entry's name */
+    const char *before; /* the last entry's name */
 };
 
 static void lay(struct laid *file, const void *bytes, size_t length)
@@ -73,6 +73,7 @@ static void lay_number(struct laid *file, uint32_t number, int width)
 static void lay_start(struct laid *file, uint32_t version, uint32_t entries)
 {
     memset(file, 0, sizeof *file);
+    file->before = "";
     lay(file, "DIRC", 4);
     lay_number(file, version, 4);
     lay_number(file, entries, 4);
@@ -93,24 +94,38 @@ static void lay_flags(struct laid *file, const struct nerupazhil_fields *f, size
         lay_number(file, f->intent_to_add << 13 | f->skip_worktree << 14, 2);
 }
 
-/* The object name is one byte many times. In version 4, no name has a beginning of the one before it. */
+/* Lays how many bytes of the name before are dropped in version 4. Answers what is then left of this name. */
+static const char *lay_dropped(struct laid *file, const char *name)
+{
+    const char *before = file->before;
+
+    while (*name != '\0' && *name == *before) {
+        name++;
+        before++;
+    }
+    lay_number(file, (uint32_t)strlen(before), 1);
+    return name;
+}
+
+/* The object name is one byte many times. */
 static void lay_entry(struct laid *file, const struct nerupazhil_fields *f, uint8_t object, const char *name)
 {
     const uint32_t numbers[] = {f->ctime_seconds, f->ctime_nanoseconds, f->mtime_seconds, f->mtime_nanoseconds,
                                 f->dev,           f->ino,               f->mode,          f->uid,
                                 f->gid,           f->size};
     size_t start = file->length;
+    const char *text = name;
 
     for (size_t k = 0; k < sizeof numbers / sizeof numbers[0]; k++)
         lay_number(file, numbers[k], 4);
     lay_all(file, object, kind->width);
     lay_flags(file, f, strlen(name));
     if (file->bytes[7] == 4)
-        lay_number(file, (uint32_t)file->last, 1);
-    lay(file, name, strlen(name) + 1);
+        text = lay_dropped(file, name);
+    lay(file, text, strlen(text) + 1);
     while (file->bytes[7] != 4 && (file->length - start) % 8 != 0)
         lay_all(file, 0, 1);
-    file->last = strlen(name);
+    file->before = name;
 }
 
 /* An entry of which all but the mode is zero. */
@@ -121,6 +136,24 @@ static void lay_plain(struct laid *file, uint32_t mode, uint8_t object, const ch
     memset(&fields, 0, sizeof fields);
     fields.mode = mode;
     lay_entry(file, &fields, object, name);
+}
+
+/* An index of 'a' at these stages, which are digits. One of them may be the stage that was put, with the record of
+   give_example. */
+static struct laid laid_at(uint32_t version, const char *stages, char put)
+{
+    struct laid file;
+    struct nerupazhil_fields fields;
+
+    memset(&fields, 0, sizeof fields);
+    lay_start(&file, version, (uint32_t)strlen(stages));
+    for (; *stages != '\0'; stages++) {
+        fields.mode = *stages == put ? NERUPAZHIL_MODE_LINK : NERUPAZHIL_MODE_REGULAR;
+        fields.stage = (uint32_t)(*stages - '0');
+        lay_entry(&file, &fields, *stages == put ? 0x33 : 0x11, "a");
+    }
+    lay_checksum(&file);
+    return file;
 }
 
 /* A cache tree of 'a' and 'b/c', with a valid or an invalid root. */
@@ -566,6 +599,26 @@ static void cut(void)
     given.file_length = FIRST + kind->width - 1;
 }
 
+static struct laid staged; /* 'a' at some stages */
+
+static void give_staged(void)
+{
+    give_file(&staged);
+}
+
+/* A path at stage 0 and at another one, which the second entry shows; and stages that do not rise. */
+static void refused_stages(void)
+{
+    const char *const wrong[] = {"01", "02", "03", "012", "00", "10", "22", "31"};
+
+    for (size_t k = 0; k < sizeof wrong / sizeof wrong[0]; k++) {
+        staged = laid_at(2, wrong[k], 0);
+        all_refuse("stages that no path has", give_staged, NERUPAZHIL_ENTRY_ORDER, kind->second);
+        staged = laid_at(4, wrong[k], 0);
+        all_refuse("stages that no path has, version 4", give_staged, NERUPAZHIL_ENTRY_ORDER, FIRST + FIXED + 3);
+    }
+}
+
 static void refused_files(void)
 {
     all_refuse("a wrong checksum", damage, NERUPAZHIL_CHECKSUM, kind->end);
@@ -900,6 +953,88 @@ static void write_other_flags(void)
     }
 }
 
+/* Puts and removes stages of 'a': the index of the first ones becomes that of the others. */
+static void put_stage(const char *what, const char *from, char stage, const char *to)
+{
+    struct laid result = laid_at(2, to, stage);
+
+    begin(PUT);
+    staged = laid_at(4, from, 0);
+    give_staged();
+    given.fields.stage = (uint32_t)(stage - '0');
+    write_file(what, &result);
+}
+
+static void remove_stage(const char *what, const char *from, char stage, const char *to)
+{
+    struct laid result = laid_at(2, to, 0);
+
+    begin(REMOVE);
+    staged = laid_at(4, from, 0);
+    give_staged();
+    given.stage = (uint32_t)(stage - '0');
+    write_file(what, &result);
+}
+
+static void write_stages(void)
+{
+    put_stage("stage 0 in place of itself", "0", '0', "0");
+    put_stage("a stage of a conflict in place of itself", "13", '3', "13");
+    put_stage("one more stage of a conflict", "13", '2', "123");
+    remove_stage("a conflict is settled, stage 1", "13", '1', "3");
+    remove_stage("a conflict is settled, stage 3", "3", '3', "");
+    put_stage("a conflict is settled, stage 0", "", '0', "0");
+}
+
+/* A put of 'a' at a stage, into an index that has it at others. */
+static void begin_beside(const char *stages, uint32_t stage)
+{
+    begin(PUT);
+    staged = laid_at(2, stages, 0);
+    give_staged();
+    given.fields.stage = stage;
+}
+
+static void put_wrong_stages(void)
+{
+    const char *const conflicts[] = {"1", "2", "3", "13", "123"};
+
+    for (size_t k = 0; k < sizeof conflicts / sizeof conflicts[0]; k++) {
+        begin_beside(conflicts[k], 0);
+        refuse("stage 0 beside a conflict", NERUPAZHIL_ENTRY_ORDER, 0);
+    }
+    for (uint32_t stage = 1; stage <= 3; stage++) {
+        begin_beside("0", stage);
+        refuse("a stage of a conflict beside stage 0", NERUPAZHIL_ENTRY_ORDER, 0);
+    }
+}
+
+/* The version, then the record itself, then its stage beside others, then the result. */
+static void put_wrong_stages_in_order(void)
+{
+    begin_beside("13", 0);
+    given.asked = 5;
+    refuse("a version that there is not, before the stages", NERUPAZHIL_VERSION, 0);
+    begin_beside("13", 0);
+    given.fields.mode = 0100600;
+    refuse("a wrong mode, before the stages", NERUPAZHIL_ENTRY_MODE, 0);
+    begin_beside("0", 4);
+    refuse("a wrong stage, before the stages", NERUPAZHIL_ENTRY_FLAGS, 0);
+    begin_beside("0", 2);
+    give_name("a/.git");
+    refuse("a wrong name, before the stages", NERUPAZHIL_ENTRY_NAME, 0);
+    begin_beside("13", 0);
+    given.fields.intent_to_add = 1;
+    given.asked = NERUPAZHIL_VERSION_2;
+    refuse("the stages, before a flag that needs version 3", NERUPAZHIL_ENTRY_ORDER, 0);
+    begin_beside("0", 2);
+    no_out();
+    refuse("the stages, before a short output", NERUPAZHIL_ENTRY_ORDER, 0);
+    begin_beside("0", 2);
+    staged.bytes[staged.length - 1] ^= 1;
+    refuse("a wrong checksum, before the stages", NERUPAZHIL_CHECKSUM, staged.length - kind->width);
+}
+
 static void put_wrong_fields(void)
 {
     begin(PUT);
@@ -978,6 +1113,7 @@ static void test_kind(void)
     unknown_kinds();
     exchanged_kinds();
     refused_files();
+    refused_stages();
     left_out();
     read_checked();
     read_left_out();
@@ -991,7 +1127,10 @@ static void test_kind(void)
     write_changed();
     write_other_object_bytes();
     write_other_flags();
+    write_stages();
     put_wrong_fields();
+    put_wrong_stages();
+    put_wrong_stages_in_order();
     write_wrong_output();
     hash();
     sentences();

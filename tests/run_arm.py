@@ -201,12 +201,13 @@ def listed_files():
             yield f"{case.name}, no checksum", SHA1.zeroed(case.data)
 
 
-# To be put one after the other: the last three are refused, by the library and by the program.
+# To be put one after the other: the last four are refused, by the library and by the program.
 RECORDS = (
     ("100644", OBJECT, "new/in/folder"),
     ("100755", OBJECT, "a"),
     ("120000", OBJECT, "new/in/folder"),
     ("160000", OBJECT, "conflict", "2"),
+    ("100644", OBJECT, "conflict"),
     ("100644", OBJECT, ".git"),
     ("100600", OBJECT, "a"),
     ("100644", OBJECT),

@@ -312,10 +312,11 @@ def put_files(report: Report, folder: str, session: Session) -> None:
         tests(report, lambda: Index(program, folder, data))
     links(report, Index(program, folder, data), session)
     unsound(report, folder, data)
+    conflict = Plan(2, [Record(b"a", stage=1), Record(b"a", stage=3), Record(b"b")]).made("").data
+    conflicts(report, Index(program, folder, conflict), session)
     index = Index(program, folder, filled(4, FILE_LIMIT))
-    done = index.put("a")
-    good = done.status == 1 and b"refused 2 at 0" in done.err and index.untouched()
-    report.test("a result that is too long", good, done)
+    refused(report, "a result that is too long", index, 2, name="a")
+    refused(report, "the same, a stage beside stage 0", index, 11, name="n" * 8000, stage="1")
 
 
 def put_vectors(report: Report, program: str, folder: str, session: Session) -> None:
@@ -333,11 +334,11 @@ def put_vectors(report: Report, program: str, folder: str, session: Session) -> 
 
 def put_records(report: Report, name: str, index: Index, session: Session) -> None:
     """Puts records one after another and compares the file with the expected one: new ones, one in place of another, a
-    stage, and names that a command line can hold but a listing escapes."""
+    conflict, and names that a command line can hold but a listing escapes. Then a stage that the last one forbids."""
     read = index_reader.read(index.data)
     asked = 4 if read.version == 4 else LOWEST
-    rows = [new_entry(b"!first"), new_entry(b"saw/cut.txt", EXECUTABLE), new_entry(b"saw/cut.txt", LINK, 2)]
-    rows.append(new_entry(b"\xff\n\\", GITLINK))
+    rows = [new_entry(b"!first"), new_entry(b"saw/cut.txt", EXECUTABLE), new_entry(b"saw/both.txt", LINK, 2)]
+    rows += [new_entry(b"saw/both.txt", REGULAR, 1), new_entry(b"\xff\n\\", GITLINK)]
     rows += [new_entry(entry.name, REGULAR, entry.stage) for entry in read.entries[:1]]
     data = index.data
     for entry in rows:
@@ -349,6 +350,8 @@ def put_records(report: Report, name: str, index: Index, session: Session) -> No
     report.same(f"{name}: listed after the puts", index_reader.listing(data, FILE_LIMIT), out)
     index.data = data
     report.test(f"{name}: nothing beside the index", index.untouched())
+    other = "2" if rows[-1].stage == 0 else "0"
+    refused(report, f"{name}: stage {other} beside another", index, 11, name=rows[-1].name, stage=other)
 
 
 def unguarded(report: Report, make) -> None:
@@ -362,17 +365,34 @@ def unguarded(report: Report, make) -> None:
     report.same("put, no checksum: one afterwards", with_checksum(new[: -SHA1.width]), new)
 
 
+def refused(report: Report, label: str, index: Index, number: int, **record) -> None:
+    """A record that the library refuses: this is told with a sentence, and the index stays as it was."""
+    done = index.put(**record)
+    told = b"put: %s: refused %d at 0: " % (os.fsencode(index.path), number)
+    good = done.status == 1 and done.out == b"" and done.err.startswith(told) and len(done.err) > len(told) + 10
+    report.test(label, good and index.untouched(), done)
+
+
 def refusals(report: Report, make) -> None:
-    """Records that the library refuses."""
     index = make()
     rows = [(7, {"mode": "100600"}), (7, {"mode": "0"}), (7, {"mode": "37777777777"}), (8, {"stage": "4"})]
     rows += [(8, {"stage": "4294967295"})]
     rows += [(9, {"name": name}) for name in ("", "/a", "a/", "a//b", "a/../b", ".git", "a/.git/b", "n" * 8193)]
+    rows += [(11, {"stage": stage}) for stage in "123"]
     for number, changes in rows:
-        done = index.put(**{"name": "a", **changes})
-        told = b"put: %s: refused %d at 0: " % (os.fsencode(index.path), number)
-        good = done.status == 1 and done.out == b"" and done.err.startswith(told) and len(done.err) > len(told) + 10
-        report.test(f"put is refused: {str(changes)[:WIDTH]}", good and index.untouched(), done)
+        refused(report, f"put is refused: {str(changes)[:WIDTH]}", index, number, **{"name": "a", **changes})
+
+
+def conflicts(report: Report, index: Index, session: Session) -> None:
+    """Stages that are put into an index where a path is in conflict and another is not."""
+    refused(report, "stage 0 beside a conflict", index, 11, name="a")
+    refused(report, "a stage of a conflict beside stage 0", index, 11, name="b", stage="2")
+    refused(report, "a wrong mode, before the stages", index, 7, name="a", mode="100600")
+    refused(report, "a wrong stage, before the stages", index, 8, name="b", stage="4")
+    for name, stage in ((b"a", 1), (b"a", 2), (b"b", 0)):
+        index.data = expected(session, index.data, LOWEST, new_entry(name, REGULAR, stage))
+        report.same(f"put of {name!r} at stage {stage}", Done(0, b"", b""), index.put(name, stage=str(stage)))
+        report.test("the file after it", index.untouched(), load(index.path))
 
 
 def wrong_use(report: Report, make) -> None:

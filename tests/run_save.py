@@ -12,6 +12,7 @@ cut_writes.c. For each program:
                the old or the new one, as the exit status says, and no lock is left
     power      whatever is lost that was not synced (disk_model), the disk has the old or the new index, and the new one
                after the end
+    refuse     a record that the library refuses: nothing is written, and the index stays, also where it is ended
 
 Then wrong saves (wrong_saves.py) are tried, each of which must be noticed. The last line is 'N passed, M failed', and
 the exit status is 0 only where M is 0.
@@ -58,6 +59,12 @@ def scenes():
     yield Scene("added", Plan(4, [Record(name) for name in names], tree).made("").data, "b/d")
     names = [b"folder/%04d" % k for k in range(400)]
     yield Scene("long", Plan(2, [Record(name) for name in names]).made("").data, "folder/0399x", step=2999, short=False)
+
+
+def refused_scene() -> Scene:
+    """A record that would be at stage 0 beside a conflict of its name."""
+    records = [Record(b"a"), Record(b"ab", stage=1), Record(b"ab", stage=3), Record(b"b/c")]
+    return Scene("refused", Plan(2, records).made("").data, "ab")
 
 
 class Done(NamedTuple):
@@ -276,6 +283,22 @@ def power_is_noticed(report: Report, save: Save) -> None:
     report.test("power: that the folder is not synced is noticed", not lasting(save, bare))
 
 
+# ---- a record that is refused
+
+
+def refused(report: Report, save: Save) -> None:
+    done = save.whole()
+    report.test("refused: told", save.told(done, b"refused 11 at 0: ", b"in conflict"), done)
+    report.same("refused: files", {"index": save.scene.old}, done.files)
+    calls = {call.name for call in save.calls}
+    report.test("refused: nothing is written or renamed", "create" in calls and not calls & {"write", "rename"}, calls)
+    for call in save.calls:
+        for when in ("before", "after"):
+            done = save(**{when: call.number})
+            good = done.status == KILLED and done.files.get("index") == save.scene.old
+            report.test(f"refused, ended {when} call {call.number}, {call.name} {call.file}", good, done)
+
+
 # ---- wrong saves
 
 
@@ -357,6 +380,8 @@ def main() -> int:
                 for scene in scenes():
                     save = Save(program, shim, folder, scene)
                     timed(report, f"{program}, {scene.name}", lambda: run_scene(report, save))
+                save = Save(program, shim, folder, refused_scene())
+                timed(report, f"{program}, {save.scene.name}", lambda: refused(report, save))
         timed(report, "wrong saves", lambda: wrong_saves(report, shim, folder))
     return report.finish()
 

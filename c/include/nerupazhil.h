@@ -19,6 +19,11 @@
  * checksum, and a file that lost its tail to zeros may look like one. So show the list, say that it is unguarded, and
  * rewrite it: a file that is written here always has a real checksum.
  *
+ * Stages. A path is merged, with one entry at stage 0, or in conflict, with entries at some of the stages 1 to 3, and
+ * never both. Entries are in the order of their names, and those of one name in the order of their stages. An index
+ * that breaks this is refused with 11 at the first entry that shows it; a put that would make a path both is refused
+ * with 11 at place 0.
+ *
  * Slices. A buffer is a pointer and its number of bytes. NULL with length 0 is an empty slice.
  *   file    the whole index, as its bytes are on the disk
  *   work    a workspace, at least NERUPAZHIL_WORKSPACE bytes; what is in it before a call is of no importance
@@ -27,8 +32,8 @@
  *
  * Replies. Each call but the hashes writes all of its `reply`, whatever was there. `refusal` is 0 of a success;
  * else it is a number of enum nerupazhil_refusal and `place` says where: the first byte of the entry, extension or
- * checksum in the file, or 0. All members that do not apply are 0; on a refusal that is all but these two, `fields` and
- * object names included. A member that says yes or no is 1 or 0.
+ * checksum in the file, or 0 where it is about the whole file or the request. All members that do not apply are 0; on a
+ * refusal that is all but these two, `fields` and object names included. A member that says yes or no is 1 or 0.
  *
  * Object names. NERUPAZHIL_OBJECT bytes are lent for each. A SHA-256 name is all of them. A SHA-1 name is the first 20,
  * and the last 12 are zero; in a record that is given to nerupazhil_put these 12 are not read.
@@ -108,7 +113,7 @@ enum nerupazhil_refusal {
     NERUPAZHIL_ENTRY_FLAGS = 8,
     NERUPAZHIL_ENTRY_NAME = 9,
     NERUPAZHIL_ENTRY_LAYOUT = 10,
-    NERUPAZHIL_ENTRY_ORDER = 11,
+    NERUPAZHIL_ENTRY_ORDER = 11, /* of the file's entries; or a put would make a path both merged and in conflict */
     NERUPAZHIL_EXTENSION_CUT = 12,
     NERUPAZHIL_EXTENSION_UNKNOWN = 13,
     NERUPAZHIL_EXTENSION_TWICE = 14,
@@ -346,7 +351,12 @@ void nerupazhil_rewrite(uint32_t kind, const uint8_t *file, size_t file_length, 
                         uint8_t *out, size_t out_length, uint32_t asked, struct nerupazhil_write_reply *reply);
 
 /* With one entry in place of the one of its name and stage, or added. The nodes of the cache tree from the root to
-   its directory become invalid. That a name is not also a directory of another entry is for the caller to see to. */
+   its directory become invalid.
+   The request is refused, at place 0 and in this order, with 4 for the version; 7, 8 or 9 for the entry's mode, stage
+   or name; 11 where the file has the name at stage 0 and the entry is of another stage, or the other way round; 21, 2
+   or 20. To settle a conflict, remove those of the name's stages 1 to 3 that are there, then put stage 0: each call
+   takes the output of the one before as its file, so that two outputs are used by turns, and only the last is saved.
+   That a name is not also a directory of another entry is for the caller to see to. */
 void nerupazhil_put(uint32_t kind, const uint8_t *file, size_t file_length, uint8_t *work, size_t work_length,
                     uint8_t *out, size_t out_length, uint32_t asked, const uint8_t *name, size_t name_length,
                     const struct nerupazhil_fields *fields, const uint8_t *object,
@@ -394,7 +404,8 @@ static inline const char *nerupazhil_refusal_text(uint64_t refusal)
         "the flags of an entry are wrong: a bit that its version does not have, or a stage above 3",
         "the name of an entry is empty, too long, unlike its length field, or has a part that no name may have",
         "an entry has wrong padding, or drops more of the name before it than there is",
-        "an entry does not come after the one before it by name and stage",
+        "an entry does not come after the one before it by name and stage, or its path is both at stage 0 and "
+        "in conflict (stages 1 to 3)",
         "an extension runs past the end of the file",
         "the file has an extension that a reader must know, and this one does not",
         "the file has a second cache tree or a second resolve-undo extension",

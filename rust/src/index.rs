@@ -183,6 +183,27 @@ impl<'a> Index<'a> {
     /// assert_eq!(Index::read(&file)?.summary().entries, 1);
     /// # Ok::<(), nerupazhil::Refusal>(())
     /// ```
+    ///
+    /// Stage 0 beside a conflict of its name is refused. To settle the conflict, take its stages out first, and save the
+    /// last file alone:
+    ///
+    /// ```
+    /// # let file = include_bytes!(concat!(env!("CARGO_MANIFEST_DIR"), "/../tests/vectors/real/v2-conflict.index"));
+    /// use nerupazhil::{mode, Fields, Index, Refusal};
+    ///
+    /// let index = Index::read(file)?;
+    /// let version = index.summary().version_kept();
+    /// let merged = Fields { mode: mode::REGULAR, object: [0x11; 20].into(), ..Fields::default() };
+    /// assert_eq!(index.with(b"plan", &merged, version), Err(Refusal::new(11, 0)));
+    ///
+    /// let mut file = file.to_vec();
+    /// for entry in index.entries()?.filter(|entry| entry.name == b"plan") {
+    ///     file = Index::read(&file)?.without(entry.name, entry.fields.stage, version)?;
+    /// }
+    /// file = Index::read(&file)?.with(b"plan", &merged, version)?;
+    /// assert_eq!(Index::read(&file)?.summary().entries, 17); // there were 19
+    /// # Ok::<(), Refusal>(())
+    /// ```
     pub fn with(&self, name: &[u8], fields: &Fields, version: Version) -> Result<Vec<u8>, Refusal> {
         let start = usual(self.file.len() + name.len());
         growing(start, |work, out| {

@@ -131,7 +131,8 @@ reasons! {
     8 EntryFlags "the flags of an entry are wrong: a bit that its version does not have, or a stage above 3"
     9 EntryName "the name of an entry is empty, too long, unlike its length field, or has a part that no name may have"
     10 EntryLayout "an entry has wrong padding, or drops more of the name before it than there is"
-    11 EntryOrder "an entry does not come after the one before it by name and stage"
+    11 EntryOrder "an entry does not come after the one before it by name and stage, or its path is both at stage 0 \
+        and in conflict (stages 1 to 3)"
     12 ExtensionCut "an extension runs past the end of the file"
     13 ExtensionUnknown "the file has an extension that a reader must know, and this one does not"
     14 ExtensionTwice "the file has a second cache tree or a second resolve-undo extension"

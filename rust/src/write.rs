@@ -33,7 +33,8 @@ pub fn rewrite<'a>(
 ///
 /// The root of the cache tree and each node on the way to the entry's directory become invalid. That the name is not
 /// also a directory of other entries is for the caller to see to. An object name of another kind than the file's is
-/// refused with 29, before anything of the file.
+/// refused with 29, before anything of the file. All other refusals of the request are at place 0, after those of the
+/// file: 7, 8 or 9 for the entry's mode, stage or name, then 11 as below, then 21, 2 or 20.
 ///
 /// ```
 /// use nerupazhil::{entry, mode, put, Fields, Kind, Version, EMPTY, WORKSPACE};
@@ -43,6 +44,20 @@ pub fn rewrite<'a>(
 /// let file = put(Kind::Sha1, &EMPTY, &mut work, &mut out, Version::Lowest, b"saw/cut.txt", &fields)?;
 /// assert_eq!(entry(Kind::Sha1, file, &mut work, 0)?.name, b"saw/cut.txt");
 /// # Ok::<(), nerupazhil::Refusal>(())
+/// ```
+///
+/// A path is merged, at stage 0, or in conflict, at stages 1 to 3. An entry that would make it both is refused with 11,
+/// and the output stays as it was. [`Index::with`](crate::Index::with) shows how a conflict is settled.
+///
+/// ```
+/// # let file = include_bytes!(concat!(env!("CARGO_MANIFEST_DIR"), "/../tests/vectors/real/v2-conflict.index"));
+/// use nerupazhil::{mode, put, Fields, Kind, Refusal, Version, WORKSPACE};
+///
+/// let (mut work, mut out) = ([0; WORKSPACE], [0xee; 4096]);
+/// let merged = Fields { mode: mode::REGULAR, object: [0x11; 20].into(), ..Fields::default() };
+/// let refused = put(Kind::Sha1, file, &mut work, &mut out, Version::Lowest, b"plan", &merged);
+/// assert_eq!(refused, Err(Refusal::new(11, 0)));
+/// assert_eq!(out, [0xee; 4096]);
 /// ```
 pub fn put<'a>(
     kind: Kind,

@@ -77,7 +77,7 @@ fn what_is_written_has_a_checksum() {
         for version in VERSIONS {
             let written = index.rewritten(version);
             assert_eq!(left_out.rewritten(version), written, "{}", vector.name);
-            let put = |index: &Index<'_>| index.with(b"new", &regular(kind), version);
+            let put = |index: &Index<'_>| index.with(b"newer", &regular(kind), version);
             assert_eq!(put(&left_out), put(&index), "{}", vector.name);
             for new in [written, put(&index)].into_iter().flatten() {
                 let summary = Index::read_kind(kind, &new).unwrap().summary();

@@ -125,7 +125,7 @@ fn put_saves_a_record() {
         let file = stored(&format!("real/{name}"));
         let scene = Scene::new(&format!("put-{name}"), &file);
         fs::set_permissions(&scene.index, fs::Permissions::from_mode(0o640)).unwrap();
-        let output = scene.put(&["100644", OBJECT, "saw/cut.txt", "2"]);
+        let output = scene.put(&["100644", OBJECT, "saw/both.txt", "2"]);
         assert_eq!((text(&output.stderr), output.status.code()), ("", Some(0)));
 
         let index = Index::read(&file).unwrap();
@@ -134,7 +134,7 @@ fn put_saves_a_record() {
             ..regular(Kind::Sha1)
         };
         let version = index.summary().version_kept();
-        let expected = index.with(b"saw/cut.txt", &fields, version);
+        let expected = index.with(b"saw/both.txt", &fields, version);
         assert_eq!(Ok(fs::read(&scene.index).unwrap()), expected);
         let mode = fs::metadata(&scene.index).unwrap().permissions().mode();
         assert_eq!(mode & 0o777, 0o640);
@@ -194,6 +194,11 @@ fn put_refuses_a_record_that_no_index_may_have() {
             ["100644", OBJECT, "a", "4"],
             "refused 8 at 0: the flags of an entry are wrong: \
              a bit that its version does not have, or a stage above 3",
+        ),
+        (
+            ["100644", OBJECT, "a/b", "2"],
+            "refused 11 at 0: an entry does not come after the one before it by name and stage, \
+             or its path is both at stage 0 and in conflict (stages 1 to 3)",
         ),
     ] {
         scene.is_unchanged(&scene.put(&arguments), &file, message);

@@ -4,7 +4,7 @@ mod common;
 
 use common::{accepted, number, regular, stored, vectors, Records, KINDS};
 use nerupazhil::{
-    check, entry, mode, put, remove, rewrite, Fields, Kind, ObjectName, Version, WORKSPACE,
+    check, entry, mode, put, remove, rewrite, Fields, Kind, ObjectName, Refusal, Version, WORKSPACE,
 };
 use Kind::Sha1;
 
@@ -141,20 +141,67 @@ fn put_and_remove_change_one_entry() {
     }
 }
 
-/// The same name and stage is replaced, another stage is another entry.
+/// A regular file at a stage.
+fn staged(kind: Kind, stage: u32) -> Fields {
+    Fields {
+        stage,
+        ..regular(kind)
+    }
+}
+
+/// The same name and stage is replaced, another stage of a conflict is another entry.
 #[test]
 fn put_replaces_by_name_and_stage() {
     let (work, out) = (&mut [0; WORKSPACE], &mut [0; 4096]);
-    let file = stored("real/v2-committed");
-    for (stage, entries) in [(0, 20), (1, 21)] {
-        let fields = Fields {
-            stage,
-            ..regular(Sha1)
-        };
-        let file = put(Sha1, &file, work, out, Version::V2, b"a/b", &fields).unwrap();
+    let file = stored("real/v2-conflict");
+    for (name, stage, entries) in [
+        (&b"d/same"[..], 0, 19),
+        (b"d/ours-gone", 1, 19),
+        (b"d/ours-gone", 2, 20),
+    ] {
+        let fields = staged(Sha1, stage);
+        let file = put(Sha1, &file, work, out, Version::V2, name, &fields).unwrap();
         let records = Records::of(Sha1, file).entries;
         assert_eq!(records.len(), entries);
-        assert!(records.contains(&(b"a/b".to_vec(), fields)));
+        assert!(records.contains(&(name.to_vec(), fields)));
+    }
+}
+
+/// Stage 0 beside another stage of its name is refused, and the other way round, whichever entry it is of any file.
+#[test]
+fn put_does_not_mix_stage_0_with_others() {
+    let (work, out) = (&mut [0; WORKSPACE], &mut [0xee; 4096]);
+    for vector in accepted() {
+        let kind = vector.kind;
+        for (name, fields) in Records::of(kind, &vector.file).entries {
+            for stage in if fields.stage == 0 { 1..4 } else { 0..1 } {
+                let fields = staged(kind, stage);
+                for (version, _) in VERSIONS {
+                    let answer = put(kind, &vector.file, work, out, version, &name, &fields);
+                    assert_eq!(answer, Err(Refusal::new(11, 0)), "{}", vector.name);
+                }
+            }
+        }
+    }
+    assert_eq!(*out, [0xee; 4096]);
+}
+
+/// A conflict of a name becomes stage 0 once its stages are taken out, and the others stay.
+#[test]
+fn a_conflict_can_be_settled() {
+    let (work, out) = (&mut [0; WORKSPACE], &mut [0; 4096]);
+    for version in ["v2", "v4"] {
+        let mut file = stored(&format!("real/{version}-conflict"));
+        let mut expected = Records::of(Sha1, &file).entries;
+        for stage in 1..=3 {
+            let rest = remove(Sha1, &file, work, out, Version::V4, b"exe", stage);
+            file = rest.unwrap().to_vec();
+        }
+        let settled = put(Sha1, &file, work, out, Version::V4, b"exe", &regular(Sha1));
+        expected.retain(|(name, fields)| name != b"exe" || fields.stage == 1);
+        let place = expected.iter().position(|(name, _)| name == b"exe");
+        expected[place.unwrap()].1 = regular(Sha1);
+        assert_eq!(Records::of(Sha1, settled.unwrap()).entries, expected);
     }
 }
 

@@ -51,7 +51,7 @@ pub fn vectors() -> Vec<Vector> {
 pub fn accepted() -> Vec<Vector> {
     let mut vectors = vectors();
     vectors.retain(|vector| vector.expected.is_ok());
-    assert_eq!(vectors.len(), 53 + 5 + 5);
+    assert_eq!(vectors.len(), 39 + 5 + 5);
     vectors
 }
 
