@@ -10,7 +10,7 @@ use Rattle.format.specs.Reading.{Read, bad, good}
 use Rattle.format.specs.Reader.{Contents, readFile}
 use Rattle.format.specs.Writer.{writeFile}
 use Rattle.format.specs.Requests.{putRequest}
-use Rattle.format.proofs.Examples.{hash}
+use Rattle.format.proofs.Examples.{hash, fileEntry}
 use Rattle.format.proofs.Requested.{a, bc, entryOf, records}
 use Rattle.format.proofs.Cases.{closed}
 
@@ -48,16 +48,18 @@ accepted = (refl, refl, refl)
 
 -- ---- a put
 
--- stage 0 beside sides of a conflict; a side beside stage 0; each before 21 and 20, and after 4, 7, 8 and 9
+-- stage 0 beside sides of a conflict, a side beside stage 0: 11, before 21 and 20, after 4, 7, 8 and 9. No file has a name that 9 refuses, so that
+-- the last case is one of records alone
 mixing :
     (putRequest 20 hash 0 (entryOf 0 false a) 1000 (listed conflict) ≡ bad 11 0)
     × (putRequest 20 hash 0 (entryOf 2 false a) 1000 records ≡ bad 11 0)
     × (putRequest 20 hash 2 (entryOf 0 true a) 0 (listed conflict) ≡ bad 11 0)
     × (putRequest 20 hash 1 (entryOf 2 false a) 1000 records ≡ bad 4 0)
+    × (putRequest 20 hash 0 (fileEntry 1 5 a) 1000 (listed conflict) ≡ bad 7 0)
     × (putRequest 20 hash 0 (entryOf 4 false a) 1000 records ≡ bad 8 0)
     × (putRequest 20 hash 0 (entryOf 2 false []) 1000 (listed (entryOf 0 false [] ∷ [])) ≡ bad 9 0)
 unfolding closed records
-mixing = (refl, refl, refl, refl, refl, refl)
+mixing = (refl, refl, refl, refl, refl, refl, refl)
 
 -- the same stage is replaced, a third side comes between two; both go on to the output's room
 replacing :
