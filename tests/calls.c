@@ -909,6 +909,9 @@ static void put_wrong_fields(void)
     given.fields.stage = 4;
     refuse("a wrong stage", NERUPAZHIL_ENTRY_FLAGS, 0);
     begin(PUT);
+    given.fields.stage = 1;
+    refuse("a stage beside stage 0", NERUPAZHIL_ENTRY_ORDER, 0);
+    begin(PUT);
     given.fields.intent_to_add = 7;
     given.asked = NERUPAZHIL_VERSION_2;
     refuse("a flag that needs version 3", NERUPAZHIL_NEEDS_VERSION_3, 0);

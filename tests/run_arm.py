@@ -207,6 +207,8 @@ RECORDS = (
     ("100755", OBJECT, "a"),
     ("120000", OBJECT, "new/in/folder"),
     ("160000", OBJECT, "conflict", "2"),
+    ("100644", OBJECT, "conflict"),
+    ("100644", OBJECT, "a", "1"),
     ("100644", OBJECT, ".git"),
     ("100600", OBJECT, "a"),
     ("100644", OBJECT),

@@ -333,10 +333,10 @@ def put_vectors(report: Report, program: str, folder: str, session: Session) -> 
 
 def put_records(report: Report, name: str, index: Index, session: Session) -> None:
     """Puts records one after another and compares the file with the expected one: new ones, one in place of another, a
-    stage, and names that a command line can hold but a listing escapes."""
+    stage, and names that a command line can hold but a listing escapes. A stage beside stage 0 is refused."""
     read = index_reader.read(index.data)
     asked = 4 if read.version == 4 else LOWEST
-    rows = [new_entry(b"!first"), new_entry(b"saw/cut.txt", EXECUTABLE), new_entry(b"saw/cut.txt", LINK, 2)]
+    rows = [new_entry(b"!first"), new_entry(b"saw/cut.txt", EXECUTABLE), new_entry(b"saw/conflict.txt", LINK, 2)]
     rows.append(new_entry(b"\xff\n\\", GITLINK))
     rows += [new_entry(entry.name, REGULAR, entry.stage) for entry in read.entries[:1]]
     data = index.data
@@ -345,6 +345,11 @@ def put_records(report: Report, name: str, index: Index, session: Session) -> No
         data = expected(session, data, asked, entry)
         report.same(f"{name}: put of {entry.name[:WIDTH]!r}", Done(0, b"", b""), done)
         report.same(f"{name}: the file after it", data, load(index.path))
+    for path, stage in (("saw/cut.txt", "2"), ("saw/conflict.txt", "0")):
+        told = b"put: %s: refused 11 at 0: " % os.fsencode(index.path)
+        done = index.put(path, "100644", stage)
+        report.test(f"{name}: put of {path} {stage} is refused", done.status == 1 and done.err.startswith(told), done)
+        report.same(f"{name}: the file after that", data, load(index.path))
     out = run(build_c.path_of("list"), index.path).out
     report.same(f"{name}: listed after the puts", index_reader.listing(data, FILE_LIMIT), out)
     index.data = data
@@ -367,6 +372,7 @@ def refusals(report: Report, make) -> None:
     index = make()
     rows = [(7, {"mode": "100600"}), (7, {"mode": "0"}), (7, {"mode": "37777777777"}), (8, {"stage": "4"})]
     rows += [(8, {"stage": "4294967295"})]
+    rows += [(11, {"stage": stage}) for stage in ("1", "2", "3")]
     rows += [(9, {"name": name}) for name in ("", "/a", "a/", "a//b", "a/../b", ".git", "a/.git/b", "n" * 8193)]
     for number, changes in rows:
         done = index.put(**{"name": "a", **changes})

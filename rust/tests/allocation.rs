@@ -53,7 +53,7 @@ fn calls_with_buffers_allocate_nothing() {
             undo_record(kind, file, work, 0).unwrap();
             let _ = walk(kind, file, work).map(Iterator::count);
             rewrite(kind, file, work, out, Version::V4).unwrap();
-            put(kind, file, work, out, Version::V4, b"new", &fields).unwrap();
+            put(kind, file, work, out, Version::V4, b"newer", &fields).unwrap();
             remove(kind, file, work, out, Version::V4, b"plan", 0).unwrap();
             sha1(file);
             sha256(file);

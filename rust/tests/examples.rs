@@ -125,7 +125,7 @@ fn put_saves_a_record() {
         let file = stored(&format!("real/{name}"));
         let scene = Scene::new(&format!("put-{name}"), &file);
         fs::set_permissions(&scene.index, fs::Permissions::from_mode(0o640)).unwrap();
-        let output = scene.put(&["100644", OBJECT, "saw/cut.txt", "2"]);
+        let output = scene.put(&["100644", OBJECT, "saw/conflict.txt", "2"]);
         assert_eq!((text(&output.stderr), output.status.code()), ("", Some(0)));
 
         let index = Index::read(&file).unwrap();
@@ -134,7 +134,7 @@ fn put_saves_a_record() {
             ..regular(Kind::Sha1)
         };
         let version = index.summary().version_kept();
-        let expected = index.with(b"saw/cut.txt", &fields, version);
+        let expected = index.with(b"saw/conflict.txt", &fields, version);
         assert_eq!(Ok(fs::read(&scene.index).unwrap()), expected);
         let mode = fs::metadata(&scene.index).unwrap().permissions().mode();
         assert_eq!(mode & 0o777, 0o640);

@@ -141,20 +141,46 @@ fn put_and_remove_change_one_entry() {
     }
 }
 
-/// The same name and stage is replaced, another stage is another entry.
+/// The same name and stage is replaced, another stage of a conflict is another entry.
 #[test]
 fn put_replaces_by_name_and_stage() {
     let (work, out) = (&mut [0; WORKSPACE], &mut [0; 4096]);
-    let file = stored("real/v2-committed");
-    for (stage, entries) in [(0, 20), (1, 21)] {
+    let file = stored("real/v2-conflict");
+    for (name, stage, entries) in [
+        (&b"d/same"[..], 0, 19),
+        (b"d/both", 2, 19),
+        (b"d/ours-gone", 2, 20),
+        (b"new", 1, 20),
+    ] {
         let fields = Fields {
             stage,
             ..regular(Sha1)
         };
-        let file = put(Sha1, &file, work, out, Version::V2, b"a/b", &fields).unwrap();
+        let file = put(Sha1, &file, work, out, Version::V2, name, &fields).unwrap();
         let records = Records::of(Sha1, file).entries;
         assert_eq!(records.len(), entries);
-        assert!(records.contains(&(b"a/b".to_vec(), fields)));
+        assert!(records.contains(&(name.to_vec(), fields)));
+    }
+}
+
+/// Stage 0 and another stage of a name do not come together.
+#[test]
+fn put_does_not_mix_stages() {
+    let (work, out) = (&mut [0; WORKSPACE], &mut [0xee; 4096]);
+    let file = stored("real/v2-conflict");
+    for (name, stage) in [
+        (&b"d/both"[..], 0),
+        (b"new", 0),
+        (b"d/same", 1),
+        (b"d/same", 3),
+    ] {
+        let fields = Fields {
+            stage,
+            ..regular(Sha1)
+        };
+        let refused = put(Sha1, &file, work, out, Version::V2, name, &fields).unwrap_err();
+        assert_eq!((refused.number(), refused.place()), (11, 0));
+        assert!(out.iter().all(|&byte| byte == 0xee));
     }
 }
 
