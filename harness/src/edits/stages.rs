@@ -225,25 +225,25 @@ fn with_fault(layout: &mut Layout, at: usize, number: u32) -> Vec<u8> {
         _ => unreachable!("flags have two bytes"),
     };
     let version = layout.version;
-    let (field, bytes): (Field, &[u8]) = match number {
+    let (field, bytes) = match number {
         // The entry lacks its last byte, and nothing is behind it.
         6 => {
             let entry = part(layout, Field::Entry);
             let end = layout.place(entry) + layout.part(entry).len();
             return layout.body()[..end - 1].to_vec();
         }
-        7 => (Field::Mode, &[0, 0, 0, 1]),
-        8 if version == 2 => (Field::Flags, &[high | 0x40, low]),
-        8 => (Field::Word, &[0x80, 0]),
+        7 => (Field::Mode, vec![0, 0, 0, 1]),
+        8 if version == 2 => (Field::Flags, vec![high | 0x40, low]),
+        8 => (Field::Word, vec![0x80, 0]),
         // The name is the same, and the field is not its length. In versions 2 and 3 it then ends at a NUL.
-        9 if version == 4 => (Field::Flags, &[high, low + 1]),
-        9 => (Field::Flags, &[high | 0x0f, 0xff]),
-        _ if version == 4 => (Field::Offset, &[0x7f]),
-        _ => (Field::Padding, &[1]),
+        9 if version == 4 => (Field::Flags, vec![high, low + 1]),
+        9 => (Field::Flags, vec![high | 0x0f, 0xff]),
+        _ if version == 4 => (Field::Offset, vec![0x7f]),
+        _ => (Field::Padding, vec![1]),
     };
     let part = part(layout, field);
     let mut new = layout.part(part);
-    new[..bytes.len()].copy_from_slice(bytes);
+    new[..bytes.len()].copy_from_slice(&bytes);
     layout.replace(part, &new);
     layout.body()
 }
