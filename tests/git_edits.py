@@ -12,6 +12,10 @@ Each file is listed and held against Git as git_files does it. Then, with a copy
     after a put the entries, valid nodes and bytes are those that 'git update-index --cacheinfo' leaves, after a remove
     those of '--force-remove', and Git goes on: it adds, refreshes, removes and writes the same tree;
 
+    a put that would bring stage 0 together with another stage of a name is refused. Git takes the stages of a conflict out
+    where it puts stage 0; a stage above 0 it puts beside stage 0 ('update-index --index-info'), which its fsck then refuses
+    to read, as the library does;
+
     with zeros in place of its checksum, as Git 2.40 and later write it with index.skipHash, the file is listed, rewritten
     and edited as with its checksum, and Git sees the same in both.
 
@@ -139,10 +143,24 @@ def below(names: list, path: bytes) -> bool:
     return any(name.startswith(path + b"/") for name in names)
 
 
+def new_entry(rng: random.Random, name: bytes, stage: int, object_name: bytes) -> Entry:
+    return Entry(*(0,) * 6, rng.choice(MODES), 0, 0, 0, object_name, False, stage, False, False, name)
+
+
+def settled(index: Index) -> list:
+    """The names at stage 0."""
+    return [entry.name for entry in index.entries if entry.stage == 0]
+
+
+def in_conflict(index: Index) -> list:
+    """The names at other stages."""
+    return sorted({entry.name for entry in index.entries if entry.stage})
+
+
 def draw_put(rng: random.Random, index: Index, object_name: bytes) -> Entry:
-    """An entry that Git would put without a conflict of file and directory, and without taking other stages out."""
+    """An entry that Git would put without a conflict of file and directory, and that has no other stage than it may."""
     names = [entry.name for entry in index.entries]
-    stages = {entry.name for entry in index.entries if entry.stage}
+    taken = {0: in_conflict(index), 1: settled(index)}
     emptied = [path for path in node_table(index) or () if path and not below(names, path)]
     while True:
         base = rng.choice(names + [b"new/file"])
@@ -150,11 +168,11 @@ def draw_put(rng: random.Random, index: Index, object_name: bytes) -> Entry:
         new = b"put-%d" % rng.randrange(100)
         name = rng.choice([base, base, folder + new, folder + new + b"/file", new, new + b"/file"] + emptied)
         stage = rng.choice((0, 0, 0, 1, 2, 3))
-        if stage and name in names or name in stages:
+        if name in taken[min(stage, 1)]:
             continue
         folders = {name[:at] for at in range(len(name)) if name[at] == ord("/")}
         if not folders & set(names) and not below(names, name):
-            return Entry(*(0,) * 6, rng.choice(MODES), 0, 0, 0, object_name, False, stage, False, False, name)
+            return new_entry(rng, name, stage, object_name)
 
 
 def put(snapshot: Snapshot, repository: Repository, entry: Entry, call, report: Report) -> None:
@@ -163,14 +181,41 @@ def put(snapshot: Snapshot, repository: Repository, entry: Entry, call, report: 
     answer = call(Request("put", snapshot.data, asked, ROOM, entry))
     if not report.test(name, answer[0] == "done", answer[:3]):
         return
-    repository.install(snapshot.data)
-    row = b"%o %s %d\t%s\0" % (entry.mode, entry.object.hex().encode(), entry.stage, entry.name)
+    against_git(name, repository, answer[1], put_by_git(repository, snapshot.data, entry), entry.name, report)
+
+
+def put_by_git(repository: Repository, index: bytes, entry: Entry) -> bytes:
+    """The index with an entry that Git puts."""
+    repository.install(index)
+    object_name = entry.object.hex().encode()
     if entry.stage:
+        row = b"%o %s %d\t%s\0" % (entry.mode, object_name, entry.stage, entry.name)
         repository.git("update-index", "-z", "--index-info", given=row)
     else:
-        cache_info = b"%o,%s,%s" % (entry.mode, entry.object.hex().encode(), entry.name)
-        repository.git("update-index", "--add", "--cacheinfo", cache_info)
-    against_git(name, repository, answer[1], repository.index(), entry.name, report)
+        repository.git("update-index", "--add", "--cacheinfo", b"%o,%s,%s" % (entry.mode, object_name, entry.name))
+    return repository.index()
+
+
+def mixing(snapshot: Snapshot, repository: Repository, rng: random.Random, call, report: Report) -> None:
+    """Puts stage 0 beside the stages of a conflict, and another stage beside stage 0: both are refused."""
+    index = read(repository, snapshot.data)
+    object_name = bytes.fromhex(repository.blob().decode())
+    asked = 4 if snapshot.data[7] == 4 else 0
+    for names, stage in ((in_conflict(index), 0), (settled(index), rng.randint(1, 3))):
+        if not names:
+            continue
+        entry = new_entry(rng, rng.choice(names), stage, object_name)
+        name = f"{snapshot.name}: mixing put {entry.name[:40]!r} {stage}"
+        report.same(name, ("refused", 11, 0), call(Request("put", snapshot.data, asked, ROOM, entry)))
+        theirs = put_by_git(repository, snapshot.data, entry)
+        if stage == 0:
+            stages = [other.stage for other in read(repository, theirs).entries if other.name == entry.name]
+            report.same(f"{name}, stages that Git leaves", [0], stages)
+            continue
+        answer = index_reader.check(theirs, kind=repository.kind)
+        report.same(f"{name}, what Git writes", ("refused", 11), answer[:2])
+        done = repository.run("fsck")
+        report.test(f"{name}, fsck", done.returncode == 128 and git_files.MIXED in done.stderr, done.stderr)
 
 
 def remove(snapshot: Snapshot, repository: Repository, path: bytes, call, report: Report) -> None:
@@ -280,6 +325,7 @@ def compare(snapshot: Snapshot, root: str, call, report: Report) -> None:
             entry = draw_put(rng, index, object_name)
             put(snapshot, repository, entry, call, report)
             requests.append(Request("put", snapshot.data, 4, ROOM, entry))
+        mixing(snapshot, repository, rng, call, report)
         if index.entries:
             entry = rng.choice(index.entries)
             remove(snapshot, repository, entry.name, call, report)

@@ -251,6 +251,116 @@ def conflicts(root: str, version: int, kind: Kind):
     yield repository.snapshot("three-unresolved", extensions=(b"TREE", b"REUC"))
 
 
+LONG = "".join(f"line {k}\n" for k in range(20))  # enough for Git to know a file by its contents
+
+# Paths on the common base and on two branches, main and side, whose merge has a conflict of every kind. None is no file, a
+# text is a file; other modes are given with the text, and that of a submodule with a digit of its commit.
+CONFLICTS = (
+    ("modified", "base\n", "main\n", "side\n"),
+    ("deleted-on-main", "base\n", None, "side\n"),
+    ("deleted-on-side", "base\n", "main\n", None),
+    ("added", None, "main\n", "side\n"),
+    # renamed on both to different names
+    ("one", "one\n" + LONG, None, None),
+    ("one-main", None, "one\n" + LONG, None),
+    ("one-side", None, None, "one\n" + LONG),
+    # two files renamed to one name
+    ("two-a", "two\n" + LONG, None, "two\n" + LONG),
+    ("two-b", LONG + "two\n", LONG + "two\n", None),
+    ("two", None, "two\n" + LONG, LONG + "two\n"),
+    # renamed and deleted; renamed to a name that is added
+    ("three", "three\n" + LONG, None, None),
+    ("three-main", None, "three\n" + LONG, None),
+    ("four", "four\n" + LONG, None, "four\n" + LONG),
+    ("four-main", None, "four\n" + LONG, "side\n"),
+    # a file and a directory
+    ("five", None, "main\n", None),
+    ("five/in", None, None, "side\n"),
+    # modes and submodules
+    ("mode", "base\n", (0o100755, "main\n"), "side\n"),
+    ("type", "base\n", "main\n", (0o120000, "side")),
+    ("module", (0o160000, "1"), (0o160000, "2"), (0o160000, "3")),
+    ("module-or-file", None, (0o160000, "2"), "side\n"),
+)
+
+
+def branches(repository: Repository) -> None:
+    """Commits the three columns of CONFLICTS: tags the base and makes the branches. The branch main is checked out."""
+
+    def row(path: str, content) -> bytes:
+        mode, text = content if isinstance(content, tuple) else (0o100644, content)
+        name = text.encode() * 2 * repository.kind.width
+        if mode != 0o160000:
+            name = repository.git("hash-object", "-w", "--stdin", given=text.encode()).strip()
+        return b"%o %s 0\t%s\0" % (mode, name, path.encode())
+
+    base = ()
+    for column, reference in enumerate(("refs/tags/base", "refs/heads/main", "refs/heads/side"), 1):
+        rows = (row(line[0], line[column]) for line in CONFLICTS if line[column] is not None)
+        repository.git("read-tree", "--empty")
+        repository.git("update-index", "-z", "--index-info", given=b"".join(rows))
+        tree = repository.git("write-tree", "--missing-ok").strip()
+        commit = repository.git("commit-tree", *base, "-m", reference, tree).strip()
+        repository.git("update-ref", reference, commit)
+        base = base or ("-p", commit)
+    repository.git("reset", "-q", "--hard")
+
+
+# Commands that leave conflicts, on a branch or tag; the last ones with a change of the worktree.
+MERGING = (
+    ("merge", "main", ("merge", "-q", "side")),
+    ("merge-recursive", "main", ("merge", "-q", "-s", "recursive", "side")),
+    ("merge-resolve", "main", ("merge", "-q", "-s", "resolve", "side")),
+    ("merge-other-way", "side", ("merge", "-q", "main")),
+    ("read-tree", "main", ("read-tree", "-m", "base", "main", "side")),
+    ("cherry-pick", "main", ("cherry-pick", "side")),
+    ("revert", "side", ("revert", "--no-edit", "main")),
+    ("rebase", "main", ("rebase", "-q", "side")),
+    ("checkout", "base", ("checkout", "-q", "-m", "side")),
+    ("stash", "base", ("stash", "apply", "-q")),
+)
+
+
+def merges(root: str, version: int, kind: Kind):
+    """Conflicts of every kind, as each command leaves them, then with resolutions that are recorded and used again."""
+    repository = Repository(root, f"merges-{version}", version, kind)
+    branches(repository)
+    for name, start, command in MERGING:
+        go_to(repository, start)
+        if start == "base":
+            repository.write("modified", "worktree\n")
+        if name == "stash":
+            repository.git("stash", "-q")
+            go_to(repository, "side")
+        yield unmerged(repository, name, *command)
+        repository.git("rebase", "--abort", may_fail=True)
+    go_to(repository, "side")
+    patch = repository.git("diff", "--full-index", "base", "main", "--", "modified", "added")
+    yield unmerged(repository, "apply", "apply", "--3way", given=patch)
+    repository.git("config", "rerere.enabled", "true")
+    repository.git("config", "rerere.autoUpdate", "true")
+    for name in ("recorded", "recorded-and-used"):
+        go_to(repository, "main")
+        yield unmerged(repository, name, "merge", "-q", "side")
+        repository.write("modified", "resolved\n")
+        repository.git("rerere")
+
+
+def go_to(repository: Repository, name: str) -> None:
+    """Checks out a branch or tag without what was left by a conflict."""
+    repository.git("reset", "-q", "--hard")
+    repository.git("clean", "-q", "-f", "-f", "-d", "-x")
+    repository.git("checkout", "-q", "--detach", name)
+
+
+def unmerged(repository: Repository, name: str, *command: str, given: bytes = b"") -> Snapshot:
+    """The index after a command that leaves conflicts."""
+    done = repository.run(*command, given=given)
+    if not repository.git("ls-files", "--unmerged"):
+        raise RuntimeError(f"{repository.name}: git {command} leaves no conflict: {done.returncode} {done.stderr}")
+    return repository.snapshot(name)
+
+
 def stages(root: str, version: int, kind: Kind):
     """Every set of the stages 1 to 3, put straight into the index, then resolved."""
     repository = Repository(root, f"stages-{version}", version, kind)
@@ -388,22 +498,48 @@ def refused_kinds(root: str, version: int, kind: Kind):
     yield repository.snapshot("sparse-checkout", extensions=(b"TREE",))
 
 
+MIXED = b"fatal: multiple stage entries for merged file"  # what fsck of Git 2.39 says, with the name
+
+
+def mixed_stages(root: str, version: int, kind: Kind):
+    """A name at stage 0 and at others: the library refuses it. Git writes it without a word where 'update-index --index-info'
+    puts a stage above 0 beside stage 0, and lists it. Of its commands only fsck refuses to read it; to the others it is a
+    conflict, and write-tree finds it unmerged."""
+    repository = Repository(root, f"mixed-stages-{version}", version, kind)
+    for others in ((1,), (2,), (3,), (1, 2, 3)):
+        repository.git("read-tree", "--empty")
+        for stage in (0, *others):
+            repository.put([(0o100644, stage, b"a")])
+        name = "-".join(map(str, (0, *others)))
+        yield repository.snapshot(name, refusal=11)
+        listed = [int(row.stage) for row in rows_of_git(repository.git("ls-files", "--stage", "-z"))]
+        if listed != [0, *others]:
+            raise RuntimeError(f"{name}: git ls-files shows stages {listed}")
+        expect(repository, 128, b"a: unmerged", "write-tree")
+        expect(repository, 128, MIXED + b" 'a'\n", "fsck")
+
+
 def objections(root: str, version: int, kind: Kind):
-    """Files that the library accepts and Git lists, and then objects to: the format's documents do not rule them out."""
+    """Files that Git lists, and then objects to. The library accepts a file beside a directory of its name, which the
+    format's documents do not rule out; of a name twice at stage 0 even write-tree of Git makes a tree."""
     repository = Repository(root, f"objections-{version}", version, kind)
     make = Maker(kind)
     blob = bytes.fromhex(repository.blob().decode())
     first = Record(b"a", object=blob)
-    cases = (
-        ("file-and-directory", Record(b"a/b", object=blob), "write-tree", b"both a and a/b"),
-        ("stages-0-and-2", Record(b"a", 2, object=blob), "fsck", b"multiple stage entries"),
-    )
-    for name, second, command, words in cases:
-        repository.install(make.with_checksum(make.compose(version, [first, second]).body))
-        yield repository.snapshot(name)
-        result = repository.run(command)
-        if result.returncode == 0 or words not in result.stderr:
-            raise RuntimeError(f"{name}: git {command} answers {result.returncode} {result.stderr}")
+    repository.install(make.with_checksum(make.compose(version, [first, Record(b"a/b", object=blob)]).body))
+    yield repository.snapshot("file-and-directory")
+    expect(repository, 128, b"both a and a/b", "write-tree")
+    repository.install(make.with_checksum(make.compose(version, [first, first]).body))
+    yield repository.snapshot("stage-0-twice", refusal=11)
+    expect(repository, 128, MIXED + b" 'a'\n", "fsck")
+    expect(repository, 0, b"", "write-tree")
+
+
+def expect(repository: Repository, status: int, words: bytes, *command: str) -> None:
+    """Sees that Git ends a command with this status and has these words in its error output."""
+    done = repository.run(*command)
+    if done.returncode != status or words not in done.stderr:
+        raise RuntimeError(f"{repository.name}: git {command} answers {done.returncode} {done.stderr}")
 
 
 def walks(root: str, version: int, kind: Kind):
@@ -427,7 +563,10 @@ def walks(root: str, version: int, kind: Kind):
         yield repository.snapshot(f"step-{step}")
 
 
-GIT_SCENES = (everyday, conflicts, stages, names, links, trees, extensions, refused_kinds, walks)  # Git makes the files
+# Git makes the files of all but the last.
+GIT_SCENES = (
+    everyday, conflicts, merges, stages, mixed_stages, names, links, trees, extensions, refused_kinds, walks,
+)
 SCENES = GIT_SCENES + (objections,)
 
 

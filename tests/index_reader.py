@@ -131,13 +131,20 @@ def read_entries(body: bytes, kind: Kind, version: int, count: int):
     while len(found) < count:
         previous = found[-1] if found else None
         entry, after = read_entry(body, kind, version, at, previous.name if previous else b"")
-        # Bytes compare as unsigned numbers, and a proper beginning comes first.
-        if previous and (previous.name, previous.stage) >= (entry.name, entry.stage):
+        if previous and not may_follow(previous, entry):
             raise Refused(11, at)
         found.append(entry)
         places.append(at)
         at = after
     return found, places, at
+
+
+def may_follow(previous: Entry, entry: Entry) -> bool:
+    """The order of entries. A name is there at stage 0 alone, or at some of 1 to 3, which rise."""
+    if previous.name == entry.name:
+        return 0 < previous.stage < entry.stage
+    # Bytes compare as unsigned numbers, and a proper beginning comes first.
+    return previous.name < entry.name
 
 
 def read_entry(body: bytes, kind: Kind, version: int, place: int, previous_name: bytes):

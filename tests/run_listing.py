@@ -21,6 +21,7 @@ import make_files
 from report import SECONDS, WIDTH, Program, ProgramFailed, Report, difference
 
 VECTORS = os.path.join(os.path.dirname(os.path.abspath(__file__)), "vectors")
+OWN_TABLE = ("left-out", "stages")  # the folders of SHA-1 files with an expected.tsv of their own
 
 # The listing that document 01 prints whole, for the file document/listing-example.
 EXAMPLE = b"""\
@@ -76,8 +77,10 @@ def answers(folder: str = "") -> dict:
 
 def vectors():
     """The stored vectors with SHA-1 names. Each has a row in an expected.tsv; a file without one is an error."""
-    rows = {**answers(), **answers("left-out")}
-    folders = ("made", "real", "left-out")
+    rows = answers()
+    for folder in OWN_TABLE:
+        rows.update(answers(folder))
+    folders = ("made", "real", *OWN_TABLE)
     files = {f"{folder}/{name}" for folder in folders for name in os.listdir(os.path.join(VECTORS, folder))}
     indexes = {name for name in files if name.endswith(".index")}
     if indexes != set(rows):

@@ -9,6 +9,7 @@ line is 'N passed, M failed', and the exit status is 0 only where M is 0.
 import contextlib
 import hashlib
 import io
+import itertools
 import os
 import shlex
 import shutil
@@ -122,6 +123,7 @@ def hand_written(report: Report) -> None:
     listed = {file.name: file.data for file in make_cases.document_cases()}
     report.same("listing example, as made", example, listed["document/listing-example"])
     left_out_by_hand(empty, example, report)
+    stages_by_hand(a, report)
 
     undo = b"plan\x00100644\x000\x00100644\x00" + b"\x44" * 20 + b"\x66" * 20
     report.same("resolve undo: length", 61, len(undo))
@@ -174,6 +176,16 @@ def left_out_by_hand(empty: bytes, example: bytes, report: Report) -> None:
         report.same(f"listing example, byte {at} alone", b"refused 5 at 148\n", index_reader.listing(bytes(wrong)))
     matching = Kind(1, "zeros", 20, lambda _: types.SimpleNamespace(digest=lambda: zeros))
     report.same("a checksum that is zeros matches", answer[:-1], index_reader.check(empty[:12] + zeros, kind=matching))
+
+
+def stages_by_hand(entry: bytes, report: Report) -> None:
+    """The entry of the name a twice, at any two stages: the flags are its bytes 60 and 61."""
+    for first, second in itertools.product(range(4), repeat=2):
+        both = b"".join(entry[:60] + bytes([stage << 4, 1]) + entry[62:] for stage in (first, second))
+        body = bytes.fromhex("44495243 00000002 00000002") + both
+        good = (first, second) in ((1, 2), (1, 3), (2, 3))
+        answer = ("accepted", 2, 2, 140, None, None) if good else ("refused", 11, 76)
+        report.same(f"stages {first} and {second}", answer, index_reader.check(body + hashlib.sha1(body).digest()))
 
 
 def hand_written_sha256(report: Report) -> None:

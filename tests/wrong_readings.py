@@ -3,12 +3,13 @@
 A row says what is wrong, the text that is there, and the text in its place.
 """
 
+STAGES = "0 < previous.stage < entry.stage"  # of two entries of one name
+
 EDITS = (
     # document 01, "Easy errors"
     ("padding of 0 to 7 bytes", "8 * ((at - place + len(name)) // 8) + 8", "8 * ((at - place + len(name) + 7) // 8)"),
     ("the plain base-128 number for N", "(first - 128 + 1) * 128", "(first - 128) * 128"),
-    ("order by components", "(previous.name, previous.stage) >= (entry.name, entry.stage)",
-     "(previous.name.split(b'/'), previous.stage) >= (entry.name.split(b'/'), entry.stage)"),
+    ("order by components", "previous.name < entry.name", "previous.name.split(b'/') < entry.name.split(b'/')"),
     ("the checksum serves as entry bytes", "read_entries(body, kind", "read_entries(data, kind"),
     ("an object name after a negative count", "subtrees, cursor.object(valid)", "subtrees, cursor.object(True)"),
     # sizes
@@ -67,11 +68,18 @@ EDITS = (
     ("N of three bytes", "if second >= 128:", "if False:"),
     ("N above the previous length", "remove > previous_length", "remove > previous_length + 1"),
     ("N of the previous length refused", "remove > previous_length", "remove >= previous_length > 0"),
-    ("equal entries", "previous.stage) >= (", "previous.stage) > ("),
-    ("order by name alone", "(previous.name, previous.stage) >= (entry.name, entry.stage)",
-     "previous.name >= entry.name"),
-    ("order by name, stages free", "(previous.name, previous.stage) >= (entry.name, entry.stage)",
-     "previous.name > entry.name"),
+    ("equal entries", STAGES, "0 < previous.stage <= entry.stage"),
+    ("order by name alone", STAGES, "False"),
+    ("order by name, stages free", STAGES, "True"),
+    ("stages above 0 in any order", STAGES, "0 < previous.stage"),
+    ("stages without a gap", STAGES, "0 < previous.stage == entry.stage - 1"),
+    ("stage 0 and another stage of a name", STAGES, "previous.stage < entry.stage"),
+    ("stage 0 and 1 of a name", STAGES, f"{STAGES} or (previous.stage, entry.stage) == (0, 1)"),
+    ("stage 0 and 2 of a name", STAGES, f"{STAGES} or (previous.stage, entry.stage) == (0, 2)"),
+    ("stage 0 and 3 of a name", STAGES, f"{STAGES} or (previous.stage, entry.stage) == (0, 3)"),
+    ("stage 0 twice", STAGES, f"{STAGES} or (previous.stage, entry.stage) == (0, 0)"),
+    ("stage 0 behind the others", STAGES, "0 < previous.stage < (entry.stage or 4)"),
+    ("place of 11 at the entry before", "Refused(11, at)", "Refused(11, places[-1])"),
     # extensions
     ("extension one byte past the body", "if at > len(body)", "if at > len(body) + 1"),
     ("13 before 12", "if at > len(body)", "if at > len(body) and 65 <= signature[0] <= 90"),

@@ -20,7 +20,7 @@ pub fn file(name: &str) -> Vec<u8> {
 /// All of `tests/vectors` with object names of a kind.
 pub fn all(kind: Kind) -> Vec<Vector> {
     let folders: &[&str] = match kind {
-        Kind::Sha1 => &["", "left-out"],
+        Kind::Sha1 => &["", "left-out", "stages"],
         Kind::Sha256 => &["sha256"],
     };
     let vectors = folders.iter().map(|name| of(&folder().join(name)));

@@ -403,6 +403,10 @@ fn the_order_of_a_requests_refusals() {
         assert_eq!(put(2, b"", bad), Err(7));
         assert_eq!(put(2, b"", Fields { stage: 4, ..word }), Err(8));
         assert_eq!(put(2, b"", word), Err(9));
+        let staged = Fields { stage: 1, ..fields };
+        assert_eq!(put(1, b"a", staged), Err(4));
+        assert_eq!(put(2, b"a", staged), Err(11));
+        assert_eq!(put(2, b"b", staged), Err(21));
         assert_eq!(put(2, b"b", fields), Err(21));
         assert_eq!(put(2, b"a", fields), put(0, b"a", fields));
         assert_eq!(rewrite(kind, &file, 0), Ok(file.clone()));
@@ -411,6 +415,35 @@ fn the_order_of_a_requests_refusals() {
         assert_eq!(remove(2, b"a", 9), Err(18));
         assert_eq!(remove(2, b"a", 0), Ok(index(kind, 2, &[])));
         assert_eq!(remove(3, b"a", 0), Ok(index(kind, 3, &[])));
+    }
+}
+
+/// Stage 0 and another stage of a name cannot be together; the other three can.
+#[test]
+fn puts_of_stages() {
+    let at = |kind, stage| Fields {
+        stage,
+        ..list_entry(kind)
+    };
+    for kind in Kind::ALL {
+        for version in 2..=4 {
+            let put = |file: &[u8], stage| put(kind, file, version, b"a", at(kind, stage));
+            let settled = index(kind, version, &[b"a"]);
+            assert_eq!(put(&settled, 0), Ok(settled.clone()));
+            for stage in 1..=3 {
+                assert_eq!(put(&settled, stage), Err(11));
+                assert_eq!(remove(kind, &settled, version, b"a", stage), Err(18));
+            }
+            let mut conflict = index(kind, version, &[]);
+            for stage in [3, 1, 2] {
+                conflict = put(&conflict, stage).unwrap();
+                assert_eq!(put(&conflict, stage), Ok(conflict.clone()));
+                assert_eq!(put(&conflict, 0), Err(11));
+                assert_eq!(remove(kind, &conflict, version, b"a", 0), Err(18));
+            }
+            let stages = (0..3).map(|k| entry(kind, &conflict, k).0.stage);
+            assert_eq!(stages.collect::<Vec<_>>(), [1, 2, 3]);
+        }
     }
 }
 

@@ -15,7 +15,7 @@
 
 use harness::comparison::{Comparison, Reply};
 use harness::inputs::requests::{self, Call};
-use harness::inputs::{self, Input, Shape};
+use harness::inputs::{self, Input, Known, Shape, ORDER, WRONG_CHECKSUM};
 use harness::kind::{Kind, UNKNOWN};
 use harness::lent::{Edge, Place};
 use harness::random::Random;
@@ -36,8 +36,6 @@ use std::time::Instant;
 const REFUSALS: [u32; 23] = [
     0, 1, 2, 3, 4, 5, 6, 7, 8, 9, 10, 11, 12, 13, 14, 15, 16, 17, 18, 19, 20, 21, 29,
 ];
-/// The refusal of a checksum.
-const WRONG_CHECKSUM: u32 = 5;
 /// A run of the given number of inputs or more must meet every refusal.
 const COVERING: u64 = 10_000;
 /// How many failures of a thread are told in full.
@@ -367,6 +365,7 @@ impl Questions {
     fn both(&mut self, call: &Call, work: usize, room: usize) -> Result<Reply, String> {
         let reply = self.comparison.both(self.kind.number(), call, work, room)?;
         self.counts.call(reply.refusal())?;
+        self.counts.mixing += u64::from(mixes(&reply));
         Ok(reply)
     }
 }
@@ -374,22 +373,23 @@ impl Questions {
 /// Sees that check answers what is known of an input.
 fn expected_of(input: &Input, checked: &CheckReply) -> Result<(), String> {
     let left_out = input.kind.is_left_out(&input.bytes);
-    let right = match (checked.refusal, input.shape) {
-        (0, Shape::NearlyLeftOut) => false,
-        (0, _) => checked.checksum_left_out == left_out,
-        (number, Shape::NearlyLeftOut) => {
-            let place = input.bytes.len() - input.kind.width();
-            (number, checked.place) == (WRONG_CHECKSUM, place)
-        }
-        (number, _) => !input.sound && !(number == WRONG_CHECKSUM && left_out),
+    let right = match (input.known, checked.refusal) {
+        (Known::Refused(number, place), _) => (checked.refusal, checked.place) == (number, place),
+        (_, 0) => checked.checksum_left_out == left_out,
+        (known, number) => known == Known::Nothing && !(number == WRONG_CHECKSUM && left_out),
     };
     match right {
         true => Ok(()),
         false => Err(format!(
-            "{:?}, checksum left out {left_out}: {checked:?}",
-            input.shape
+            "{:?}, {:?}, checksum left out {left_out}: {checked:?}",
+            input.shape, input.known
         )),
     }
+}
+
+/// Whether a put was refused since it would bring stage 0 together with another: 11 of a file has another place.
+fn mixes(reply: &Reply) -> bool {
+    matches!(reply, Reply::Write(reply) if (reply.refusal, reply.place) == (ORDER, 0))
 }
 
 // ---- what was met
@@ -399,6 +399,8 @@ struct Counts {
     failed: u64,
     /// How many inputs were accepted whose checksum was left out.
     left_out: u64,
+    /// How many puts would have brought stage 0 together with another stage of a name.
+    mixing: u64,
     /// How many inputs of each kind and shape there were, and how many of these were accepted.
     inputs: BTreeMap<(Kind, Shape), (u64, u64)>,
     refusals: BTreeMap<u32, u64>,
@@ -416,6 +418,7 @@ impl Counts {
     fn add(&mut self, other: Self) {
         self.failed += other.failed;
         self.left_out += other.left_out;
+        self.mixing += other.mixing;
         for (sort, (inputs, accepted)) in other.inputs {
             let (all, sound) = self.inputs.entry(sort).or_default();
             *all += inputs;
@@ -447,6 +450,7 @@ impl Counts {
         }
         let left_out = self.left_out;
         println!("{:>16}  {:>9}  {left_out:>9}  checksum left out", "", "");
+        println!("{:>16}  {:>9}  puts that mix stages", "", self.mixing);
         println!("{:>16}  {:>9}", "refusal", "calls");
         for refusal in REFUSALS {
             println!("{refusal:>16}  {:>9}", self.of(refusal));
@@ -455,15 +459,21 @@ impl Counts {
         println!("{:>16}  {calls:>9}", "all");
     }
 
-    /// How many refusals were not met, or accepted files without a checksum, and tells them.
+    /// How many refusals were not met, or accepted files without a checksum, or puts that mix stages, and tells them.
     fn missed(&self) -> u64 {
         let missed = REFUSALS.iter().filter(|refusal| self.of(**refusal) == 0);
         let refusals = missed
             .inspect(|refusal| println!("FAILED: no call was answered with refusal {refusal}"))
             .count() as u64;
+        let mut others = 0;
         if self.left_out == 0 {
             println!("FAILED: no input was accepted with its checksum left out");
+            others += 1;
         }
-        refusals + u64::from(self.left_out == 0)
+        if self.mixing == 0 {
+            println!("FAILED: no put would bring stage 0 together with another");
+            others += 1;
+        }
+        refusals + others
     }
 }

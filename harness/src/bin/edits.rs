@@ -23,6 +23,10 @@ use std::time::Instant;
 
 /// How many failures are told.
 const TOLD: u64 = 20;
+/// The answer to a put that would bring stage 0 together with another stage of its name.
+const MIXING: Answer = Answer::Refused(11, 0);
+/// Of the given number of drawn files, or more, there must be as many such puts.
+const COVERING: u64 = 100;
 
 fn main() {
     let words: Vec<String> = env::args().skip(1).collect();
@@ -58,7 +62,12 @@ impl Tests {
         for (name, group) in GROUPS {
             self.group(name, group(kind));
         }
-        self.group("drawn", numbers.flat_map(|number| drawn(kind, number)));
+        let (files, mut mixing) = (numbers.end - numbers.start, 0);
+        let cases = numbers.flat_map(|number| drawn(kind, number));
+        let counted = |case: &Case| mixing += u64::from(case.answer == MIXING);
+        self.group("drawn", cases.inspect(counted));
+        println!("drawn: {mixing} puts would mix stages");
+        self.failed += u64::from(files >= COVERING && mixing < files);
         self.group("large", LARGE.iter().flat_map(|group| group(kind)));
     }
 

@@ -43,10 +43,14 @@ pub fn drawn(kind: Kind, number: u64) -> Vec<Case> {
     }
 }
 
-/// An entry to put: one that is there as it is, or another of a name at or near one of the file's.
+/// An entry to put: one that is there, as it is or at any stage, or another of a name at or near one of the file's.
 fn draw_entry(random: &mut Random, before: &Records) -> Entry {
-    if !before.entries.is_empty() && random.one_in(5) {
-        return random.pick(&before.entries).clone();
+    if !before.entries.is_empty() && random.one_in(3) {
+        let mut there = random.pick(&before.entries).clone();
+        if random.one_in(2) {
+            there.stage = random.below(4) as u16;
+        }
+        return there;
     }
     let name = near_name(random, before);
     let stage = *random.pick(&[0, 0, 0, 1, 2, 3]);

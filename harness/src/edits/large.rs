@@ -64,6 +64,9 @@ fn full(kind: Kind) -> Vec<Case> {
     };
     let call = putting(&before, &word).call(2);
     cases.push(refused(kind, "full, 21 before 2", &file, call, 21));
+    let stage = Entry { stage: 1, ..a };
+    let call = putting(&before, &stage).call(2);
+    cases.push(refused(kind, "full, 11 before 2", &file, call, 11));
     let call = removing(&before, b"c", 0).call(4);
     cases.push(refused(kind, "full, 18 before 2", &file, call, 18));
     cases

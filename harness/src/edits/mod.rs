@@ -6,6 +6,7 @@ mod large;
 pub(crate) mod records;
 mod refusals;
 mod results;
+mod stages;
 mod trees;
 
 pub use drawn::drawn;
@@ -25,7 +26,10 @@ use std::sync::Arc;
 const ASKED: [u32; 4] = [0, 2, 3, 4];
 /// The length of a workspace with bytes that stay untouched.
 const WORK: usize = WORKSPACE + 100;
+/// The length of an output that a refusal leaves as it was.
+const UNTOUCHED: usize = 1000;
 
+#[derive(Clone)]
 pub struct Case {
     /// The number of the kind that it is asked with.
     pub kind: u32,
@@ -64,7 +68,7 @@ impl Answer {
 pub type Group = fn(Kind) -> Vec<Case>;
 
 /// The cases without chance, by groups.
-pub const GROUPS: [(&str, Group); 11] = [
+pub const GROUPS: [(&str, Group); 13] = [
     ("document", results::document),
     ("place", results::places),
     ("name", results::names),
@@ -74,6 +78,8 @@ pub const GROUPS: [(&str, Group); 11] = [
     ("checksum", results::checksums),
     ("tree", trees::whole),
     ("part of a tree", trees::parts),
+    ("stage", stages::puts),
+    ("mixed file", stages::files),
     ("order", refusals::orders),
     ("refusal", refusals::limits),
 ];
@@ -126,7 +132,8 @@ fn refused(kind: Kind, name: &str, file: &Arc<Vec<u8>>, call: Call, number: u32)
 // ---- testing a library
 
 impl Case {
-    /// The lengths of outputs to try, and the answers: exactly long enough, longer, and one byte short.
+    /// The lengths of outputs to try, and the answers: exactly long enough, longer, and one byte short; an empty one and
+    /// another where the answer is a refusal.
     pub fn rooms(&self) -> Vec<(usize, Answer)> {
         match (&self.answer, self.room) {
             (answer, Some(room)) => vec![(room, answer.clone())],
@@ -135,7 +142,7 @@ impl Case {
                 (bytes.len() + 9, self.answer.clone()),
                 (bytes.len() - 1, Answer::Refused(20, 0)),
             ],
-            (answer, None) => vec![(0, answer.clone())],
+            (answer, None) => vec![(0, answer.clone()), (UNTOUCHED, answer.clone())],
         }
     }
 

@@ -232,9 +232,12 @@ impl Change {
         self.edit.call(asked)
     }
 
-    /// The one file of the result's records, or 21.
+    /// The one file of the result's records, or 11 or 21.
     pub fn answer(&self, asked: u32) -> Answer {
         let entries = &self.after.entries;
+        if entries.windows(2).any(mixed) {
+            return Answer::Refused(11, 0);
+        }
         let extended = entries.iter().any(|entry| entry.word.unwrap_or(0) != 0);
         let version = match (asked, extended) {
             (2, true) => return Answer::Refused(21, 0),
@@ -244,6 +247,11 @@ impl Change {
         };
         Answer::Written(file(&plainly(version, &self.after)))
     }
+}
+
+/// Whether two entries in their order have one name, the first at stage 0.
+fn mixed(pair: &[Entry]) -> bool {
+    pair[0].name == pair[1].name && pair[0].stage == 0
 }
 
 /// The records without all that their spelling leaves open.

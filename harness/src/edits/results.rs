@@ -30,7 +30,8 @@ fn executable(name: &[u8]) -> Entry {
     entry
 }
 
-/// Puts before, between, after and over the entries, and each entry removed, from every version to every other.
+/// Puts before, between, after and over the entries, stages beside them, and each entry removed, from every version to
+/// every other.
 pub fn places(kind: Kind) -> Vec<Case> {
     let names: [&[u8]; 3] = [b"b", b"b/c", b"d"];
     let mut cases = Vec::new();
@@ -43,8 +44,8 @@ pub fn places(kind: Kind) -> Vec<Case> {
         }
         let mut puts: Vec<Entry> = before.entries.clone();
         puts.extend([&b"a"[..], b"b-", b"b/b", b"b/d", b"c", b"e"].map(executable));
-        for name in names {
-            puts.push(executable(name));
+        puts.extend(names.map(executable));
+        for name in [&b"a"[..], b"b-", b"b/b", b"c", b"e"] {
             puts.extend([1, 2, 3].map(|stage| entry(name, stage)));
         }
         let mut changes = vec![rewriting(&before)];
@@ -56,7 +57,7 @@ pub fn places(kind: Kind) -> Vec<Case> {
     cases
 }
 
-/// The last entry goes, one comes into an empty file, and each of four stages goes.
+/// The last entry goes, one comes into an empty file, and each of three stages goes.
 fn few_entries(kind: Kind, version: u32) -> Vec<Case> {
     let mut cases = Vec::new();
     for tree in [false, true] {
@@ -67,9 +68,9 @@ fn few_entries(kind: Kind, version: u32) -> Vec<Case> {
         let first = [rewriting(&empty), putting(&empty, &entry(b"b", 0))];
         cases.extend(in_versions("empty", &empty, &first, &ASKED));
     }
-    let stages = (0..4).map(|stage| entry(b"s", stage)).collect();
+    let stages = (1..4).map(|stage| entry(b"s", stage)).collect();
     let stages = records(kind, version, stages, Vec::new());
-    let changes: Vec<_> = (0..4).map(|stage| removing(&stages, b"s", stage)).collect();
+    let changes: Vec<_> = (1..4).map(|stage| removing(&stages, b"s", stage)).collect();
     cases.extend(in_versions("stages", &stages, &changes, &ASKED));
     cases
 }
@@ -277,7 +278,8 @@ fn kept_and_dropped(kind: Kind, version: u32, known: Vec<Extension>) -> Vec<Case
             let before = records(kind, version, vec![entry(b"a/b", 0), entry(b"c", 0)], row);
             let changes = [
                 rewriting(&before),
-                putting(&before, &entry(b"a/b", 1)),
+                putting(&before, &executable(b"a/b")),
+                putting(&before, &entry(b"a/bb", 1)),
                 removing(&before, b"c", 0),
             ];
             cases.extend(in_versions("extensions", &before, &changes, &[version]));
@@ -303,7 +305,7 @@ pub fn checksums(kind: Kind) -> Vec<Case> {
         let before = of_names(kind, version, &[b"a", b"b/c"], true);
         let changes = [
             rewriting(&before),
-            putting(&before, &entry(b"b/c", 1)),
+            putting(&before, &executable(b"b/c")),
             removing(&before, b"a", 0),
         ];
         let sound = left_out(kind, in_versions("zeros", &before, &changes, &ASKED));

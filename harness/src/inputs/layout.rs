@@ -220,6 +220,11 @@ impl Layout {
         self.content(part.first..part.end)
     }
 
+    /// The first byte of a part.
+    pub fn place(&self, part: Part) -> usize {
+        self.length(0..part.first)
+    }
+
     /// Puts other bytes in place of a part.
     pub fn replace(&mut self, part: Part, bytes: &[u8]) {
         self.pieces[part.first..part.end].fill(0..0);

@@ -13,7 +13,7 @@ use crate::kind::Kind;
 use crate::opponent;
 use crate::random::Random;
 use crate::replies::WORKSPACE;
-use layout::{signed, Layout};
+use layout::{signed, Field, Layout};
 use records::{Extension, Records, Undo, LEVELS, MODES};
 
 /// Shapes of inputs: sound files, then files with a fault or damage, bytes that are no file, and sizes at a limit.
@@ -32,6 +32,8 @@ pub enum Shape {
     BadName,
     /// Entries out of order.
     Order,
+    /// A name at stage 0 and at others.
+    Stages,
     /// A cache tree with a fault.
     Tree,
     /// Resolve undo with a fault.
@@ -59,8 +61,8 @@ pub enum Shape {
 }
 
 /// Which shapes follow each other, so that each run has its share of each.
-const TURN: [(Shape, usize); 20] = [
-    (Shape::Few, 9),
+const TURN: [(Shape, usize); 21] = [
+    (Shape::Few, 8),
     (Shape::Some, 4),
     (Shape::Hundreds, 1),
     (Shape::Wide, 1),
@@ -68,11 +70,12 @@ const TURN: [(Shape, usize); 20] = [
     (Shape::Deep, 2),
     (Shape::BadName, 3),
     (Shape::Order, 3),
+    (Shape::Stages, 2),
     (Shape::Tree, 4),
     (Shape::Undo, 2),
     (Shape::Extension, 2),
     (Shape::Offset, 1),
-    (Shape::Field, 9),
+    (Shape::Field, 8),
     (Shape::Fields, 3),
     (Shape::Bytes, 4),
     (Shape::Cut, 6),
@@ -90,16 +93,27 @@ const LIMIT_TURN: u64 = 4096;
 const CUTS: u64 = 256;
 /// One input in the given number has its checksum left out, whatever its shape.
 const LEFT_OUT: usize = 8;
+/// Refusals: of the checksum, and of the order of entries.
+pub const WRONG_CHECKSUM: u32 = 5;
+pub const ORDER: u32 = 11;
 /// How many limits there are.
 const LIMITS: u64 = 4;
+
+/// What is known of check's answer.
+#[derive(Clone, Copy, Debug, PartialEq, Eq)]
+pub enum Known {
+    Nothing,
+    Accepted,
+    /// A refusal and its place.
+    Refused(u32, usize),
+}
 
 pub struct Input {
     pub shape: Shape,
     /// The kind of its object names, or of those that it is read with.
     pub kind: Kind,
     pub bytes: Vec<u8>,
-    /// Whether it must be accepted.
-    pub sound: bool,
+    pub known: Known,
     /// Names of its entries, as far as they are known.
     pub names: Vec<Vec<u8>>,
     /// How many bytes are ample for what is written from it.
@@ -118,6 +132,7 @@ pub fn input(seed: u64, number: u64) -> Input {
         Shape::Wide => wide(random, kind),
         Shape::BadName => bad_name(random, kind),
         Shape::Order => disorder(random, kind),
+        Shape::Stages => mixed_stages(random, kind),
         Shape::Tree => faulty_tree(random, kind),
         Shape::Undo => faulty_undo(random, kind),
         Shape::Extension => extension(random, kind),
@@ -223,9 +238,9 @@ fn wide(random: &mut Random, kind: Kind) -> Input {
         entries,
         extensions: vec![Extension::Tree(nodes)],
     };
-    Input {
-        sound: !fault,
-        ..laid_out(Shape::Wide, &records)
+    match fault {
+        true => laid_out(Shape::Wide, &records),
+        false => sound(Shape::Wide, &records),
     }
 }
 
@@ -241,7 +256,7 @@ fn deep_name(random: &mut Random) -> Vec<u8> {
 
 fn sound(shape: Shape, records: &Records) -> Input {
     Input {
-        sound: true,
+        known: Known::Accepted,
         ..laid_out(shape, records)
     }
 }
@@ -264,7 +279,7 @@ fn named(shape: Shape, kind: Kind, names: Vec<Vec<u8>>, bytes: Vec<u8>) -> Input
         shape,
         kind,
         bytes,
-        sound: false,
+        known: Known::Nothing,
         names,
         room,
     }
@@ -309,6 +324,22 @@ fn disorder(random: &mut Random, kind: Kind) -> Input {
     let mut records = victim(random, kind);
     faults::order(random, &mut records.entries);
     laid_out(Shape::Order, &records)
+}
+
+/// A name at stage 0 and at others. One in three has an earlier fault in the entry that may not come after stage 0.
+fn mixed_stages(random: &mut Random, kind: Kind) -> Input {
+    let mut records = victim(random, kind);
+    let second = faults::stages(random, records.version, &mut records.entries);
+    let number = match random.one_in(3) {
+        true => faults::head(random, &mut records.entries[second]),
+        false => ORDER,
+    };
+    let layout = Layout::new(&records);
+    let place = layout.place(layout.parts_of(Field::Entry)[second]);
+    Input {
+        known: Known::Refused(number, place),
+        ..input_of(Shape::Stages, &records, signed(kind, layout.body(), true))
+    }
 }
 
 /// A cache tree with a fault; one in six may have too many levels instead.
@@ -442,7 +473,10 @@ fn nearly_left_out(random: &mut Random, kind: Kind) -> Input {
         true => 1 << random.below(8),
         false => 1 + random.below(255) as u8,
     };
-    input_of(Shape::NearlyLeftOut, &records, file)
+    Input {
+        known: Known::Refused(WRONG_CHECKSUM, file.len() - kind.width()),
+        ..input_of(Shape::NearlyLeftOut, &records, file)
+    }
 }
 
 // ---- no files
@@ -463,7 +497,7 @@ fn noise(random: &mut Random, kind: Kind, shape: Shape) -> Input {
         kind,
         room: bytes.len() + names::LONGEST + 200,
         bytes,
-        sound: false,
+        known: Known::Nothing,
         names: Vec::new(),
     }
 }
@@ -483,7 +517,7 @@ fn limit(random: &mut Random, kind: Kind, nth: u64) -> Input {
         shape: Shape::Limit,
         kind,
         bytes,
-        sound: false,
+        known: Known::Nothing,
         names: Vec::new(),
         room: 1000,
     }

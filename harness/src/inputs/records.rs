@@ -97,22 +97,18 @@ pub fn entry(random: &mut Random, version: u32, name: Vec<u8>, stage: u16) -> En
     }
 }
 
-/// Entries of these names in the index's order. Some names have several stages.
+/// Entries of these names in the index's order, each at stage 0 or at some of the others.
 pub fn entries(random: &mut Random, version: u32, names: Vec<Vec<u8>>) -> Vec<Entry> {
-    let mut keys = BTreeSet::new();
-    for name in names {
-        match random.below(8) {
-            0 => {
-                let stages = (0..4).filter(|_| random.one_in(2));
-                keys.extend(stages.map(|stage| (name.clone(), stage)));
-            }
-            1 => _ = keys.insert((name, random.below(4) as u16)),
-            _ => _ = keys.insert((name, 0)),
-        }
-    }
     let mut entries = Vec::new();
-    for (name, stage) in keys {
-        entries.push(entry(random, version, name, stage));
+    for name in BTreeSet::from_iter(names) {
+        let stages = match random.below(8) {
+            0 => (1..4).filter(|_| random.one_in(2)).collect(),
+            1 => vec![random.below(4) as u16],
+            _ => vec![0],
+        };
+        for stage in stages {
+            entries.push(entry(random, version, name.clone(), stage));
+        }
     }
     entries
 }

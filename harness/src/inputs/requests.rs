@@ -157,7 +157,7 @@ fn remove(random: &mut Random, input: &Input) -> Call {
     Call::Remove(*random.pick(&ASKED), name(random, input), stage)
 }
 
-/// A put of an entry that is there, as it is or with another mode, or its removal.
+/// A put of an entry that is there, as it is, with another mode or at another stage, or its removal.
 fn of_entry(random: &mut Random, input: &Input, checked: &CheckReply) -> Option<Call> {
     if checked.entries == 0 {
         return None;
@@ -167,14 +167,26 @@ fn of_entry(random: &mut Random, input: &Input, checked: &CheckReply) -> Option<
     let kind = input.kind.number();
     let entry = opponent::entry(kind, &input.bytes, &mut vec![0; WORKSPACE], k as u32);
     let (asked, fields) = (*random.pick(&ASKED), entry.fields);
-    Some(match random.below(3) {
+    Some(match random.below(4) {
         0 => Call::Remove(asked, name, fields.stage),
         1 => Call::Put(asked, name, fields),
+        2 => {
+            let stage = other_stage(random, fields.stage);
+            Call::Put(asked, name, Fields { stage, ..fields })
+        }
         _ => {
             let mode = *random.pick(&MODES);
             Call::Put(asked, name, Fields { mode, ..fields })
         }
     })
+}
+
+/// A stage to put beside one that is there, mostly one that may not be there with it.
+fn other_stage(random: &mut Random, stage: u32) -> u32 {
+    match stage {
+        0 => 1 + random.below(3) as u32,
+        _ => *random.pick(&[0, 0, 0, 1, 2, 3]),
+    }
 }
 
 /// A name: one that is there, one near it, one before or after all, a new one or a bad one.

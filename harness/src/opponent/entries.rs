@@ -141,11 +141,21 @@ impl<'a> Before<'a> {
             (item, end, order)
         };
         let stage = stage(flags);
-        if order.then(stage.cmp(&self.stage)) != Ordering::Greater {
+        if !rises(order, self.stage, stage) {
             return Err(refusal::ORDER);
         }
         self.stage = stage;
         Ok((item, end))
+    }
+}
+
+/// Whether an entry may come after another, by how its name compares with that of the other and by both stages: of one name
+/// there is stage 0 alone, or others that rise.
+fn rises(order: Ordering, before: u16, stage: u16) -> bool {
+    match order {
+        Ordering::Less => false,
+        Ordering::Equal => before > 0 && stage > before,
+        Ordering::Greater => true,
     }
 }
 

@@ -1,4 +1,4 @@
-//! A second library for the index file in plain Rust, written from document 01 and requests 1 and 10 of document 02
+//! A second library for the index file in plain Rust, written from document 01 and requests 1, 2 and 10 of document 02
 //! alone: it shares nothing with the proved one. The calls have the signatures of `ffi`, so that answers, workspaces and
 //! outputs can be compared; `check` is also what the speed of the proved check is measured against.
 

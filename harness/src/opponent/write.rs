@@ -38,6 +38,9 @@ pub fn edit(
     change: Option<Change>,
 ) -> Result<usize, Refusal> {
     check_request(asked, change).map_err(Refusal::whole)?;
+    if mixes(&contents, change) {
+        return Err(Refusal::whole(refusal::ORDER));
+    }
     let version = version(&contents, asked, change).map_err(Refusal::whole)?;
     if let (Some(tree), Some(change)) = (&mut contents.tree, change) {
         tree.invalidate(change.name);
@@ -74,6 +77,20 @@ fn check_request(asked: u32, change: Option<Change>) -> Result<(), u32> {
         return Err(refusal::NAME);
     }
     Ok(())
+}
+
+/// Whether a put would bring stage 0 together with another stage of its name.
+fn mixes(contents: &Contents, change: Option<Change>) -> bool {
+    let put = match change {
+        Some(change) if change.put.is_some() => change,
+        _ => return false,
+    };
+    let entries = &contents.entries;
+    let mut before = Vec::new();
+    entries.items.iter().any(|item| {
+        let same = entries.name(item, &mut before) == put.name;
+        same && (entries.stage(item) == 0) != (put.stage == 0)
+    })
 }
 
 /// The version to write, which depends on whether an entry of the result needs the extended word. Refused where the

@@ -151,14 +151,16 @@ fn step(kind: Kind, file: &[u8], at: usize, left: u32) -> StepReply {
 
 /// A small file with all kinds of records in a version, its tree valid or not.
 fn small(kind: Kind, version: u32, valid: bool) -> Vec<u8> {
-    let file = index(kind, version, &[b"a-b", b"a/b", b"a/c", b"b/c/d", b"e"]);
-    let fields = Fields {
-        stage: 2,
-        assume_valid: true,
-        skip_worktree: version > 2,
-        ..list_entry(kind)
-    };
-    let file = put(kind, &file, version, b"a/c", fields).unwrap();
+    let mut file = index(kind, version, &[b"a-b", b"a/b", b"b/c/d", b"e"]);
+    for stage in [1, 2] {
+        let fields = Fields {
+            stage,
+            assume_valid: stage == 2,
+            skip_worktree: stage == 2 && version > 2,
+            ..list_entry(kind)
+        };
+        file = put(kind, &file, version, b"a/c", fields).unwrap();
+    }
     let mut tree = Vec::new();
     let count = |count: i64| if valid { count } else { -count };
     node(kind, &mut tree, b"", count(6), 2);

@@ -37,13 +37,14 @@ pub fn vectors() -> Vec<Vector> {
     let folders = [
         (Kind::Sha1, ""),
         (Kind::Sha1, "left-out/"),
+        (Kind::Sha1, "stages/"),
         (Kind::Sha256, "sha256/"),
     ];
     for (kind, below) in folders {
         let table = fs::read_to_string(folder().join(below).join("expected.tsv")).unwrap();
         vectors.extend(table.lines().map(|line| vector(kind, below, line)));
     }
-    assert_eq!(vectors.len(), 192 + 78 + 79);
+    assert_eq!(vectors.len(), 192 + 78 + 80 + 79);
     vectors
 }
 
@@ -51,7 +52,7 @@ pub fn vectors() -> Vec<Vector> {
 pub fn accepted() -> Vec<Vector> {
     let mut vectors = vectors();
     vectors.retain(|vector| vector.expected.is_ok());
-    assert_eq!(vectors.len(), 39 + 5 + 5);
+    assert_eq!(vectors.len(), 39 + 5 + 5 + 5);
     vectors
 }
 
