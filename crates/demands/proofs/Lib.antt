@@ -1,5 +1,5 @@
--- The demands: Statements states them, Proved, Written, Tails and Stages have the proofs, Demands joins the two. Witness, WitnessSha256 and WitnessLeftOut
--- have closed cases, made of Samples.
+-- The demands: Statements states them, Proved, Written, Tails and Stages have the proofs, Demands joins the two. Witness, WitnessSha256,
+-- WitnessLeftOut and WitnessStages have closed cases, made of Samples.
 pub mod Demands
 pub mod Proved
 pub mod Samples
@@ -9,4 +9,5 @@ pub mod Tails
 pub mod Witness
 pub mod WitnessLeftOut
 pub mod WitnessSha256
+pub mod WitnessStages
 pub mod Written

@@ -110,7 +110,7 @@ unfolding conflictFile below
 conflict-bytes = (all-below (conflictFile 64) refl, all-below (conflictFile 0) refl)
 
 -- of a stage, with skip-worktree or without
-abbrev staged : ℕ → ℕ → Bool → Entry
+abbrev pub staged : ℕ → ℕ → Bool → Entry
 staged b stage skip = record {
   numbers = 0 ∷ 0 ∷ 0 ∷ 0 ∷ 0 ∷ 0 ∷ 0x81a4 ∷ 0 ∷ 0 ∷ 0 ∷ [];
   object = replicate 20 b;
