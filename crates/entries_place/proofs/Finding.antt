@@ -7,8 +7,6 @@ use native.Mathlib.Omega.{arith}
 use lib.ListN.{length, take, drop, length-append, take-append-drop}
 use lib.Seq.{drop-append-seam, drop-length}
 use borrow.Author.Tests.{eq-eqb, ne-eqb}
-use Rattle.format.specs.declared.Order.{Order}
-use Rattle.format.specs.Names.{isBelow}
 use Rattle.format.specs.Records.{Entry, Key, keyOf, start}
 use Rattle.format.specs.Reader.{entryOf, readEntries}
 use Rattle.format.specs.Requests.{goesBefore, sameKey, mixes, mixed}
@@ -21,8 +19,7 @@ use Rattle.entries_run.specs.declared.Next.the-variants as N
 use Rattle.entries_run.specs.Steps.{nameAt, keyAt, entryAt, Room, StepFound, EntryStepped, firstCursor, AllRead, Readable}
 use Rattle.entries_run.proofs.Steps.{walked-end, walked-take, walked-left, Walking, walking-first, walking-more}
 use Rattle.entries_place.specs.declared.Compared.{Compared}
-use Rattle.entries_place.specs.Places.{compareKeys, rank, startsWith, isThere, rising, KeysCompared, PlaceFound}
-use Rattle.entries_place.proofs.Keys.{isSame, before-by, same-by}
+use Rattle.entries_place.specs.Places.{rank, startsWith, isThere, rising, KeysCompared, PlaceFound}
 use Rattle.entries_place.proofs.Places.{read-rising, mixed-stop, mixed-more}
 
 -- ---- the entry before a cursor
@@ -118,37 +115,33 @@ module _ {w : ℕ} {v : ℕ} {b work₀ : List ℕ} {k : Key} {n : ℕ} {x : Boo
       mix-is : (x || d .mixes) ≡ (mixed k es || mixes (keyOf next) k)
       mix-is = ap₂ _||_ (h .mix) (compared .mixes)
 
-      module _ {o : Order} (order : d .order ≡ o) where
-        order-is : o ≡ compareKeys (keyOf next) k
-        order-is = sym order ∙ compared .order
+      pub search-more : d .before ≡ true → Searching w v b work₀ k (n + 1) (x || d .mixes) work′ (st .next)
+      search-more below =
+          record {
+            entries = _;
+            walking = on;
+            many = rw length-append (omega (arith, h .many));
+            before = one-more k es next all-before (sym (compared .before) ∙ below) ∙ omega (arith, h .many);
+            mix = mix-is ∙ sym (mixed-more k es next);
+          }
 
-        pub search-more : isBelow o ≡ true → Searching w v b work₀ k (n + 1) (x || d .mixes) work′ (st .next)
-        search-more below =
-            record {
-              entries = _;
-              walking = on;
-              many = rw length-append (omega (arith, h .many));
-              before = one-more k es next all-before (before-by (keyOf next) k o order-is ∙ below) ∙ omega (arith, h .many);
-              mix = mix-is ∙ sym (mixed-more k es next);
-            }
-
-        -- it has the key, or is after it
-        pub search-stop : isBelow o ≡ false → PlaceFound w v b work₀ count k work′ (record { before = n; there = isSame o; mixed = x || d .mixes })
-        search-stop not-below =
-            record {
-              is = λ all m q.
-                  let few : length (es ++ (next ∷ [])) ≤ count = rw length-append (omega (arith, h .many)) in
-                  let begins : es ++ (next ∷ []) ≡ take (length (es ++ (next ∷ []))) all = walked-take w v b _ work′ (st .next) (on .walked) count all m q few in
-                  let gs : List Entry = drop (length (es ++ (next ∷ []))) all in
-                  let parts : all ≡ es ++ (next ∷ gs) =
-                  sym (take-append-drop (length (es ++ (next ∷ []))) all) ∙ ap (λ (l : List Entry). l ++ gs) (sym begins) ∙ append-assoc es (next ∷ []) gs in
-                  let late : goesBefore (keyOf next) k ≡ false = before-by (keyOf next) k o order-is ∙ not-below in
-                  let (at, there) = stopped k es next all-before all gs parts late in
-                  let rising-all : rising start (es ++ (next ∷ gs)) ≡ true = rw parts at (read-rising w v count start 12 (drop 12 b) all m q) in (
-                    sym (h .many) ∙ at,
-                    sym (same-by (keyOf next) k o order-is) ∙ there,
-                    mix-is ∙ sym (mixed-stop k start es next gs rising-all late) ∙ ap (mixed k) (sym parts),
-                  );
-              few = omega (arith, bit-below (isSame o));
-              frame = on .frame;
-            }
+      -- it has the key, or is after it
+      pub search-stop : d .before ≡ false → PlaceFound w v b work₀ count k work′ (record { before = n; there = d .same; mixed = x || d .mixes })
+      search-stop not-below =
+          record {
+            is = λ all m q.
+                let few : length (es ++ (next ∷ [])) ≤ count = rw length-append (omega (arith, h .many)) in
+                let begins : es ++ (next ∷ []) ≡ take (length (es ++ (next ∷ []))) all = walked-take w v b _ work′ (st .next) (on .walked) count all m q few in
+                let gs : List Entry = drop (length (es ++ (next ∷ []))) all in
+                let parts : all ≡ es ++ (next ∷ gs) =
+                sym (take-append-drop (length (es ++ (next ∷ []))) all) ∙ ap (λ (l : List Entry). l ++ gs) (sym begins) ∙ append-assoc es (next ∷ []) gs in
+                let late : goesBefore (keyOf next) k ≡ false = sym (compared .before) ∙ not-below in
+                let (at, there) = stopped k es next all-before all gs parts late in
+                let rising-all : rising start (es ++ (next ∷ gs)) ≡ true = rw parts at (read-rising w v count start 12 (drop 12 b) all m q) in (
+                  sym (h .many) ∙ at,
+                  compared .same ∙ there,
+                  mix-is ∙ sym (mixed-stop k start es next gs rising-all late) ∙ ap (mixed k) (sym parts),
+                );
+            few = omega (arith, bit-below (d .same));
+            frame = on .frame;
+          }

@@ -4,9 +4,6 @@ use mathlib.Core.List.{List, [], _∷_}
 use mathlib.Core.Bool.{Bool, true, false, cond, _&&_}
 use Prim.Native.Nat.{ℕ, suc, _+_, _≤_}
 use lib.ListN.{drop}
-use lib.Dec.{ltb}
-use Rattle.format.specs.declared.Order.{Order}
-use Rattle.format.specs.declared.Order.the-variants.{Below, Same, Above}
 use Rattle.format.specs.Names.{compare, rises}
 use Rattle.format.specs.Records.{Entry, Key, keyOf}
 use Rattle.format.specs.Layout.{bit}
@@ -15,16 +12,6 @@ use Rattle.fields.specs.Workspace.{Frame}
 use Rattle.entries_run.specs.Steps.{EntriesRead}
 use Rattle.entries_place.specs.declared.Place.{Place}
 use Rattle.entries_place.specs.declared.Compared.{Compared}
-
--- how stage s of a name compares to stage t of another, where the names compare as the order says
-abbrev pub thenStage : Order → ℕ → ℕ → Order
-thenStage Below s t = Below
-thenStage Same s t = cond (ltb s t) Below (cond (ltb t s) Above Same)
-thenStage Above s t = Above
-
--- by name, then by stage
-unfoldable pub compareKeys : Key → Key → Order
-compareKeys a b = thenStage (compare (a .name) (b .name)) (a .stage) (b .stage)
 
 -- how many entries, from the first on, are before the key k
 unfoldable pub rank : Key → List Entry → ℕ
@@ -45,9 +32,10 @@ unfoldable pub rising : Key → List Entry → Bool
 rising k [] = true
 rising k (x ∷ xs) = rises (compare (k .name) (x .name)) (k .stage) (x .stage) && rising (keyOf x) xs
 
--- how the key a compares to the key b, and whether they mix
+-- how an entry of the key a compares to the key b
 pub record KeysCompared (a b : Key) (r : Compared) : Type 0 where
-  pub order : r .order ≡ compareKeys a b
+  pub before : r .before ≡ goesBefore a b
+  pub same : r .same ≡ sameKey a b
   pub mixes : r .mixes ≡ mixes a b
 
 -- the place of the key k among the first count entries of the body b, whether it mixes with one, and what the search leaves of the workspace

@@ -15,9 +15,10 @@ pub struct Place {
     pub mixed: bool,
 }
 
-// How an entry compares to a name and stage, and whether the two are stage 0 and another stage of one name.
+// Whether an entry is before a name and stage, has them, or is stage 0 or another stage of that name where they are the other of the two.
 pub struct Compared {
-    pub order: Order,
+    pub before: bool,
+    pub same: bool,
     pub mixes: bool,
 }
 
@@ -28,31 +29,20 @@ fn order_of(x: &[u8], s: u32, y: &[u8], t: u32) -> Compared
     let o = fields::compare(x, y);
     match o {
         Order::Below => Compared {
-            order: Order::Below,
+            before: true,
+            same: false,
             mixes: false,
+        },
+        Order::Same => Compared {
+            before: s < t,
+            same: s == t,
+            mixes: (s != t) & ((s == 0) | (t == 0)),
         },
         Order::Above => Compared {
-            order: Order::Above,
+            before: false,
+            same: false,
             mixes: false,
         },
-        Order::Same => {
-            if s < t {
-                return Compared {
-                    order: Order::Below,
-                    mixes: s == 0,
-                };
-            }
-            if t < s {
-                return Compared {
-                    order: Order::Above,
-                    mixes: t == 0,
-                };
-            }
-            Compared {
-                order: Order::Same,
-                mixes: false,
-            }
-        }
     }
 }
 
@@ -89,39 +79,24 @@ pub fn find_place(
     let mut mixed = false;
     while before < count {
         let g = entries_run::pass_entry(b, v, &mut *work, c, w);
-        match g {
-            Next::Bad(_) => {
-                return Place {
-                    before: before,
-                    there: false,
-                    mixed: mixed,
-                };
-            }
-            Next::Good(st) => {
-                c = st.next;
-            }
-        }
+        let Next::Good(st) = g else {
+            return Place {
+                before: before,
+                there: false,
+                mixed: mixed,
+            };
+        };
+        c = st.next;
         let d = order_at(b, v, &work[..], c, name, stage);
         mixed = mixed | d.mixes;
-        let o = d.order;
-        match o {
-            Order::Below => {
-                before += 1;
-            }
-            Order::Same => {
-                return Place {
-                    before: before,
-                    there: true,
-                    mixed: mixed,
-                };
-            }
-            Order::Above => {
-                return Place {
-                    before: before,
-                    there: false,
-                    mixed: mixed,
-                };
-            }
+        if d.before {
+            before += 1;
+        } else {
+            return Place {
+                before: before,
+                there: d.same,
+                mixed: mixed,
+            };
         }
     }
     Place {

@@ -60,12 +60,9 @@ order-at-requires c κs =
     let t = rw (g .g .given .1) at (again e _ _ (e .pass-entry .ensures)) in
     (t .found _ refl .next, omega (arith, t .frame, l .loop .inv .0 .walking .frame, l .before .before .before .before .before .pre .0 .room))
 
-enum-told-2 : tie.Need-enum-told-2 Inv-loop μ-loop
-enum-told-2 c = search needs
-
 add-before : tie.Need-add-before Inv-loop μ-loop
 add-before c =
-    let e = c .before .before .before .before .before .before .before .before .before .before .before in
+    let e = c .before .before .before .before .before .before .before .before .before .before in
     omega (arith, e .before .before .loop-test .taken, e .before .before .before .before .before .before .before .before .fits)
 
 loop-less : tie.Need-loop-less Inv-loop μ-loop
@@ -73,45 +70,28 @@ loop-less c = omega arith
 
 loop-again : tie.Need-loop-again Inv-loop μ-loop
 loop-again c =
-    let o = c .before .before .before in
+    let o = c .before .before in
     let g = o .before .before .before .before in
     let e = g .before .before .before .before in
     let t = rw (g .g .given .1) at (again e _ _ (e .pass-entry .ensures)) in
-    (search-more (e .before .before .before .loop .inv .0) (e .before .before .loop-test .taken) t (o .order-at .ensures) (c .enum-told2 .given .1) refl, omega arith)
-
-enum-told-3 : tie.Need-enum-told-3 Inv-loop μ-loop
-enum-told-3 c = search needs
+    (search-more (e .before .before .before .loop .inv .0) (e .before .before .loop-test .taken) t (o .order-at .ensures) (c .if1 .taken), omega arith)
 
 same-length-2 : tie.Need-same-length-2 Inv-loop μ-loop
 same-length-2 c = omega arith
 
 returns-2 : tie.Need-returns-2 Inv-loop μ-loop
 returns-2 c =
-    let o = c .before .before .before in
+    let o = c .before .before in
     let g = o .before .before .before .before in
     let e = g .before .before .before .before in
     let t = rw (g .g .given .1) at (again e _ _ (e .pass-entry .ensures)) in
-    search-stop (e .before .before .before .loop .inv .0) (e .before .before .loop-test .taken) t (o .order-at .ensures) (c .enum-told3 .given .1) refl
-
-enum-told-4 : tie.Need-enum-told-4 Inv-loop μ-loop
-enum-told-4 c = search needs
+    search-stop (e .before .before .before .loop .inv .0) (e .before .before .loop-test .taken) t (o .order-at .ensures) (c .if1 .left)
 
 same-length-3 : tie.Need-same-length-3 Inv-loop μ-loop
-same-length-3 c = omega arith
+same-length-3 c = c .before .loop .inv .0 .walking .frame .long
 
 returns-3 : tie.Need-returns-3 Inv-loop μ-loop
-returns-3 c =
-    let o = c .before .before .before in
-    let g = o .before .before .before .before in
-    let e = g .before .before .before .before in
-    let t = rw (g .g .given .1) at (again e _ _ (e .pass-entry .ensures)) in
-    search-stop (e .before .before .before .loop .inv .0) (e .before .before .loop-test .taken) t (o .order-at .ensures) (c .enum-told4 .given .1) refl
-
-same-length-4 : tie.Need-same-length-4 Inv-loop μ-loop
-same-length-4 c = c .before .loop .inv .0 .walking .frame .long
-
-returns-4 : tie.Need-returns-4 Inv-loop μ-loop
-returns-4 c = search-end (c .before .loop .inv .0) (omega arith)
+returns-3 c = search-end (c .before .loop .inv .0) (omega arith)
 
 pub find-place-spec : {M : Type 1} → statement M
 find-place-spec =
@@ -122,20 +102,15 @@ find-place-spec =
     first-requires
     loop-holds
     pass-entry-requires
+    enum-known-g
     enum-told
     same-length
     returns
-    enum-known-g
     order-at-requires
-    enum-told-2
     add-before
     loop-less
     loop-again
-    enum-told-3
     same-length-2
     returns-2
-    enum-told-4
     same-length-3
-    returns-3
-    same-length-4
-    returns-4)
+    returns-3)

@@ -1,7 +1,7 @@
 -- The proof that `order_of` meets its contract.
 use mathlib.Core.Path.{sym, _∙_}
 use borrow.Author.Needs.{needs}
-use Rattle.entries_place.proofs.Keys.{compared-below, compared-above, compared-less, compared-more, compared-same}
+use Rattle.entries_place.proofs.Keys.{compared-below, compared-above, compared-same}
 use Rattle.entries_place.proofs.order_of.Statement.{statement}
 use Rattle.entries_place.proofs.order_of.Tie as tie
 
@@ -18,26 +18,13 @@ enum-told-3 : tie.Need-enum-told-3
 enum-told-3 c = search needs
 
 returns : tie.Need-returns
-returns c =
-    let e = c .before in
-    compared-less _ _ (sym (e .before .before .compare .ensures) ∙ e .enum-told3 .given .1) (c .if1 .taken)
+returns c = compared-below _ _ (sym (c .before .before .compare .ensures) ∙ c .enum-told .given .1)
 
 returns-2 : tie.Need-returns-2
-returns-2 c =
-    let e = c .before .before in
-    compared-more _ _ (sym (e .before .before .compare .ensures) ∙ e .enum-told3 .given .1) (c .if2 .taken)
+returns-2 c = compared-same _ _ (sym (c .before .before .compare .ensures) ∙ c .enum-told2 .given .1)
 
 returns-3 : tie.Need-returns-3
-returns-3 c = compared-below _ _ (sym (c .before .before .compare .ensures) ∙ c .enum-told .given .1)
-
-returns-4 : tie.Need-returns-4
-returns-4 c = compared-above _ _ (sym (c .before .before .compare .ensures) ∙ c .enum-told2 .given .1)
-
-returns-5 : tie.Need-returns-5
-returns-5 c =
-    let i = c .before in
-    let e = i .before in
-    compared-same _ _ (sym (e .before .before .compare .ensures) ∙ e .enum-told3 .given .1) (i .if1 .left) (c .if2 .left)
+returns-3 c = compared-above _ _ (sym (c .before .before .compare .ensures) ∙ c .enum-told3 .given .1)
 
 pub order-of-spec : {M : Type 1} → statement M
 order-of-spec =
@@ -49,6 +36,4 @@ order-of-spec =
     enum-told-3
     returns
     returns-2
-    returns-3
-    returns-4
-    returns-5)
+    returns-3)
