@@ -7,15 +7,15 @@ use entries_run::Cursor;
 use entries_run::Next;
 use format::Order;
 
-// How many entries are before a name and stage, whether the next one has them, and whether entries are there with which these would bring stage 0
-// together with another stage of the name.
+// How many entries are before a name and stage, whether the next one has them, and whether some entry mixes with them: one of the two is stage 0 of
+// the name, the other another stage of it.
 pub struct Place {
     pub before: u32,
     pub there: bool,
     pub mixed: bool,
 }
 
-// Whether an entry is before a name and stage, has them, or is stage 0 or another stage of that name where they are the other of the two.
+// Whether an entry is before a name and stage, has them, or mixes with them.
 pub struct Compared {
     pub before: bool,
     pub same: bool,

@@ -50,15 +50,15 @@ isBelow Below = true
 isBelow Same = false
 isBelow Above = false
 
--- what may follow in a file: an entry of stage t, whose name compares so to that of the entry before it, which has stage s. Stage 0 is a merged
--- path, the others are sides of a conflict: after stage 0 the name must differ
+-- what may follow in a file: an entry of stage t after one of stage s, whose name compares so to the later one's. Stage 0 is a merged path, the
+-- others are sides of a conflict: after stage 0 the name must differ
 abbrev pub rises : Order → ℕ → ℕ → Bool
 rises Below s t = true
 rises Same s t = ltb 0 s && ltb s t
 rises Above s t = false
 
--- the order by which a place among entries is found, by name, then by stage: whether stage s comes before stage t of a name that compares so to its
--- own. Of any two keys one comes first, unless they are the same; the rule above is no such order
+-- the order by which a place among entries is found, by name, then by stage: whether stage s of a name comes before stage t of another, to which it
+-- compares so. Of any two keys one comes first, unless they are the same; the rule above is no such order
 abbrev pub precedes : Order → ℕ → ℕ → Bool
 precedes Below s t = true
 precedes Same s t = ltb s t
