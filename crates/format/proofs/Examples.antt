@@ -63,6 +63,14 @@ short-refused : readFile 20 hash (68 ∷ 73 ∷ 82 ∷ 67 ∷ 0 ∷ 0 ∷ 0 ∷ 
 unfolding hash be16 be32 be32s two eqList before lacks zeros digits decimal valueFrom value componentsFrom components okComponent okComponents okName lengthField compare okMode fixedLength entryLength okNodeName has distinct under inside files allValid sum okCount okCounts okTreeCounts modeText someStage optional trees undos names need shift bind isSet okWord plainLength readPlain readN joined readSuffix readPacked readName entryOf readTail readFixed readEntry readEntries readText countIn needSome readCount readSubtrees readObject readNode readSiblings readForest readNodes readTree modeIn readMode readStage readStages readUndo readUndos readData readExtension readExtensions checksumOf checksumIn readBody readFile
 short-refused = refl
 
+-- 1, 3 and 4, each of a file that is refused for what comes next, too
+header-refused :
+    (readFile 20 hash (replicate 31 0) ≡ bad 1 0)
+    × (readFile 20 hash (replicate 32 0) ≡ bad 3 0)
+    × (readFile 20 hash (68 ∷ 73 ∷ 82 ∷ 67 ∷ 0 ∷ 0 ∷ 0 ∷ 5 ∷ replicate 24 7) ≡ bad 4 0)
+unfolding hash be16 be32 be32s two eqList before lacks zeros digits decimal valueFrom value componentsFrom components okComponent okComponents okName lengthField compare okMode fixedLength entryLength okNodeName has distinct under inside files allValid sum okCount okCounts okTreeCounts modeText someStage optional trees undos names need shift bind isSet okWord plainLength readPlain readN joined readSuffix readPacked readName entryOf readTail readFixed readEntry readEntries readText countIn needSome readCount readSubtrees readObject readNode readSiblings readForest readNodes readTree modeIn readMode readStage readStages readUndo readUndos readData readExtension readExtensions checksumOf checksumIn readBody readFile
+header-refused = (refl, refl, refl)
+
 -- an entry of 64 bytes of which the last 20 would be the checksum
 cut-refused : readFile 20 hash (68 ∷ 73 ∷ 82 ∷ 67 ∷ 0 ∷ 0 ∷ 0 ∷ 2 ∷ 0 ∷ 0 ∷ 0 ∷ 1 ∷ 0 ∷ 0 ∷ 0 ∷ 1 ∷ 0 ∷ 0 ∷ 0 ∷ 2 ∷ 0 ∷ 0 ∷ 0 ∷ 3 ∷ 0 ∷ 0 ∷ 0 ∷ 4 ∷ 0 ∷ 0 ∷ 0 ∷ 5 ∷ 0 ∷ 0 ∷ 0 ∷ 6 ∷ 0 ∷ 0 ∷ 129 ∷ 164 ∷ 0 ∷ 0 ∷ 0 ∷ 7 ∷ 0 ∷ 0 ∷ 0 ∷ 8 ∷ 0 ∷ 0 ∷ 0 ∷ 9 ∷ 17 ∷ 17 ∷ 17 ∷ 17 ∷ 0 ∷ 0 ∷ 0 ∷ 0 ∷ 0 ∷ 0 ∷ 0 ∷ 0 ∷ 0 ∷ 0 ∷ 0 ∷ 0 ∷ 0 ∷ 0 ∷ 0 ∷ 0 ∷ 0 ∷ 0 ∷ 0 ∷ 0 ∷ []) ≡ bad 6 12
 unfolding hash be16 be32 be32s two eqList before lacks zeros digits decimal valueFrom value componentsFrom components okComponent okComponents okName lengthField compare okMode fixedLength entryLength okNodeName has distinct under inside files allValid sum okCount okCounts okTreeCounts modeText someStage optional trees undos names need shift bind isSet okWord plainLength readPlain readN joined readSuffix readPacked readName entryOf readTail readFixed readEntry readEntries readText countIn needSome readCount readSubtrees readObject readNode readSiblings readForest readNodes readTree modeIn readMode readStage readStages readUndo readUndos readData readExtension readExtensions checksumOf checksumIn readBody readFile
