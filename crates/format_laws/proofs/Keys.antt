@@ -67,7 +67,7 @@ total-by Below i j h other = false-true (sym h)
 total-by Same i j h other = let differ : i ≡ j → ⊥ = other refl in lt-ltb j i (omega (arith, ltb-false i j h))
 total-by Above i j h other = refl
 
-pub before-total : (a b : Key) → goesBefore a b ≡ false → sameKey a b ≡ false → goesBefore b a ≡ true
+before-total : (a b : Key) → goesBefore a b ≡ false → sameKey a b ≡ false → goesBefore b a ≡ true
 unfolding goesBefore sameKey
 before-total a b h l =
     rw (compare-opposite (a .name) (b .name))
