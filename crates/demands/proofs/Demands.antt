@@ -9,7 +9,8 @@ use Rattle.answers.proofs.Laws.{room-small, room-large}
 use Rattle.spelling.proofs.File as spelling
 use Rattle.kinds.specs.Kinds.{widthOf, hashOf, readKind}
 use Rattle.kinds.proofs.Laws.{length-hash, known-file, unknown-file, file-known}
-use Rattle.demands.proofs.Statements.{Demand1, Demand2, Demand3, ZeroedTails, NoneMixed}
+use Rattle.demands.proofs.Statements.{Demand1, Demand2, AskedVersions, Demand3, ZeroedTails, NoneMixed}
+use Rattle.demands.proofs.Asked.{asked-versions}
 use Rattle.demands.proofs.Tails.{zeroed-tails}
 use Rattle.demands.proofs.Stages.{none-mixed}
 use Rattle.demands.proofs.Written.{rewritten, put-in, removed, filled}
@@ -50,6 +51,9 @@ module _ (kind : ℕ) (work : List ℕ) where
       removed = λ f asked most k is. removed kind work f asked most is k;
     }
 
+    pub versions : AskedVersions kind work
+    versions = asked-versions kind work room
+
     pub demand3 : Demand3 kind work
     demand3 = record {
       exact = λ known f bytes. rw (known-file kind f known) (exact w hash work width room f bytes);
@@ -72,10 +76,10 @@ module _ (kind : ℕ) (work : List ℕ) where
 
 -- the demands of a kind, and what is said beside them: all but demand 1 with the workspace that document 01 asks for
 abbrev pub Demands : ℕ → Type 0
-Demands kind = (work : List ℕ) → Demand1 kind work × (tooSmall work ≡ false → Demand2 kind work × Demand3 kind work × ZeroedTails kind work × NoneMixed kind work)
+Demands kind = (work : List ℕ) → Demand1 kind work × (tooSmall work ≡ false → Demand2 kind work × AskedVersions kind work × Demand3 kind work × ZeroedTails kind work × NoneMixed kind work)
 
 pub every-kind : (kind : ℕ) → Demands kind
-every-kind kind work = (demand1 kind work, λ room. (demand2 kind work room, demand3 kind work room, tails kind work room, stages kind work room))
+every-kind kind work = (demand1 kind work, λ room. (demand2 kind work room, versions kind work room, demand3 kind work room, tails kind work room, stages kind work room))
 
 pub sha1-demands : Demands 1
 sha1-demands = every-kind 1

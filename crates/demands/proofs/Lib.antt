@@ -1,5 +1,6 @@
 -- The demands: Statements states them, Proved, Written, Tails and Stages have the proofs, Demands joins the two. Witness, WitnessSha256,
 -- WitnessLeftOut and WitnessStages have closed cases, made of Samples.
+pub mod Asked
 pub mod Demands
 pub mod Proved
 pub mod Samples

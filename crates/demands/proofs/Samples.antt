@@ -20,7 +20,7 @@ use Rattle.format.specs.Reading.{need, shift, bind}
 use Rattle.format.specs.Reader.{isSet, okWord, plainLength, readPlain, readN, joined, readSuffix, readPacked, readName, entryOf, readTail, readFixed, readEntry, readEntries, readText, countIn, needSome, readCount, readSubtrees, readObject, readNode, readSiblings, readForest, readNodes, readTree, modeIn, readMode, readStage, readStages, readUndo, readUndos, readData, readExtension, readExtensions, readBody, readFile}
 use Rattle.format.specs.Records.{Entry, modeOf, Undo, width, items, treeItems}
 use Rattle.format.specs.Writer.{needsWord, writePlain, writePacked, writeName, writeRest, writeEntry, writeEntries, digitsOf, decimalOf, writeCount, writeObject, writeNode, writeForest, writeTree, writeStage, writeUndo, writeUndos, writeExtension, writeCacheTree, writeResolveUndo, writeExtensions, writeHeader, writeBody, writeFile}
-use Rattle.format.specs.Requests.{goesBefore, sameKey, mixes, putEntry, removeEntry, holds, mixed, invalidNode, invalidPath, invalidTree, invalidCacheTree, putRecord, removeRecord, anyWord, okAsked, versionFor, fitting, writing, rewriteRequest, putRequest, removeRequest}
+use Rattle.format.specs.Requests.{goesBefore, sameKey, mixes, putEntry, removeEntry, holds, mixed, invalidNode, invalidPath, invalidTree, invalidCacheTree, putRecord, removeRecord, anyWord, okAsked, versionOf, versionFor, fitting, writing, rewriteRequest, putRequest, removeRequest}
 use Rattle.format_laws.proofs.Tests.{and-inv}
 use Rattle.kinds.specs.Kinds.{okKind, widthOf, hashOf, ofKind, readKind}
 use Rattle.answers.specs.Answers.{tooSmall, inRoom, checkAnswer, entryAnswer, nodeAnswer, undoAnswer}
@@ -31,7 +31,7 @@ work = replicate 8192 0
 
 -- what the closed cases look through, said once: where this unfolds, all that its line names does
 unfoldable pub closed : Bool
-unfolding work okKind widthOf hashOf ofKind readKind word bytes4 words be64 padded pad quarter f K H0 nextWord extended schedule round rounds chain block absorb digest sha1 big0 big1 small0 small1 constants K256 H0256 nextWord256 extended256 schedule256 T1 T2 round256 rounds256 chain256 block256 absorb256 digest256 sha256 put16 put32 put32s putN be16 be32 be32s two eqList before lacks zeros digits decimal valueFrom value componentsFrom components okComponent okComponents okName lengthField compare common modeOf width items treeItems okMode fixedLength entryLength flagsOf wordOf okNodeName has distinct under inside files allValid sum okCount okCounts okTreeCounts modeText someStage optional trees undos names need shift bind isSet okWord plainLength readPlain readN joined readSuffix readPacked readName entryOf readTail readFixed readEntry readEntries readText countIn needSome readCount readSubtrees readObject readNode readSiblings readForest readNodes readTree modeIn readMode readStage readStages readUndo readUndos readData readExtension readExtensions checksumOf checksumIn readBody readFile needsWord writePlain writePacked writeName writeRest writeEntry writeEntries digitsOf decimalOf writeCount writeObject writeNode writeForest writeTree writeStage writeUndo writeUndos writeExtension writeCacheTree writeResolveUndo writeExtensions writeHeader writeBody writeFile goesBefore sameKey mixes mixed putEntry removeEntry holds invalidNode invalidPath invalidTree invalidCacheTree putRecord removeRecord anyWord okAsked versionFor fitting writing rewriteRequest putRequest removeRequest tooSmall inRoom checkAnswer entryAnswer nodeAnswer undoAnswer rewriteAnswer putAnswer removeAnswer
+unfolding work okKind widthOf hashOf ofKind readKind word bytes4 words be64 padded pad quarter f K H0 nextWord extended schedule round rounds chain block absorb digest sha1 big0 big1 small0 small1 constants K256 H0256 nextWord256 extended256 schedule256 T1 T2 round256 rounds256 chain256 block256 absorb256 digest256 sha256 put16 put32 put32s putN be16 be32 be32s two eqList before lacks zeros digits decimal valueFrom value componentsFrom components okComponent okComponents okName lengthField compare common modeOf width items treeItems okMode fixedLength entryLength flagsOf wordOf okNodeName has distinct under inside files allValid sum okCount okCounts okTreeCounts modeText someStage optional trees undos names need shift bind isSet okWord plainLength readPlain readN joined readSuffix readPacked readName entryOf readTail readFixed readEntry readEntries readText countIn needSome readCount readSubtrees readObject readNode readSiblings readForest readNodes readTree modeIn readMode readStage readStages readUndo readUndos readData readExtension readExtensions checksumOf checksumIn readBody readFile needsWord writePlain writePacked writeName writeRest writeEntry writeEntries digitsOf decimalOf writeCount writeObject writeNode writeForest writeTree writeStage writeUndo writeUndos writeExtension writeCacheTree writeResolveUndo writeExtensions writeHeader writeBody writeFile goesBefore sameKey mixes mixed putEntry removeEntry holds invalidNode invalidPath invalidTree invalidCacheTree putRecord removeRecord anyWord okAsked versionOf versionFor fitting writing rewriteRequest putRequest removeRequest tooSmall inRoom checkAnswer entryAnswer nodeAnswer undoAnswer rewriteAnswer putAnswer removeAnswer
 closed = true
 
 pub room : tooSmall work ≡ false

@@ -5,7 +5,7 @@
 -- promises in crates/index_write/src/lib.rt say.
 use mathlib.Core.Path.{_≡_}
 use mathlib.Core.Logic.{_↔_, _⊎_}
-use mathlib.Core.Bool.{true, false}
+use mathlib.Core.Bool.{true, false, cond}
 use mathlib.Core.List.{List}
 use mathlib.Core.Option.{some}
 use Prim.Native.Nat.{ℕ, suc, _+_, _-_, _<_}
@@ -18,7 +18,7 @@ use Rattle.format.specs.Layout.{Spells}
 use Rattle.format.specs.Reading.{Read, bad, good}
 use Rattle.format.specs.Reader.{Contents}
 use Rattle.format.specs.Tails.{zeroedFrom, Lost}
-use Rattle.format.specs.Requests.{mixes, putRecord, removeRecord}
+use Rattle.format.specs.Requests.{mixes, anyWord, putRecord, removeRecord}
 use Rattle.writing.specs.OneFile.{WritesBack}
 use Rattle.kinds.specs.Kinds.{okKind, widthOf, hashOf, readKind}
 use Rattle.answers.specs.declared.Checksum.the-variants.{Matches, LeftOut}
@@ -115,6 +115,27 @@ module _ (kind : ℕ) (work : List ℕ) where
         (f : List ℕ) (asked room : ℕ) (e : Entry) → Bytes f → length (e .numbers) ≡ 10 → fit32 (e .numbers) ≡ true → length (e .object) ≡ w →
         WritesBack w hash f asked (putRecord w e) (put asked e room f)
     pub removed : (f : List ℕ) (asked room : ℕ) (k : Key) → Bytes f → WritesBack w hash f asked (removeRecord w k) (remove asked k room f)
+
+  -- Beside demand 2, what is asked for of a file that was read: 2, 3, 4, or
+  pub record AskedVersions : Type 0 where
+    -- 0, which means version 4, whatever the file
+    pub default :
+        (f : List ℕ) (room : ℕ) (e : Entry) (k : Key) →
+        (rewrite 0 room f ≡ rewrite 4 room f) × (put 0 e room f ≡ put 4 e room f) × (remove 0 k room f ≡ remove 4 k room f)
+    -- or 1, which means the lowest: 3 where an entry of the result needs the extended word, else 2
+    pub lowest :
+        (f : List ℕ) (c : Contents) (m room : ℕ) (e : Entry) (k : Key) → readKind kind f ≡ good c m → let r : Records = c .records in
+        (rewrite 1 room f ≡ rewrite (cond (anyWord (r .entries)) 3 2) room f)
+        × (put 1 e room f ≡ put (cond (anyWord (putRecord w e r .entries)) 3 2) e room f)
+        × (remove 1 k room f ≡ remove (cond (anyWord (removeRecord w k r .entries)) 3 2) k room f)
+    -- what is above 4 is refused with 4, and nothing else is
+    pub above :
+        (f : List ℕ) (c : Contents) (m asked room : ℕ) (e : Entry) (k : Key) → readKind kind f ≡ good c m →
+        (rewrite asked room f ≡ bad 4 0 ↔ 4 < asked) × (put asked e room f ≡ bad 4 0 ↔ 4 < asked) × (remove asked k room f ≡ bad 4 0 ↔ 4 < asked)
+    -- the extended word is refused with 21 where 2 is asked for, so never where 0 or 1 is
+    pub worded :
+        (f : List ℕ) (c : Contents) (m asked room p : ℕ) (e : Entry) (k : Key) → readKind kind f ≡ good c m →
+        (rewrite asked room f ≡ bad 21 p → asked ≡ 2) × (put asked e room f ≡ bad 21 p → asked ≡ 2) × (remove asked k room f ≡ bad 21 p → asked ≡ 2)
 
   -- With the workspace that document 01 asks for. Of an unknown kind no file is accepted, so what says that one is asks for a known kind:
   pub record Demand3 : Type 0 where

@@ -58,7 +58,7 @@ unfolding closed file
 cut-refused = refl
 
 -- rewritten, the file is that cut of it: the extension that is passed over is dropped
-file-rewritten : rewrite 1 work 0 96 file ≡ good (take 96 file) 96
+file-rewritten : rewrite 1 work 1 96 file ≡ good (take 96 file) 96
 unfolding closed file
 file-rewritten = refl
 
@@ -146,13 +146,13 @@ full-places = (refl, refl, refl, refl, refl)
 full-put : List ℕ
 full-put = indexBytes 20 3 (plain 20 17 a-b ++ (plain 20 34 a/b ++ plain 20 102 a/c)) (0 ∷ 45 ∷ 49 ∷ 32 ∷ 49 ∷ 10 ∷ 97 ∷ 0 ∷ 45 ∷ 49 ∷ 32 ∷ 48 ∷ 10 ∷ []) (136 ∷ 8 ∷ 167 ∷ 152 ∷ 183 ∷ 170 ∷ 191 ∷ 166 ∷ 47 ∷ 160 ∷ 75 ∷ 137 ∷ 14 ∷ 52 ∷ 164 ∷ 190 ∷ 79 ∷ 4 ∷ 131 ∷ 62 ∷ [])
 
-put-done : put 1 work 0 (plainEntry 20 102 a/c) 338 full ≡ good full-put 338
+put-done : put 1 work 1 (plainEntry 20 102 a/c) 338 full ≡ good full-put 338
 unfolding closed full-put
-put-done = ap (putAnswer (widthOf 1) (hashOf 1) work 0 (plainEntry 20 102 a/c) 338) full-of-kind
+put-done = ap (putAnswer (widthOf 1) (hashOf 1) work 1 (plainEntry 20 102 a/c) 338) full-of-kind
 
 put-spelled : Spells (widthOf 1) (hashOf 1) (putRecord (widthOf 1) (plainEntry 20 102 a/c) records) full-put
 unfolding fit32 widthOf
-put-spelled = demand2 1 work room .put-in full 0 338 (plainEntry 20 102 a/c) full-bytes refl refl refl .result contents 356 full-put 338 full-read put-done .spelled
+put-spelled = demand2 1 work room .put-in full 1 338 (plainEntry 20 102 a/c) full-bytes refl refl refl .result contents 356 full-put 338 full-read put-done .spelled
 
 -- a-b is removed: "-1 1", and a stays "2 0"
 full-removed : List ℕ
@@ -161,9 +161,9 @@ full-removed = indexBytes 20 2 (plain 20 34 a/b ++ plain 20 51 a/c) (0 ∷ 45 �
 abbrev key : Key
 key = record { name = a-b; stage = 0 }
 
-remove-done : remove 1 work 0 key 285 full ≡ good full-removed 285
+remove-done : remove 1 work 1 key 285 full ≡ good full-removed 285
 unfolding closed full-removed
-remove-done = ap (removeAnswer (widthOf 1) (hashOf 1) work 0 key 285) full-of-kind
+remove-done = ap (removeAnswer (widthOf 1) (hashOf 1) work 1 key 285) full-of-kind
 
 remove-spelled : Spells (widthOf 1) (hashOf 1) (removeRecord (widthOf 1) key records) full-removed
-remove-spelled = demand2 1 work room .removed full 0 285 key full-bytes .result contents 356 full-removed 285 full-read remove-done .spelled
+remove-spelled = demand2 1 work room .removed full 1 285 key full-bytes .result contents 356 full-removed 285 full-read remove-done .spelled

@@ -59,7 +59,7 @@ unfolding closed full
 accepted-sha256 = (refl, refl)
 
 -- what is written has a real one
-written : rewrite 1 work 0 96 (take 76 file ++ replicate 20 0) ≡ good (take 96 file) 96
+written : rewrite 1 work 1 96 (take 76 file ++ replicate 20 0) ≡ good (take 96 file) 96
 unfolding closed file
 written = refl
 

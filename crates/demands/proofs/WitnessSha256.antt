@@ -69,13 +69,13 @@ full-shown =
 full-put : List ℕ
 full-put = indexBytes 32 2 (plain 32 17 a-b ++ plain 32 34 a/b) (0 ∷ 45 ∷ 49 ∷ 32 ∷ 48 ∷ 10 ∷ []) (171 ∷ 197 ∷ 183 ∷ 194 ∷ 182 ∷ 183 ∷ 171 ∷ 9 ∷ 221 ∷ 222 ∷ 113 ∷ 171 ∷ 128 ∷ 91 ∷ 177 ∷ 52 ∷ 141 ∷ 157 ∷ 86 ∷ 10 ∷ 188 ∷ 112 ∷ 178 ∷ 132 ∷ 160 ∷ 60 ∷ 104 ∷ 187 ∷ 228 ∷ 145 ∷ 97 ∷ 199 ∷ [])
 
-put-done : put 2 work 0 (plainEntry 32 34 a/b) 311 full ≡ good full-put 311
+put-done : put 2 work 1 (plainEntry 32 34 a/b) 311 full ≡ good full-put 311
 unfolding closed full-put
-put-done = ap (putAnswer (widthOf 2) (hashOf 2) work 0 (plainEntry 32 34 a/b) 311) full-of-kind
+put-done = ap (putAnswer (widthOf 2) (hashOf 2) work 1 (plainEntry 32 34 a/b) 311) full-of-kind
 
 put-spelled : Spells (widthOf 2) (hashOf 2) (putRecord (widthOf 2) (plainEntry 32 34 a/b) records) full-put
 unfolding fit32 widthOf
-put-spelled = demand2 2 work room .put-in full 0 311 (plainEntry 32 34 a/b) full-bytes refl refl refl .result contents 230 full-put 311 full-read put-done .spelled
+put-spelled = demand2 2 work room .put-in full 1 311 (plainEntry 32 34 a/b) full-bytes refl refl refl .result contents 230 full-put 311 full-read put-done .spelled
 
 -- ---- the wrong kind
 

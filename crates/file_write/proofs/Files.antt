@@ -11,8 +11,8 @@ use borrow.Author.Tests.{eqb-true, le-leb, lt-leb}
 use Rattle.format.specs.Records.{Entry, Records}
 use Rattle.format.specs.Reading.{Read, bad, good, need}
 use Rattle.format.specs.Writer.{writeBody, writeFile}
-use Rattle.format.specs.Requests.{anyWord, versionFor, fitting, writing}
-use Rattle.format_laws.proofs.Tests.{by-test}
+use Rattle.format.specs.Requests.{anyWord, versionOf, versionFor, fitting, writing}
+use Rattle.versions.proofs.Laws.{four-known}
 use Rattle.fields.proofs.Workspace.{frame-then}
 use Rattle.output.specs.Output.{withAt, Wrote}
 use Rattle.output.proofs.Laws.{wrote-then}
@@ -23,23 +23,7 @@ use Rattle.entries_edit.specs.declared.rest.WriteEnd.{WriteEnd}
 use Rattle.entries_edit.specs.Edits.{Replaces}
 use Rattle.file_write.specs.Bodies.{changed, BodyHas, BodyWritten}
 use Rattle.file_write.proofs.Bodies.{body-same-length}
-use Rattle.file_write.specs.Results.{Measured, versionOf, measuredVersion, Answers, FileWritten}
-
--- ---- the version
-
-pub version-is : (asked : ℕ) (es : List Entry) → versionOf asked (anyWord es) ≡ versionFor asked es
-unfolding versionFor
-version-is asked es = refl
-
-measured-version-four : (asked : ℕ) (t : Bool) → eqb (versionOf asked t) 4 ≡ eqb (measuredVersion asked) 4
-measured-version-four asked t =
-    by-test (eqb asked 4)
-    (λ four. let is : asked ≡ 4 = eqb-true asked 4 four in rw is)
-    (λ other. by-test (eqb asked 0) (λ free. rw (other, free) (plain t)) (λ fixed. rw (other, fixed) other))
-  where
-    plain : (t : Bool) → eqb (cond t 3 2) 4 ≡ false
-    plain true = refl
-    plain false = refl
+use Rattle.file_write.specs.Results.{Measured, Answers, FileWritten}
 
 -- ---- the tests
 
@@ -49,14 +33,13 @@ module _ (w : ℕ) (hash : List ℕ → List ℕ) (width : (m : List ℕ) → le
   unfolding writing need
   answer-worded h = rw h
 
-  module _ (free : (eqb asked 2 && anyWord (r .entries)) ≡ false) (n : ℕ) (size : n ≡ length (writeBody w (measuredVersion asked) r)) where
+  module _ (free : (eqb asked 2 && anyWord (r .entries)) ≡ false) (n : ℕ) (size : n ≡ length (writeBody w (versionOf asked true) r)) where
     abbrev file : List ℕ
     file = writeFile w hash (versionFor asked (r .entries)) r
 
     body-long : length (writeBody w (versionFor asked (r .entries)) r) ≡ n
-    body-long =
-        rw (← version-is asked (r .entries))
-        (body-same-length w (versionOf asked (anyWord (r .entries))) (measuredVersion asked) r (measured-version-four asked (anyWord (r .entries))) ∙ sym size)
+    unfolding versionFor
+    body-long = body-same-length w (versionFor asked (r .entries)) (versionOf asked true) r (four-known asked (anyWord (r .entries))) ∙ sym size
 
     file-long : length file ≡ n + w
     unfolding writeFile
@@ -113,7 +96,7 @@ answers-good x s out out′ m e wrote fits =
 -- ---- the whole: after it was measured
 
 module _ (w : ℕ) (hash : List ℕ → List ℕ) (width : (m : List ℕ) → length (hash m) ≡ w)
-    (b work work₁ : List ℕ) (parts : Parts) (asked : ℕ) (edit : Edit) (e : Entry) (sized : WriteEnd) (m : Measured w b parts work edit e (measuredVersion asked) work₁ sized)
+    (b work work₁ : List ℕ) (parts : Parts) (asked : ℕ) (edit : Edit) (e : Entry) (sized : WriteEnd) (m : Measured w b parts work edit e (versionOf asked true) work₁ sized)
     (out : List ℕ) where
   pub file-worded : (eqb asked 2 && sized .extended) ≡ true → FileWritten w hash b parts work asked edit e out work₁ out (W.Refused 21 0)
   file-worded h = record {
@@ -141,7 +124,8 @@ module _ (w : ℕ) (hash : List ℕ → List ℕ) (width : (m : List ℕ) → le
       module _ (fits : sized .at + w ≤ length out) (version : ℕ) (is : version ≡ versionOf asked (sized .extended)) (work₂ out₁ : List ℕ) (written : WriteEnd)
           (body : BodyWritten w b parts work₁ edit e version out work₂ out₁ written) where
         version-of : (x : Records) → BodyHas w b parts x → Replaces edit (e .name) (x .entries) → version ≡ versionFor asked (changed w edit e x .entries)
-        version-of x has there = is ∙ ap (versionOf asked) (m .extended x has there) ∙ version-is asked (changed w edit e x .entries)
+        unfolding versionFor
+        version-of x has there = is ∙ ap (versionOf asked) (m .extended x has there)
 
         pub same-size : (x : Records) → BodyHas w b parts x → Replaces edit (e .name) (x .entries) → written .at ≡ sized .at
         same-size x has there =

@@ -2,10 +2,8 @@
 -- name and of the checksum, hash the checksum's function.
 use mathlib.Core.Path.{_≡_}
 use mathlib.Core.List.{List}
-use mathlib.Core.Bool.{Bool, cond}
 use Prim.Native.Nat.{ℕ, _≤_}
 use lib.ListN.{length}
-use lib.Dec.{eqb}
 use Rattle.format.specs.Records.{Entry, Records}
 use Rattle.format.specs.Reading.{Read}
 use Rattle.format.specs.Writer.{writeBody}
@@ -25,14 +23,6 @@ pub record Measured (w : ℕ) (b : List ℕ) (parts : Parts) (work : List ℕ) (
   pub extended : (x : Records) → BodyHas w b parts x → Replaces edit (e .name) (x .entries) → r .extended ≡ anyWord (changed w edit e x .entries)
   pub near : r .at ≤ 1125899906842624
   pub frame : Frame work work′
-
--- the version for a request, where an entry needs the extended word or none does
-abbrev pub versionOf : ℕ → Bool → ℕ
-versionOf asked extended = cond (eqb asked 0) (cond extended 3 2) asked
-
--- a version in which the body is as long as in the version for a request
-abbrev pub measuredVersion : ℕ → ℕ
-measuredVersion asked = cond (eqb asked 4) 4 3
 
 -- a request's answer x as the code gives it, and the output after it
 pub record Answers (x : Read (List ℕ)) (out out′ : List ℕ) (r : Written) : Type 0 where

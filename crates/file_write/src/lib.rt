@@ -2,15 +2,13 @@
 pub mod body;
 
 ghost use mathlib.Core.Path.{_≡_};
-ghost use mathlib.Core.Bool.{_&&_};
 ghost use Prim.Native.Nat.{_+_, _≤_, _<_};
 ghost use lib.ListN.{length, take};
-ghost use lib.Dec.{eqb};
 ghost use Rattle.entries.specs.Record.{entryWith};
 ghost use Rattle.output.specs.Output.{Wrote};
 ghost use Rattle.kinds.specs.Kinds.{widthOf, hashOf};
 ghost use Rattle.file_write.specs.Bodies.{WriteReady};
-ghost use Rattle.file_write.specs.Results.{versionOf, measuredVersion, Measured, FileWritten};
+ghost use Rattle.file_write.specs.Results.{Measured, FileWritten};
 use crate::body::put_body;
 use answers::Written;
 use entries::record::Fields;
@@ -18,6 +16,8 @@ use entries_edit::Edit;
 use entries_edit::rest::WriteEnd;
 use file_read::Parts;
 use output::put_part;
+use versions::is_barred;
+use versions::version_for;
 
 // How long the body is in a version, and whether one of its entries needs the extended word. No part of it fits one byte, so nothing is written.
 fn measure(
@@ -46,40 +46,7 @@ fn append_checksum(out: &mut [u8], n: usize, kind: u32, w: usize) -> usize
     put_part(out, n, &checksum, 0, w)
 }
 
-// The version that is asked for: 0 asks for 3 where an entry needs the extended word, else for 2.
-fn version_for(asked: u32, extended: bool) -> u32
-    ensures { λ r. ⌜ r ≡ versionOf asked extended ⌝ }
-{
-    if asked == 0 {
-        if extended {
-            return 3;
-        }
-        return 2;
-    }
-    asked
-}
-
-// A version in which the body is as long as in the one that is asked for.
-fn measured_version(asked: u32) -> u32
-    ensures { λ r. ⌜ r ≡ measuredVersion asked ⌝ }
-{
-    if asked == 4 {
-        return 4;
-    }
-    3
-}
-
-// Whether version 2 is asked for and an entry needs the extended word.
-fn is_barred(asked: u32, extended: bool) -> bool
-    ensures { λ r. ⌜ r ≡ (eqb asked 2 && extended) ⌝ }
-{
-    if asked == 2 {
-        return extended;
-    }
-    false
-}
-
-// The file of a version, with an edit. w is the width of the kind's object names and of its checksum. It is measured first: 21 where version 2 has no extended word, 2 where it is too long, 20 where the output is too small.
+// The file of a version, with an edit. w is the width of the kind's object names and of its checksum. It is measured first, as if an entry needed the extended word, since no length depends on that: 21 where version 2 has no extended word, 2 where it is too long, 20 where the output is too small.
 pub fn write(
     b: &[u8],
     parts: Parts,
@@ -102,7 +69,7 @@ pub fn write(
         edit,
         fields,
         name,
-        measured_version(asked),
+        version_for(asked, true),
         w,
     );
     if is_barred(asked, sized.extended) {

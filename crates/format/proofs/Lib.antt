@@ -3,3 +3,4 @@ pub mod Cases
 pub mod Examples
 pub mod Requested
 pub mod Stages
+pub mod Versions

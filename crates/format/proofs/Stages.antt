@@ -54,7 +54,7 @@ mixing :
     (putRequest 20 hash 0 (entryOf 0 false a) 1000 (listed conflict) ≡ bad 11 0)
     × (putRequest 20 hash 0 (entryOf 2 false a) 1000 records ≡ bad 11 0)
     × (putRequest 20 hash 2 (entryOf 0 true a) 0 (listed conflict) ≡ bad 11 0)
-    × (putRequest 20 hash 1 (entryOf 2 false a) 1000 records ≡ bad 4 0)
+    × (putRequest 20 hash 5 (entryOf 2 false a) 1000 records ≡ bad 4 0)
     × (putRequest 20 hash 0 (fileEntry 1 5 a) 1000 (listed conflict) ≡ bad 7 0)
     × (putRequest 20 hash 0 (entryOf 4 false a) 1000 records ≡ bad 8 0)
     × (putRequest 20 hash 0 (entryOf 2 false []) 1000 (listed (entryOf 0 false [] ∷ [])) ≡ bad 9 0)

@@ -77,12 +77,16 @@ unfoldable pub anyWord : List Entry → Bool
 anyWord [] = false
 anyWord (e ∷ es) = needsWord e || anyWord es
 
--- 0 asks for version 2 where no entry needs the extended word, else for version 3
+-- the versions that may be asked for: 2, 3, 4; 0, which means 4; and 1, the lowest, which means 2 where no entry needs the extended word, else 3
 unfoldable pub okAsked : ℕ → Bool
-okAsked asked = eqb asked 0 || (leb 2 asked && leb asked 4)
+okAsked asked = leb asked 4
+
+-- where an entry needs the extended word, or none does
+unfoldable pub versionOf : ℕ → Bool → ℕ
+versionOf asked word = cond (eqb asked 0) 4 (cond (eqb asked 1) (cond word 3 2) asked)
 
 unfoldable pub versionFor : ℕ → List Entry → ℕ
-versionFor asked es = cond (eqb asked 0) (cond (anyWord es) 3 2) asked
+versionFor asked es = versionOf asked (anyWord es)
 
 -- one file, of at most 16,777,216 bytes, for an output of room bytes
 unfoldable pub fitting : ℕ → List ℕ → Read (List ℕ)

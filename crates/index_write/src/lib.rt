@@ -8,7 +8,7 @@ ghost use lib.ListN.{length};
 ghost use Rattle.format.specs.Bytes.{fit32};
 ghost use Rattle.format.specs.Reading.{good};
 ghost use Rattle.format.specs.Reader.{Contents};
-ghost use Rattle.format.specs.Requests.{putRecord, removeRecord, okAsked, writing};
+ghost use Rattle.format.specs.Requests.{putRecord, removeRecord, writing};
 ghost use Rattle.kinds.specs.Kinds.{widthOf, hashOf, readKind};
 ghost use Rattle.answers.specs.Answers.{inRoom, cleared};
 ghost use Rattle.entries.specs.Record.{entryWith};
@@ -25,6 +25,7 @@ use entries_place::find_place;
 use file_read::Parts;
 use file_read::Whole;
 use file_read::read_cleared;
+use versions::asked_ok;
 
 // What is asked for: the records as they are, with one put, or without the entry of a name and this stage.
 pub enum Request {
@@ -40,19 +41,6 @@ pub enum Plan {
 }
 
 // ---- the tests of a request
-
-// Whether a version may be asked for.
-fn asked_ok(asked: u32) -> bool
-    ensures { λ r. ⌜ r ≡ okAsked asked ⌝ }
-{
-    if asked == 0 {
-        return true;
-    }
-    if asked < 2 {
-        return false;
-    }
-    asked <= 4
-}
 
 // Five numbers of 32 bits.
 fn five_typed(a: u32, b: u32, c: u32, d: u32, e: u32)

@@ -1,20 +1,20 @@
 -- The bytes that a request answers are spelled by the result's records, and are read back as these.
 use mathlib.Core.Path.{_≡_, refl}
 use mathlib.Core.List.{List, []}
-use mathlib.Core.Bool.{true, false, cond, not, _&&_}
+use mathlib.Core.Bool.{true, false, not, _&&_}
 use Prim.Native.Nat.{ℕ, _+_, _≤_}
 use native.Mathlib.Omega.{arith}
 use lib.ListN.{length}
-use lib.Dec.{eqb, leb}
-use borrow.Author.Tests.{eq-eqb, leb-true, ltb-true, not-true}
+use lib.Dec.{eqb}
+use borrow.Author.Tests.{eq-eqb, eqb-false, leb-true, ltb-true, not-true}
 use Rattle.format.specs.Bytes.{fit32}
 use Rattle.format.specs.Records.{Entry, Key, Records}
 use Rattle.format.specs.Checksum.{matches}
 use Rattle.format.specs.Reading.{good}
 use Rattle.format.specs.Reader.{readFile}
 use Rattle.format.specs.Writer.{writeEntries, writeBody, writeFile}
-use Rattle.format.specs.Requests.{putRecord, removeRecord, anyWord, okAsked, versionFor, fitting, writing, rewriteRequest, putRequest, removeRequest}
-use Rattle.format_laws.proofs.Tests.{and-inv, by-test, by-cond}
+use Rattle.format.specs.Requests.{putRecord, removeRecord, anyWord, okAsked, versionOf, versionFor, fitting, writing, rewriteRequest, putRequest, removeRequest}
+use Rattle.format_laws.proofs.Tests.{by-cond}
 use Rattle.format_laws.proofs.Readings.{good-inv, need-inv}
 use Rattle.writing.specs.Sound.{SoundEntry, SoundRecords, Writable}
 use Rattle.writing.specs.OneFile.{OneFile}
@@ -25,20 +25,31 @@ use Rattle.writing.proofs.Smallest.{smallest}
 -- ---- the version
 
 asked-between : (asked : ℕ) (es : List Entry) → okAsked asked ≡ true → (2 ≤ versionFor asked es) × (versionFor asked es ≤ 4)
-unfolding okAsked versionFor
+unfolding okAsked versionOf versionFor
 asked-between asked es ok =
-    by-test (eqb asked 0)
-    (λ free. rw free (by-cond (λ v. (2 ≤ v) × (v ≤ 4)) (anyWord es) 3 2 (λ e. omega arith) (λ e. omega arith)))
-    (λ fixed.
-    let (low, high) = and-inv (leb 2 asked) (leb asked 4) (rw fixed at ok) in
-    rw fixed (leb-true _ _ low, leb-true _ _ high))
+    by-cond Between (eqb asked 0) 4 _
+    (λ _. (omega arith, omega arith))
+    (λ free.
+    by-cond Between (eqb asked 1) _ asked
+    (λ _. by-cond Between (anyWord es) 3 2 (λ _. (omega arith, omega arith)) (λ _. (omega arith, omega arith)))
+    (λ fixed. let high = leb-true _ _ ok in (omega (arith, eqb-false asked 0 free, eqb-false asked 1 fixed), high)))
+  where
+    Between : ℕ → Type 0
+    Between v = (2 ≤ v) × (v ≤ 4)
 
+-- what is written in version 2 has no word
 asked-no-word : (asked : ℕ) (es : List Entry) → not (eqb asked 2 && anyWord es) ≡ true → versionFor asked es ≡ 2 → anyWord es ≡ false
-unfolding versionFor
+unfolding versionOf versionFor
 asked-no-word asked es test =
-    by-cond (λ v. v ≡ 2 → anyWord es ≡ false) (eqb asked 0) (cond (anyWord es) 3 2) asked
-    (λ free. by-cond (λ v. v ≡ 2 → anyWord es ≡ false) (anyWord es) 3 2 (λ e is. absurd (omega arith)) (λ e is. e))
-    (λ fixed is. let two : eqb asked 2 ≡ true = eq-eqb asked 2 is in not-true (anyWord es) (rw two at test))
+    by-cond Free (eqb asked 0) 4 _
+    (λ _ is. absurd (omega arith))
+    (λ _.
+    by-cond Free (eqb asked 1) _ asked
+    (λ _. by-cond Free (anyWord es) 3 2 (λ _ is. absurd (omega arith)) (λ none _. none))
+    (λ _ is. let two : eqb asked 2 ≡ true = eq-eqb asked 2 is in not-true (anyWord es) (rw two at test)))
+  where
+    Free : ℕ → Type 0
+    Free v = v ≡ 2 → anyWord es ≡ false
 
 -- ---- what is answered
 

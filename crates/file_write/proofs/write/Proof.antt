@@ -1,15 +1,16 @@
 -- The proof that `write` meets its contract.
 use mathlib.Core.Path.{_≡_, sym, _∙_}
 use mathlib.Core.List.{List}
-use mathlib.Core.Bool.{false, _&&_}
+use mathlib.Core.Bool.{true, false, _&&_}
 use Prim.Native.Nat.{ℕ}
 use native.Mathlib.Omega.{arith}
 use lib.ListN.{length}
 use lib.Dec.{eqb}
+use Rattle.format.specs.Requests.{versionOf}
 use Rattle.kinds.specs.Kinds.{hashOf}
 use Rattle.kinds.proofs.Laws.{length-hash}
 use Rattle.entries.specs.Record.{entryWith}
-use Rattle.file_write.specs.Results.{Measured, measuredVersion}
+use Rattle.file_write.specs.Results.{Measured}
 use Rattle.file_write.proofs.Files.{file-worded, file-long-refused, file-small-refused, same-size, file-done}
 use borrow.Author.Needs.{needs}
 use Rattle.file_write.proofs.write.Statement.{statement}
@@ -23,9 +24,9 @@ width c m = length-hash (c .args .kind) m ∙ sym (c .pre .1)
 measured :
     (c : tie.After-measure) →
     let a = c .before .before .before .before .before .before .before .args in
-    Measured (a .w) (a .b .now) (a .parts) (a .work .now) (a .edit) (entryWith (a .w) (a .fields) (a .name .now)) (measuredVersion (a .asked)) (c .measure .last .1 .1 .0)
+    Measured (a .w) (a .b .now) (a .parts) (a .work .now) (a .edit) (entryWith (a .w) (a .fields) (a .name .now)) (versionOf (a .asked) true) (c .measure .last .1 .1 .0)
     (c .measure .result)
-measured c = rw (c .before .measured-version .ensures) at (c .measure .ensures)
+measured c = rw (c .before .version-for .ensures) at (c .measure .ensures)
 
 -- no entry needs a word that its version lacks
 free : (c : tie.Else1) → (eqb (c .before .before .before .before .before .before .before .before .before .before .before .args .asked) 2 && c .before .before .before .before .measure .result .extended) ≡ false
@@ -40,11 +41,11 @@ lengths c =
     let m = f .before .before .before .before in
     let st = m .before .before .before .before .before .before .before in
     let p = st .pre .0 in
-    same-size _ (hashOf (st .args .kind)) (width st) _ _ _ _ (st .args .asked) _ _ _ (measured m) _ (free f) (r .if2 .left) (v .before .if3 .left) _ (v .version-for .ensures) _ _ _ (c .put-body .ensures)
+    same-size _ (hashOf (st .args .kind)) (width st) _ _ _ _ (st .args .asked) _ _ _ (measured m) _ (free f) (r .if2 .left) (v .before .if3 .left) _ (v .version-for2 .ensures) _ _ _ (c .put-body .ensures)
     (p .records) (p .has) (p .there)
 
-measured-version-requires : tie.Need-measured-version-requires
-measured-version-requires c κs = search needs
+version-for-requires : tie.Need-version-for-requires
+version-for-requires c κs = search needs
 
 measure-requires : tie.Need-measure-requires
 measure-requires c κs = search needs
@@ -83,8 +84,8 @@ returns-3 c =
     let st = m .before .before .before .before .before .before .before in
     file-small-refused _ (hashOf (st .args .kind)) (width st) _ _ _ _ _ _ _ _ (measured m) _ (free f) (s .if2 .left) (c .if3 .taken)
 
-version-for-requires : tie.Need-version-for-requires
-version-for-requires c κs = search needs
+version-for-requires-2 : tie.Need-version-for-requires-2
+version-for-requires-2 c κs = search needs
 
 put-body-requires : tie.Need-put-body-requires
 put-body-requires c κs =
@@ -127,7 +128,7 @@ returns-4 c =
     let f = r .before .before in
     let m = f .before .before .before .before in
     let st = m .before .before .before .before .before .before .before in
-    file-done _ (hashOf (st .args .kind)) (width st) _ _ _ _ _ _ _ _ (measured m) _ (free f) (r .if2 .left) (v .before .if3 .left) _ (v .version-for .ensures) _ _ _ (l .put-body .ensures) _ _
+    file-done _ (hashOf (st .args .kind)) (width st) _ _ _ _ _ _ _ _ (measured m) _ (free f) (r .if2 .left) (v .before .if3 .left) _ (v .version-for2 .ensures) _ _ _ (l .put-body .ensures) _ _
     (s .append-checksum .ensures)
 
 add-long : tie.Need-add-long
@@ -137,7 +138,7 @@ pub write-spec : {M : Type 1} → statement M
 write-spec =
     tie.close
     (tie.spec
-    measured-version-requires
+    version-for-requires
     measure-requires
     is-barred-requires
     same-length
@@ -147,7 +148,7 @@ write-spec =
     returns-2
     same-length-3
     returns-3
-    version-for-requires
+    version-for-requires-2
     put-body-requires
     append-checksum-requires
     same-length-4

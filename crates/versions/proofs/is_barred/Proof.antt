@@ -1,7 +1,7 @@
 -- The proof that `is_barred` meets its contract.
 use borrow.Author.Tests.{ne-eqb}
-use Rattle.file_write.proofs.is_barred.Statement.{statement}
-use Rattle.file_write.proofs.is_barred.Tie as tie
+use Rattle.versions.proofs.is_barred.Statement.{statement}
+use Rattle.versions.proofs.is_barred.Tie as tie
 
 returns : tie.Need-returns
 returns c = rw (c .if1 .taken)
