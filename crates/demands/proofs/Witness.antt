@@ -1,7 +1,7 @@
 -- The statements of the demands are not empty: a file of 198 bytes that is accepted, so spelled, and whose cut to 96 bytes is accepted too, and
 -- to 95 bytes refused. The cut's checksum reads, in the whole file, as the head of an extension that is passed over. The file is rewritten. A
--- file of version 4, whose entry is shown in the workspace, and one that is rewritten with a smaller N. And a file with a cache tree and resolve
--- undo, whose nodes and records are shown, with a put and a remove.
+-- file of version 4, whose entry is shown in the workspace. And a file with a cache tree and resolve undo, whose nodes and records are shown,
+-- with a put and a remove.
 use mathlib.Core.Path.{_≡_, refl, ap, _∙_}
 use mathlib.Core.List.{List, [], _∷_, _++_}
 use mathlib.Core.Option.{some}
@@ -26,7 +26,7 @@ use Rattle.answers.specs.Answers.{checkAnswer, nodeAnswer, undoAnswer, inFile, 
 use Rattle.answers.specs.Writing.{putAnswer, removeAnswer}
 use Rattle.demands.proofs.Statements.{check, entry, node, undo, rewrite, put, remove}
 use Rattle.demands.proofs.Demands.{demand2, demand3}
-use Rattle.demands.proofs.Samples.{work, closed, room, below, all-below, fixedPart, plain, indexBytes, plainEntry, plan}
+use Rattle.demands.proofs.Samples.{work, closed, room, below, all-below, plain, indexBytes, plainEntry, plan}
 
 -- ---- an extension that is passed over
 
@@ -71,17 +71,6 @@ packed = 68 ∷ 73 ∷ 82 ∷ 67 ∷ 0 ∷ 0 ∷ 0 ∷ 4 ∷ 0 ∷ 0 ∷ 0 ∷ 1
 entry-shown : (e : Entry) × (entry 1 work 0 packed ≡ inWorkspace e) × (e .name ≡ 97 ∷ [])
 unfolding closed packed
 entry-shown = (_, refl, refl)
-
--- "a-b" and "a/b", which is N = 3 and "a/b"; and with N = 2 and "/b"
-loose : List ℕ
-loose = 68 ∷ 73 ∷ 82 ∷ 67 ∷ 0 ∷ 0 ∷ 0 ∷ 4 ∷ 0 ∷ 0 ∷ 0 ∷ 2 ∷ (fixedPart 20 17 ++ (0 ∷ 97 ∷ 45 ∷ 98 ∷ 0 ∷ (fixedPart 20 34 ++ (3 ∷ 97 ∷ 47 ∷ 98 ∷ 0 ∷ 233 ∷ 186 ∷ 212 ∷ 237 ∷ 56 ∷ 66 ∷ 219 ∷ 116 ∷ 41 ∷ 202 ∷ 147 ∷ 115 ∷ 92 ∷ 97 ∷ 53 ∷ 187 ∷ 96 ∷ 184 ∷ 85 ∷ 184 ∷ []))))
-
-tight : List ℕ
-tight = 68 ∷ 73 ∷ 82 ∷ 67 ∷ 0 ∷ 0 ∷ 0 ∷ 4 ∷ 0 ∷ 0 ∷ 0 ∷ 2 ∷ (fixedPart 20 17 ++ (0 ∷ 97 ∷ 45 ∷ 98 ∷ 0 ∷ (fixedPart 20 34 ++ (2 ∷ 47 ∷ 98 ∷ 0 ∷ 108 ∷ 238 ∷ 58 ∷ 136 ∷ 214 ∷ 189 ∷ 142 ∷ 190 ∷ 177 ∷ 128 ∷ 188 ∷ 51 ∷ 27 ∷ 208 ∷ 72 ∷ 2 ∷ 55 ∷ 2 ∷ 138 ∷ 68 ∷ []))))
-
-loose-rewritten : rewrite 1 work 4 165 loose ≡ good tight 165
-unfolding closed loose tight
-loose-rewritten = refl
 
 -- ---- a cache tree and resolve undo
 
