@@ -364,22 +364,25 @@ static void walk(void)
     walk_next(SIZE_MAX, UINT32_MAX);
 }
 
+/* What is asked for: each version that there is, and two that there are not. */
+static const uint32_t versions[] = {0, 1, 2, 3, 4, 5, UINT32_MAX};
+#define VERSIONS (sizeof versions / sizeof versions[0])
+
 static void rewrites(void)
 {
     size_t written;
 
-    for (uint32_t asked = 0; asked < 6; asked++)
-        rewrite(asked);
-    rewrite(UINT32_MAX);
+    for (size_t k = 0; k < VERSIONS; k++)
+        rewrite(versions[k]);
     out_length = room;
-    rewrite(0);
+    rewrite(NERUPAZHIL_VERSION_LOWEST);
     written = given.reply.write.refusal == 0 ? (size_t)given.reply.write.length : 32;
     out_length = written;
-    rewrite(0);
+    rewrite(NERUPAZHIL_VERSION_LOWEST);
     out_length = written - 1;
-    rewrite(0);
+    rewrite(NERUPAZHIL_VERSION_LOWEST);
     out_length = 0;
-    rewrite(4);
+    rewrite(NERUPAZHIL_VERSION_DEFAULT);
     out_length = room;
 }
 
@@ -387,23 +390,23 @@ static void good_puts(void)
 {
     struct record record = named("new/in/folder");
 
-    for (uint32_t asked = 0; asked < 6; asked++)
-        put(asked, record);
+    for (size_t k = 0; k < VERSIONS; k++)
+        put(versions[k], record);
     for (record.fields.stage = 1; record.fields.stage < 4; record.fields.stage++)
-        put(0, record);
+        put(NERUPAZHIL_VERSION_LOWEST, record);
     record = named("~");
     record.fields.skip_worktree = 1;
-    put(0, record);
+    put(NERUPAZHIL_VERSION_LOWEST, record);
     put(2, record);
     put(4, record);
     record = a_record(old_name, old_length);
     record.fields.stage = old_stage;
     record.fields.intent_to_add = 8;
-    put(0, record);
-    put(4, record);
+    put(NERUPAZHIL_VERSION_LOWEST, record);
+    put(NERUPAZHIL_VERSION_DEFAULT, record);
     record.fields.mode = NERUPAZHIL_MODE_GITLINK;
     record.fields.stage = old_stage == 0 ? 0 : old_stage % 3 + 1;
-    put(0, record);
+    put(NERUPAZHIL_VERSION_LOWEST, record);
 }
 
 /* The old name, at stage 0 beside a conflict or at stage 2 beside stage 0. */
@@ -412,11 +415,11 @@ static void mixed_puts(void)
     struct record record = a_record(old_name, old_length);
 
     record.fields.stage = old_stage == 0 ? 2 : 0;
-    put(0, record);
+    put(NERUPAZHIL_VERSION_LOWEST, record);
     record.fields.skip_worktree = 1;
     put(2, record);
     record.fields.mode = 0100600;
-    put(0, record);
+    put(NERUPAZHIL_VERSION_LOWEST, record);
 }
 
 static void bad_puts(void)
@@ -426,32 +429,30 @@ static void bad_puts(void)
     struct record record = named("a");
 
     for (size_t k = 0; k < sizeof names / sizeof names[0]; k++)
-        put(0, named(names[k]));
+        put(NERUPAZHIL_VERSION_LOWEST, named(names[k]));
     record.fields.stage = 4;
-    put(0, record);
+    put(NERUPAZHIL_VERSION_LOWEST, record);
     record = named("a");
     record.fields.mode = 0100600;
-    put(0, record);
+    put(NERUPAZHIL_VERSION_LOWEST, record);
     memset(name, 'n', sizeof name);
     put(4, a_record(name, NERUPAZHIL_NAME));
     put(4, a_record(name, NERUPAZHIL_NAME + 1));
     out_length = 40;
-    put(0, named("a"));
+    put(NERUPAZHIL_VERSION_LOWEST, named("a"));
     out_length = room;
 }
 
 static void removals(void)
 {
-    static const uint32_t asked[] = {0, 2, 3, 4, 5};
-
-    for (size_t k = 0; k < sizeof asked / sizeof asked[0]; k++)
-        remove_entry(asked[k], old_name, old_length, old_stage);
-    remove_entry(0, old_name, old_length, (old_stage + 1) % 4);
-    remove_entry(0, old_name, old_length, UINT32_MAX);
-    remove_entry(0, old_name, old_length - 1, old_stage);
-    remove_entry(0, NULL, 0, 0);
+    for (size_t k = 0; k < VERSIONS; k++)
+        remove_entry(versions[k], old_name, old_length, old_stage);
+    remove_entry(NERUPAZHIL_VERSION_LOWEST, old_name, old_length, (old_stage + 1) % 4);
+    remove_entry(NERUPAZHIL_VERSION_LOWEST, old_name, old_length, UINT32_MAX);
+    remove_entry(NERUPAZHIL_VERSION_LOWEST, old_name, old_length - 1, old_stage);
+    remove_entry(NERUPAZHIL_VERSION_LOWEST, NULL, 0, 0);
     out_length = 40;
-    remove_entry(0, old_name, old_length, old_stage);
+    remove_entry(NERUPAZHIL_VERSION_LOWEST, old_name, old_length, old_stage);
     out_length = room;
 }
 
@@ -468,7 +469,7 @@ static void other_settings(struct nerupazhil_check_reply counts)
     each_call(counts, 4);
     kind = UINT32_MAX;
     work_length = NERUPAZHIL_WORKSPACE;
-    each_call(counts, 0);
+    each_call(counts, NERUPAZHIL_VERSION_DEFAULT);
 }
 
 /* Sets `room` so that it is enough for every call that is made. */

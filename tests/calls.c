@@ -181,6 +181,8 @@ static struct nerupazhil_fields full;             /* numbers that differ; the fl
 static struct laid example, example_3, example_4; /* the example of document 01, in versions 2, 3 and 4 */
 static struct laid changed, added;                /* with another record 'a'; with a record 'b' of all fields */
 static struct laid extended, invalid;             /* with extensions; the same after a put of 'a' */
+static struct laid changed_4, added_4;            /* in version 4 */
+static struct laid extended_4, invalid_4;         /* in version 4 */
 static struct laid damaged;                       /* with a wrong checksum */
 static struct laid zeroed;                        /* with a checksum that was left out */
 
@@ -193,19 +195,19 @@ static void lay_example(struct laid *file, uint32_t version)
 }
 
 /* The example with 'a' as a link. */
-static void lay_changed(struct laid *file)
+static void lay_changed(struct laid *file, uint32_t version)
 {
-    lay_start(file, 2, 2);
+    lay_start(file, version, 2);
     lay_plain(file, NERUPAZHIL_MODE_LINK, 0x33, "a");
     lay_plain(file, NERUPAZHIL_MODE_EXECUTABLE, 0x22, "b/c");
     lay_checksum(file);
 }
 
-static void lay_added(struct laid *file)
+static void lay_added(struct laid *file, uint32_t version, const struct nerupazhil_fields *fields)
 {
-    lay_start(file, 3, 3);
+    lay_start(file, version, 3);
     lay_plain(file, NERUPAZHIL_MODE_REGULAR, 0x11, "a");
-    lay_entry(file, &full, 0x33, "b");
+    lay_entry(file, fields, 0x33, "b");
     lay_plain(file, NERUPAZHIL_MODE_EXECUTABLE, 0x22, "b/c");
     lay_checksum(file);
 }
@@ -237,10 +239,14 @@ static void lay_files(void)
     lay_example(&example, 2);
     lay_example(&example_3, 3);
     lay_example(&example_4, 4);
-    lay_changed(&changed);
-    lay_added(&added);
+    lay_changed(&changed, 2);
+    lay_changed(&changed_4, 4);
+    lay_added(&added, 3, &full);
+    lay_added(&added_4, 4, &full);
     lay_extended(&extended, &example, 1);
+    lay_extended(&extended_4, &example_4, 1);
     lay_extended(&invalid, &changed, 0);
+    lay_extended(&invalid_4, &changed_4, 0);
     damaged = example;
     damaged.bytes[damaged.length - 1] ^= 1;
     lay_zeroed(&zeroed, &example);
@@ -902,28 +908,96 @@ static void write_again(void)
     rewrite_in("in version 3", &example, NERUPAZHIL_VERSION_3, &example_3);
     rewrite_in("in version 4", &example, NERUPAZHIL_VERSION_4, &example_4);
     rewrite_in("in the lowest version", &example_4, NERUPAZHIL_VERSION_LOWEST, &example);
+    rewrite_in("in the lowest version, from version 3", &example_3, NERUPAZHIL_VERSION_LOWEST, &example);
     rewrite_in("what needs version 3", &added, NERUPAZHIL_VERSION_LOWEST, &added);
+    rewrite_in("what needs version 3, from version 4", &added_4, NERUPAZHIL_VERSION_LOWEST, &added);
     rewrite_in("both extensions", &extended, NERUPAZHIL_VERSION_LOWEST, &extended);
     rewrite_in("with a checksum", &zeroed, NERUPAZHIL_VERSION_LOWEST, &example);
     rewrite_in("in version 4, with a checksum", &zeroed, NERUPAZHIL_VERSION_4, &example_4);
 }
 
-static void write_changed(void)
+/* Each number that may be asked for, and what is then written. */
+static void write_by_number(void)
+{
+    const struct laid *const files[] = {&example_4, &example, &example, &example_3, &example_4};
+
+    for (uint32_t asked = 0; asked < sizeof files / sizeof files[0]; asked++)
+        rewrite_in("by the number of a version", &example, asked, files[asked]);
+}
+
+/* Puts 'a' as a link, puts 'b' with all fields, which need the extended word, and removes 'b'. */
+static void put_a(const char *what, const struct laid *from, uint32_t asked, const struct laid *to)
 {
     begin(PUT);
-    write_file("in place of another", &changed);
+    give_file(from);
+    given.asked = asked;
+    write_file(what, to);
+}
+
+static void put_b(const char *what, const struct laid *from, uint32_t asked, const struct laid *to)
+{
     begin(PUT);
-    give_file(&extended);
-    write_file("the tree's root becomes invalid", &invalid);
-    begin(PUT);
+    give_file(from);
     give_name("b");
     given.fields = full;
-    write_file("all fields", &added);
+    given.asked = asked;
+    write_file(what, to);
+}
+
+static void remove_b(const char *what, const struct laid *from, uint32_t asked, const struct laid *to)
+{
     begin(REMOVE);
-    give_file(&added);
+    give_file(from);
     give_name("b");
     given.stage = full.stage;
-    write_file("what was put", &example);
+    given.asked = asked;
+    write_file(what, to);
+}
+
+static void write_default(void)
+{
+    rewrite_in("by default", &example, NERUPAZHIL_VERSION_DEFAULT, &example_4);
+    rewrite_in("by default, from version 4", &example_4, NERUPAZHIL_VERSION_DEFAULT, &example_4);
+    rewrite_in("by default, the extended word", &added, NERUPAZHIL_VERSION_DEFAULT, &added_4);
+    rewrite_in("by default, both extensions", &extended, NERUPAZHIL_VERSION_DEFAULT, &extended_4);
+    rewrite_in("by default, with a checksum", &zeroed, NERUPAZHIL_VERSION_DEFAULT, &example_4);
+    put_a("by default, in place of another", &example, NERUPAZHIL_VERSION_DEFAULT, &changed_4);
+    put_a("by default, the tree's root becomes invalid", &extended, NERUPAZHIL_VERSION_DEFAULT, &invalid_4);
+    put_b("by default, all fields", &example, NERUPAZHIL_VERSION_DEFAULT, &added_4);
+    remove_b("by default, what was put", &added, NERUPAZHIL_VERSION_DEFAULT, &example_4);
+}
+
+static void write_changed(void)
+{
+    put_a("in place of another", &example, NERUPAZHIL_VERSION_LOWEST, &changed);
+    put_a("the tree's root becomes invalid", &extended, NERUPAZHIL_VERSION_LOWEST, &invalid);
+    put_b("all fields", &example, NERUPAZHIL_VERSION_LOWEST, &added);
+    put_b("all fields, from version 4", &example_4, NERUPAZHIL_VERSION_LOWEST, &added);
+    remove_b("what was put", &added, NERUPAZHIL_VERSION_LOWEST, &example);
+    remove_b("what was put, from version 4", &added_4, NERUPAZHIL_VERSION_LOWEST, &example);
+}
+
+/* The lowest version is that of the result: an entry that needs the extended word stays, or is replaced. */
+static void write_lowest(void)
+{
+    struct nerupazhil_fields fields = full;
+    struct laid rest, plain;
+
+    lay_start(&rest, 3, 2);
+    lay_entry(&rest, &full, 0x33, "b");
+    lay_plain(&rest, NERUPAZHIL_MODE_EXECUTABLE, 0x22, "b/c");
+    lay_checksum(&rest);
+    begin(REMOVE);
+    give_file(&added_4);
+    write_file("what needs version 3 stays", &rest);
+    fields.skip_worktree = 0;
+    fields.intent_to_add = 0;
+    lay_added(&plain, 2, &fields);
+    begin(PUT);
+    give_file(&added_4);
+    give_name("b");
+    given.fields = fields;
+    write_file("what needed version 3 is replaced", &plain);
 }
 
 /* The bytes after an object name, 12 or none, are not read. */
@@ -1060,10 +1134,19 @@ static void write_wrong_output(void)
         begin(call);
         given.out_length = needed[call - REWRITE] - 1;
         refuse("an output one byte too short", NERUPAZHIL_OUTPUT_SHORT, 0);
-        begin(call);
-        given.asked = 5;
-        refuse("a version that there is not", NERUPAZHIL_VERSION, 0);
     }
+}
+
+static void write_wrong_version(void)
+{
+    const uint32_t above[] = {5, 256, UINT32_MAX};
+
+    for (size_t k = 0; k < sizeof above / sizeof above[0]; k++)
+        for (int call = REWRITE; call <= REMOVE; call++) {
+            begin(call);
+            given.asked = above[k];
+            refuse("a version that there is not", NERUPAZHIL_VERSION, 0);
+        }
 }
 
 /* ---- the hashes */
@@ -1124,7 +1207,10 @@ static void test_kind(void)
     walk();
     walk_past_the_end();
     write_again();
+    write_by_number();
+    write_default();
     write_changed();
+    write_lowest();
     write_other_object_bytes();
     write_other_flags();
     write_stages();
@@ -1132,6 +1218,7 @@ static void test_kind(void)
     put_wrong_stages();
     put_wrong_stages_in_order();
     write_wrong_output();
+    write_wrong_version();
     hash();
     sentences();
 }

@@ -34,8 +34,8 @@ CONSTANT = {
 }
 SHARED = {  # the constants of each that are compared
     "Rattle": ("SHA1", "SHA256"),
-    "Rust": ("SHA1", "SHA256", "DIGEST", "DIGEST_SHA256", "OBJECT", "WORKSPACE"),
-    "C": ("SHA1", "SHA256", "DIGEST", "DIGEST_SHA256", "OBJECT", "WORKSPACE"),
+    "Rust": ("SHA1", "SHA256", "DIGEST", "DIGEST_SHA256", "OBJECT", "WORKSPACE", "VERSION_DEFAULT", "VERSION_LOWEST"),
+    "C": ("SHA1", "SHA256", "DIGEST", "DIGEST_SHA256", "OBJECT", "WORKSPACE", "VERSION_DEFAULT", "VERSION_LOWEST"),
 }
 DIGESTS = {"nerupazhil_sha1": "DIGEST", "nerupazhil_sha256": "DIGEST_SHA256"}  # the length of what each writes
 STRUCT = r"\nstruct nerupazhil_(\w+) \{(.*?)\n\};"

@@ -61,7 +61,10 @@
  *
  * What can be added without a change of a prototype or of a struct's size: another version that may be asked for, and
  * a wish beside it as a bit of the same number (every number above 4 is refused with 4); what check tells more, in the
- * last six numbers of its reply, which are 0. So ask for the lowest version by its name, not by its number.
+ * last six numbers of its reply, which are 0. So ask for a version by its name, not by its number.
+ *
+ * What was changed: 0 meant the lowest version before, which is 1 now. What was compiled with that header, and a caller
+ * that passes a plain 0, asks for version 4 now.
  */
 #ifndef NERUPAZHIL_H
 #define NERUPAZHIL_H
@@ -86,8 +89,9 @@ extern "C" {
 #define NERUPAZHIL_SHA1 1u
 #define NERUPAZHIL_SHA256 2u
 
-/* The versions that may be asked for. */
-#define NERUPAZHIL_VERSION_LOWEST 0u /* 2 if no entry needs the extended word, else 3 */
+/* The versions that may be asked for. The lowest is for an older reader, and for a walk. */
+#define NERUPAZHIL_VERSION_DEFAULT 0u /* writes version 4 */
+#define NERUPAZHIL_VERSION_LOWEST 1u  /* writes 2 if no entry needs the extended word, else 3 */
 #define NERUPAZHIL_VERSION_2 2u
 #define NERUPAZHIL_VERSION_3 3u
 #define NERUPAZHIL_VERSION_4 4u
@@ -106,7 +110,7 @@ enum nerupazhil_refusal {
     NERUPAZHIL_TOO_SHORT = 1,
     NERUPAZHIL_TOO_LONG = 2, /* the file; or the result of a call that writes, whatever the output's length */
     NERUPAZHIL_SIGNATURE = 3,
-    NERUPAZHIL_VERSION = 4, /* of the file; or asked for; or a walk over version 4 */
+    NERUPAZHIL_VERSION = 4, /* of the file; or one above 4 was asked for; or a walk over version 4 */
     NERUPAZHIL_CHECKSUM = 5, /* a wrong one; one that was left out is taken */
     NERUPAZHIL_ENTRY_CUT = 6,
     NERUPAZHIL_ENTRY_MODE = 7,
@@ -123,7 +127,7 @@ enum nerupazhil_refusal {
     NERUPAZHIL_NOT_THERE = 18,
     NERUPAZHIL_WORKSPACE_SHORT = 19,
     NERUPAZHIL_OUTPUT_SHORT = 20,
-    NERUPAZHIL_NEEDS_VERSION_3 = 21,
+    NERUPAZHIL_NEEDS_VERSION_3 = 21, /* version 2 was asked for: ask for 3, 4, the default or the lowest */
     NERUPAZHIL_KIND = 29
 };
 
@@ -328,7 +332,7 @@ void nerupazhil_undo_record(uint32_t kind, const uint8_t *file, size_t file_leng
 
 /* ---- a walk over the entries of a file of version 2 or 3: checked once, then one entry a step */
 
-/* Checks the file and answers where a walk begins; 4 for version 4, which can be rewritten first. */
+/* Checks the file and answers where a walk begins; 4 for version 4, which can be rewritten in the lowest one first. */
 void nerupazhil_walk_start(uint32_t kind, const uint8_t *file, size_t file_length, uint8_t *work, size_t work_length,
                            struct nerupazhil_start_reply *reply);
 
@@ -340,10 +344,13 @@ void nerupazhil_walk_next(uint32_t kind, const uint8_t *file, size_t file_length
 
 /* ---- calls that write: the records of the file, with a change, as a new index in the output
  *
- * `asked` is the version to write: one of NERUPAZHIL_VERSION_*. The lowest is 2 if no entry needs the extended word
- * (skip-worktree or intent-to-add), else 3. Cache tree and resolve undo are kept, other extensions dropped. A checksum
- * is written, also where the file's was left out. Nothing is saved: that is the caller's, and c/examples/save.c shows
- * how to do it safely.
+ * `asked` is the version to write: one of NERUPAZHIL_VERSION_*, whatever the file's own is. A number above 4 is refused
+ * with 4. The default is version 4, which leaves out what a name has in common with the one before it: long paths take
+ * less room. The lowest is 2 if no entry of the result needs the extended word (skip-worktree or intent-to-add), else
+ * 3: ask for it where an older reader has to take the file, and before a walk.
+ *
+ * Cache tree and resolve undo are kept, other extensions dropped. A checksum is written, also where the file's was left
+ * out. Nothing is saved: that is the caller's, and c/examples/save.c shows how to do it safely.
  */
 
 /* The records as they are. */

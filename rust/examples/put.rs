@@ -4,8 +4,8 @@
 //!
 //! The record takes the place of the one of its name and stage, or is added. As after 'git update-index --cacheinfo',
 //! its times and the like are zero, so that Git looks at the file itself when it is asked next. A version 4 index stays
-//! one; another becomes 2 or 3, as it needs. Stage 0 beside a conflict of that name, and a stage of a conflict beside
-//! stage 0, are refused with 11: what is there has to be removed first.
+//! one; another becomes 2 or 3, as it needs, since it may be there for an older reader. Stage 0 beside a conflict of
+//! that name, and a stage of a conflict beside stage 0, are refused with 11: what is there has to be removed first.
 //!
 //! Exit status: 0 saved, 1 refused or failed, 2 wrong use. After 1 the index is as it was, unless the message says that
 //! it is changed.

@@ -1,7 +1,8 @@
 //! The exported functions with slices for pointers and lengths, and with replies as values.
 //!
 //! The functions of the crate's root are built on these and are what a program wants. Here the kind of object names and
-//! the version that is asked for are plain numbers, so that the library's refusal of other numbers can be reached.
+//! the version that is asked for are plain numbers, as [`raw`] has them, so that the library's refusal of other numbers
+//! can be reached.
 //!
 //! In a reply, `refusal` is 0 of a success, and all that does not apply is 0 or false: on a refusal, all but its number
 //! and its place. Object names are of the kind that was asked with, and SHA-1 names where the library does not know it.

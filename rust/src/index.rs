@@ -46,11 +46,11 @@ impl<'a> Index<'a> {
     /// Checks a file with object names of a kind, as [`read`](Self::read) does for SHA-1.
     ///
     /// ```
-    /// use nerupazhil::{mode, Fields, Index, Kind, Reason, EMPTY_SHA256};
+    /// use nerupazhil::{mode, Fields, Index, Kind, Reason, Version, EMPTY_SHA256};
     ///
     /// let index = Index::read_kind(Kind::Sha256, &EMPTY_SHA256)?;
     /// let fields = Fields { mode: mode::REGULAR, object: [0x11; 32].into(), ..Fields::default() };
-    /// let file = index.with(b"saw/cut.txt", &fields, index.summary().version_kept())?;
+    /// let file = index.with(b"saw/cut.txt", &fields, Version::default())?;
     ///
     /// let index = Index::read_kind(Kind::Sha256, &file)?;
     /// assert_eq!(index.entries()?.next().unwrap().fields.object, [0x11; 32].into());
@@ -58,7 +58,7 @@ impl<'a> Index<'a> {
     /// // It is no index with SHA-1 names, nor does it take one.
     /// assert_eq!(Index::read(&file).unwrap_err().reason(), Reason::Checksum);
     /// let fields = Fields { object: [0x11; 20].into(), ..fields };
-    /// let refusal = index.with(b"plan", &fields, index.summary().version_kept()).unwrap_err();
+    /// let refusal = index.with(b"plan", &fields, Version::default()).unwrap_err();
     /// assert_eq!(refusal.reason(), Reason::Kind);
     /// # Ok::<(), nerupazhil::Refusal>(())
     /// ```
@@ -159,27 +159,29 @@ impl<'a> Index<'a> {
         undo_record(self.kind, self.file, &mut [0; WORKSPACE], k)
     }
 
-    /// A new file with the same records, in a version.
+    /// A new file with the same records, in a version: see [`rewrite`].
     ///
     /// ```
     /// use nerupazhil::{Index, Version, EMPTY};
     ///
-    /// let file = Index::read(&EMPTY)?.rewritten(Version::V4)?;
+    /// let file = Index::read(&EMPTY)?.rewritten(Version::default())?;
     /// assert_eq!(Index::read(&file)?.summary().version, 4);
+    /// assert_eq!(Index::read(&file)?.rewritten(Version::Lowest)?, EMPTY);
     /// # Ok::<(), nerupazhil::Refusal>(())
     /// ```
     pub fn rewritten(&self, version: Version) -> Result<Vec<u8>, Refusal> {
         rewritten(self.kind, self.file, version)
     }
 
-    /// A new file with one entry more, or with another one of its name and stage: see [`put`].
+    /// A new file with one entry more, or with another one of its name and stage: see [`put`]. A new list is best written
+    /// by the default, one that was there as [`Summary::version_kept`] says.
     ///
     /// ```
-    /// use nerupazhil::{mode, Fields, Index, EMPTY};
+    /// use nerupazhil::{mode, Fields, Index, Version, EMPTY};
     ///
     /// let index = Index::read(&EMPTY)?;
     /// let fields = Fields { mode: mode::REGULAR, object: [0x11; 20].into(), ..Fields::default() };
-    /// let file = index.with(b"saw/cut.txt", &fields, index.summary().version_kept())?;
+    /// let file = index.with(b"saw/cut.txt", &fields, Version::default())?;
     /// assert_eq!(Index::read(&file)?.summary().entries, 1);
     /// # Ok::<(), nerupazhil::Refusal>(())
     /// ```

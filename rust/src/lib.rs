@@ -61,6 +61,32 @@
 //! # Ok::<(), nerupazhil::Refusal>(())
 //! ```
 //!
+//! # Versions
+//!
+//! What is written is of the [`Version`] that is asked for. The default is version 4, where a name leaves out what it
+//! has in common with the one before it: a list with long paths is shorter. An older reader takes versions 2 and 3
+//! alone, and so does a [`walk()`]; for them ask for [`Version::Lowest`]. [`Index::entries`] shows a file of any version:
+//! it walks over such a copy by itself.
+//!
+//! ```
+//! use nerupazhil::{mode, walk, Fields, Index, Kind, Reason, Version, EMPTY, WORKSPACE};
+//!
+//! let fields = Fields { mode: mode::REGULAR, object: [0x11; 20].into(), ..Fields::default() };
+//! let list = |version| {
+//!     let one = Index::read(&EMPTY)?.with(b"saw/oak/cut.txt", &fields, version)?;
+//!     Index::read(&one)?.with(b"saw/oak/cutter.txt", &fields, version)
+//! };
+//! let (new, old) = (list(Version::default())?, list(Version::Lowest)?);
+//! assert_eq!((Index::read(&new)?.summary().version, new.len()), (4, 182));
+//! assert_eq!((Index::read(&old)?.summary().version, old.len()), (2, 200));
+//!
+//! let mut work = [0; WORKSPACE];
+//! assert_eq!(walk(Kind::Sha1, &old, &mut work)?.count(), 2);
+//! assert_eq!(walk(Kind::Sha1, &new, &mut work).unwrap_err().reason(), Reason::Version);
+//! assert!(Index::read(&new)?.entries()?.eq(Index::read(&old)?.entries()?));
+//! # Ok::<(), nerupazhil::Refusal>(())
+//! ```
+//!
 //! # Checksums
 //!
 //! A file with a wrong checksum is refused. One whose checksum was left out is taken, and [`Summary::checksum`] says so:
@@ -122,7 +148,7 @@ pub use write::{put, remove, rewrite};
 /// The most bytes that a file may have.
 pub const MAX_FILE: usize = 16_777_216;
 
-/// The index without entries, of version 2 and with SHA-1 names: a new one begins with it.
+/// The index without entries, of version 2 and with SHA-1 names: a new list begins with it, in any [`Version`].
 ///
 /// ```
 /// use nerupazhil::{sha1, EMPTY};
@@ -132,7 +158,7 @@ pub const MAX_FILE: usize = 16_777_216;
 pub const EMPTY: [u8; 32] = *b"DIRC\0\0\0\x02\0\0\0\0\
     \x39\xd8\x90\x13\x9e\xe5\x35\x6c\x7e\xf5\x72\x21\x6c\xeb\xcd\x27\xaa\x41\xf9\xdf";
 
-/// The index without entries, of version 2 and with SHA-256 names: a new one begins with it.
+/// The index without entries, of version 2 and with SHA-256 names: a new list begins with it, in any [`Version`].
 ///
 /// ```
 /// use nerupazhil::{sha256, EMPTY_SHA256};

@@ -17,6 +17,13 @@ pub const SHA1: u32 = 1;
 /// The kind of object names that are SHA-256 digests. Any other number is refused with 29.
 pub const SHA256: u32 = 2;
 
+/// The default among the versions that may be asked for: version 4 is written. The others are [`VERSION_LOWEST`] and the
+/// versions 2, 3 and 4 by their own numbers; a number above 4 is refused with 4.
+pub const VERSION_DEFAULT: u32 = 0;
+
+/// The lowest version that will do: 2 where no entry of the result needs the extended word, else 3.
+pub const VERSION_LOWEST: u32 = 1;
+
 /// The number of bytes of a SHA-1 digest, and of an object name that is one.
 pub const DIGEST: usize = 20;
 

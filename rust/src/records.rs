@@ -1,6 +1,6 @@
 //! What the calls show and take.
 
-use crate::raw::{CheckReply, Fields, Stage};
+use crate::raw::{CheckReply, Fields, Stage, VERSION_LOWEST};
 use crate::ObjectName;
 
 /// The modes that an entry may have.
@@ -15,17 +15,20 @@ pub mod mode {
     pub const GITLINK: u32 = 0o160000;
 }
 
-/// The version in which a file is to be written.
+/// The version in which a file is to be written, whatever the version of the given one.
+///
+/// The default is version 4, and was [`Lowest`](Self::Lowest) before. An older reader and a [`walk`](crate::walk()) need
+/// that one; the [crate's page](crate#versions) has an example of both.
 #[derive(Clone, Copy, Debug, Default, PartialEq, Eq, Hash)]
 pub enum Version {
-    /// 2 where no entry needs the extended word (for skip-worktree or intent-to-add), else 3.
-    #[default]
+    /// 2 where no entry of the new file needs the extended word (for skip-worktree or intent-to-add), else 3.
     Lowest,
-    /// 2, refused where an entry needs the extended word.
+    /// 2, refused where an entry of the new file needs the extended word.
     V2,
     /// 3.
     V3,
-    /// 4, which shortens names.
+    /// 4, the default: a name leaves out what it has in common with the one before it.
+    #[default]
     V4,
 }
 
@@ -33,7 +36,7 @@ impl Version {
     /// The number by which the library is asked.
     pub(crate) const fn asked(self) -> u32 {
         match self {
-            Self::Lowest => 0,
+            Self::Lowest => VERSION_LOWEST,
             Self::V2 => 2,
             Self::V3 => 3,
             Self::V4 => 4,
@@ -59,7 +62,8 @@ pub struct Summary {
 }
 
 impl Summary {
-    /// The version that Git would write after an edit: 4 stays 4, else the lowest.
+    /// The version that Git would write after an edit: 4 stays 4, else the lowest. A file of version 2 or 3 may be there
+    /// for an older reader, so an edit is best written in this one; a new list is best written by [`Version::default`].
     ///
     /// ```
     /// use nerupazhil::{check, Kind, Version, EMPTY, WORKSPACE};

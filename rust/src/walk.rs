@@ -6,7 +6,8 @@ use std::iter::FusedIterator;
 use crate::read::part;
 use crate::{calls, Entry, Kind, Refusal};
 
-/// Checks a file of version 2 or 3 and starts a walk over its entries. A file of version 4 is refused with 4.
+/// Checks a file of version 2 or 3 and starts a walk over its entries. A file of version 4 is refused with 4; rewritten
+/// in [`Version::Lowest`](crate::Version::Lowest) it has the same entries and is taken.
 ///
 /// ```
 /// # let file = include_bytes!(concat!(env!("CARGO_MANIFEST_DIR"), "/../tests/vectors/real/v2-committed.index"));

@@ -7,7 +7,8 @@ use crate::{Kind, Refusal, Version};
 /// Writes the records of a file in a version, and answers the part of the output that was written.
 ///
 /// The file is checked first. A refusal leaves the output as it was. Extensions other than TREE and REUC are dropped. A
-/// checksum is written, also where the file's was left out.
+/// checksum is written, also where the file's was left out. [`Version::default`] writes version 4. For an older reader,
+/// and for a [`walk`](crate::walk()), ask for the lowest:
 ///
 /// ```
 /// # let file = include_bytes!(concat!(env!("CARGO_MANIFEST_DIR"), "/../tests/vectors/real/v4-committed.index"));
@@ -41,7 +42,7 @@ pub fn rewrite<'a>(
 ///
 /// let (mut work, mut out) = ([0; WORKSPACE], [0; 256]);
 /// let fields = Fields { mode: mode::REGULAR, object: [0x11; 20].into(), ..Fields::default() };
-/// let file = put(Kind::Sha1, &EMPTY, &mut work, &mut out, Version::Lowest, b"saw/cut.txt", &fields)?;
+/// let file = put(Kind::Sha1, &EMPTY, &mut work, &mut out, Version::default(), b"saw/cut.txt", &fields)?;
 /// assert_eq!(entry(Kind::Sha1, file, &mut work, 0)?.name, b"saw/cut.txt");
 /// # Ok::<(), nerupazhil::Refusal>(())
 /// ```

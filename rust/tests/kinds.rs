@@ -8,7 +8,9 @@ use std::process::Command;
 use std::{env, fs, process};
 
 use common::{accepted, number, object, regular, with_checksum, with_zeros, KINDS};
-use nerupazhil::raw::{CheckReply, EntryReply, StepReply, WriteReply, OBJECT};
+use nerupazhil::raw::{
+    CheckReply, EntryReply, StepReply, WriteReply, OBJECT, VERSION_DEFAULT, VERSION_LOWEST,
+};
 use nerupazhil::{
     calls, check, entry, mode, put, raw, remove, rewrite, sha1, sha256, tree_node, undo_record,
     walk, Checksum, Fields, Index, Kind, ObjectName, Reason, Refusal, Version, WrongLength, EMPTY,
@@ -225,9 +227,12 @@ fn other_numbers_are_refused() {
         assert_eq!(calls::tree_node(kind, file, work, 0).refusal, 29);
         assert_eq!(calls::undo_record(kind, file, work, 0).refusal, 29);
         assert_eq!(calls::walk_start(kind, file, work).refusal, 29);
-        assert_eq!(calls::rewrite(kind, file, work, out, 0), written);
-        assert_eq!(calls::put(kind, file, work, out, 0, b"a", fields), written);
-        assert_eq!(calls::remove(kind, file, work, out, 0, b"a", 0), written);
+        let asked = VERSION_DEFAULT;
+        assert_eq!(calls::rewrite(kind, file, work, out, asked), written);
+        let put = calls::put(kind, file, work, out, asked, b"a", fields);
+        assert_eq!(put, written);
+        let removed = calls::remove(kind, file, work, out, asked, b"a", 0);
+        assert_eq!(removed, written);
     }
     assert_eq!(*out, [0xee; 64]);
 }
@@ -285,7 +290,7 @@ fn put_raw(kind: Kind, object: &[u8; OBJECT]) -> Vec<u8> {
             work.len(),
             out.as_mut_ptr(),
             out.len(),
-            0,
+            VERSION_LOWEST,
             name.as_ptr(),
             name.len(),
             &fields,
