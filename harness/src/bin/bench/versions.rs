@@ -2,7 +2,7 @@
 
 use crate::machine::said;
 use crate::part::{progress, Part};
-use crate::rewritten::Index;
+use crate::rewritten::{Index, RUNS};
 use crate::table::{beside, milliseconds, range, ratio, Table};
 use crate::trees::{self, Tree};
 use std::fs;
@@ -16,8 +16,6 @@ const GIVEN: &str = "The index files that were given, rewritten in both versions
     are not written.";
 const SIZES: &str =
     "The lowest version is 2, or 3 where an entry is marked skip-worktree or intent-to-add.";
-const TIMES: &str = "Each of these files rewritten in the lowest version and in 4; in brackets, the multiple of the time of \
-    a check of the same file.";
 
 /// An index, and for each of its files the seconds of a check and of a rewrite in the lowest version and in 4.
 struct Row {
@@ -98,7 +96,10 @@ fn add_sizes(part: &mut Part, rows: &[Row]) {
 }
 
 fn add_times(part: &mut Part, rows: &[Row]) {
-    part.add(TIMES);
+    part.add(format!(
+        "Each of these files rewritten in the lowest version and in 4, by the median of {RUNS} runs; in brackets, the \
+        multiple of the time of a check of the same file."
+    ));
     part.add(time_table(rows));
     part.add(verdict(rows));
 }
