@@ -6,11 +6,20 @@ pub const RUNS: usize = 11;
 
 /// The median seconds of each call. They run in turn, and after each turn `agree` looks at their answers.
 pub fn alternate<const N: usize>(
+    calls: [&mut dyn FnMut(); N],
+    agree: impl Fn() -> Result<(), String>,
+) -> Result<[f64; N], String> {
+    alternate_often(RUNS, calls, agree)
+}
+
+/// The same with another number of runs.
+pub fn alternate_often<const N: usize>(
+    runs: usize,
     mut calls: [&mut dyn FnMut(); N],
     agree: impl Fn() -> Result<(), String>,
 ) -> Result<[f64; N], String> {
     let mut times = [(); N].map(|()| Vec::new());
-    for _ in 0..RUNS {
+    for _ in 0..runs {
         turn(&mut calls, &mut times);
         agree()?;
     }

@@ -8,6 +8,9 @@ use harness::kind::Kind;
 use harness::replies::{CheckReply, WORKSPACE};
 use harness::stack;
 
+/// Asks for version 2, or for 3 where an entry needs the extended word.
+pub const LOWEST: u32 = 1;
+
 /// What the calls are asked on a file of a kind, and what they may write to.
 pub struct Request {
     kind: Kind,
@@ -44,7 +47,7 @@ impl Request {
             old,
             counts,
             file: case.bytes.clone(),
-            asked: 0,
+            asked: LOWEST,
             work,
             out: vec![0; index_file::LARGEST],
         })

@@ -1,5 +1,6 @@
 //! Rewrite, put and remove beside check.
 
+use crate::calls::LOWEST;
 use crate::part::{progress, Part};
 use crate::table::{beside, mib, milliseconds, range, Table};
 use harness::index_file::{self, list_entry, Order, Repository};
@@ -10,8 +11,6 @@ use std::cell::{Cell, RefCell};
 
 /// The object names of the files.
 const KIND: Kind = Kind::Sha1;
-/// Version 2, since no entry needs the extended word.
-const ASKED: u32 = 0;
 
 /// The median seconds of check, rewrite in 2 and in 4, put and remove on a file.
 struct Row {
@@ -30,7 +29,9 @@ pub fn figures() -> Result<Part, String> {
         }
     }
     let mut part = Part::new("Rewrite, put and remove");
-    part.add("Files with full cache trees; in brackets, the multiple of check's time.");
+    part.add(
+        "Files with full cache trees; in brackets, the multiple of check's time. Put and remove write version 2.",
+    );
     part.add(table(&rows));
     let ratios = rows.iter().flat_map(|row| {
         let [check, _, _, put, remove] = row.seconds;
@@ -104,8 +105,8 @@ fn medians(file: &[u8], name: &[u8]) -> Result<[f64; 5], String> {
             },
             &mut || write(&|work, out| ffi::rewrite(kind, file, work, out, 2)),
             &mut || write(&|work, out| ffi::rewrite(kind, file, work, out, 4)),
-            &mut || write(&|work, out| ffi::put(kind, file, work, out, ASKED, &new, fields)),
-            &mut || write(&|work, out| ffi::remove(kind, file, work, out, ASKED, name, 0)),
+            &mut || write(&|work, out| ffi::put(kind, file, work, out, LOWEST, &new, fields)),
+            &mut || write(&|work, out| ffi::remove(kind, file, work, out, LOWEST, name, 0)),
         ],
         || timing::same("refusals", refused.get(), 0),
     )

@@ -14,11 +14,14 @@ mod machine;
 mod page;
 mod part;
 mod plot;
+mod rewritten;
 mod scale;
 mod size;
 mod stack;
 mod svg;
 mod table;
+mod trees;
+mod versions;
 
 use part::Part;
 use std::env;
@@ -28,18 +31,22 @@ use std::process::exit;
 type Measure = (&'static str, fn() -> Result<Part, String>);
 
 /// The parts in the page's order.
-const PARTS: [Measure; 7] = [
+const PARTS: [Measure; 8] = [
     ("size", size::figures),
     ("check", check::figures),
     ("hash", hash::figures),
     ("entries", entries::figures),
     ("edits", edits::figures),
+    ("versions", versions::figures),
     ("stack", stack::figures),
     ("hostile", hostile::figures),
 ];
 
 fn main() {
-    let arguments: Vec<String> = env::args().skip(1).collect();
+    let arguments = env::args_os().skip(1);
+    let arguments: Vec<String> = arguments
+        .map(|argument| argument.to_string_lossy().into_owned())
+        .collect();
     let arguments: Vec<&str> = arguments.iter().map(String::as_str).collect();
     if let Err(message) = run(&arguments) {
         eprintln!("bench: {message}");
@@ -60,15 +67,17 @@ fn run(arguments: &[&str]) -> Result<(), String> {
             let name = rest.first().unwrap_or(&"");
             one(arguments, || hostile::figures_of(kib, name))
         }
+        ["versions", files @ ..] => one(arguments, || versions::figures_of(files)),
         _ => usage(),
     }
 }
 
-/// Prints one part.
+/// Prints one part, and nothing where it can't be measured.
 fn one(arguments: &[&str], figures: impl FnOnce() -> Result<Part, String>) -> Result<(), String> {
     let command = [&["./bench"], arguments].concat().join(" ");
+    let part = figures()?;
     println!("{}", page::head(&command));
-    print!("{}", figures()?.text);
+    print!("{}", part.text);
     Ok(())
 }
 
@@ -88,7 +97,7 @@ fn all() -> Result<(), String> {
 
 fn usage() -> ! {
     eprintln!(
-        "usage: bench [size | check | hash | entries | edits | stack | hostile [KIB [NAME]]]"
+        "usage: bench [size | check | hash | entries | edits | versions [INDEX...] | stack | hostile [KIB [NAME]]]"
     );
     exit(2);
 }

@@ -11,7 +11,7 @@ const PAGE: &str = "docs/SPEED.md";
 const PLOT: &str = "docs/speed.svg";
 
 const INTRODUCTION: &str = "`./bench` measured this, and wrote the page and its plot whole. `./bench size`, `check`, `hash`, \
-    `entries`, `edits`, `stack` and `hostile` print one section each, in the page's order, and write nothing.";
+    `entries`, `edits`, `versions`, `stack` and `hostile` print one section each, in the page's order, and write nothing.";
 /// What the plot shows, for those who do not see it.
 const PLOT_WORDS: &str = "Left: the time of put, the simple check, check and SHA-1 against the size of the file. Right: \
     the stack of check against the levels of the cache tree.";

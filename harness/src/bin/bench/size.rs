@@ -1,5 +1,6 @@
 //! Time against file size.
 
+use crate::calls::LOWEST;
 use crate::part::{progress, Part};
 use crate::plot::{Line, Panel, Spacing, BLUE, GREEN, GREY, RED};
 use crate::table::{mib, milliseconds, ratio, Table};
@@ -77,7 +78,7 @@ fn medians(file: &[u8], new: &[u8]) -> Result<[f64; LINES.len()], String> {
         [
             &mut || {
                 let fields = list_entry(KIND);
-                put.set(ffi::put(kind, file, &mut put_work, &mut out, 0, new, fields).refusal);
+                put.set(ffi::put(kind, file, &mut put_work, &mut out, LOWEST, new, fields).refusal);
             },
             &mut || simple.set(opponent::check(kind, file, &mut simple_work)),
             &mut || check.set(ffi::check(kind, file, &mut work)),
