@@ -7,9 +7,7 @@ use harness::index_file::{self, list_entry};
 use harness::kind::Kind;
 use harness::replies::{CheckReply, WORKSPACE};
 use harness::stack;
-
-/// Asks for version 2, or for 3 where an entry needs the extended word.
-pub const LOWEST: u32 = 1;
+pub use nerupazhil::raw::VERSION_LOWEST as LOWEST;
 
 /// What the calls are asked on a file of a kind, and what they may write to.
 pub struct Request {
