@@ -1,42 +1,26 @@
--- Laws of replies: their parts, and what the calls leave behind, from what the calls below promise.
+-- Laws of replies: what the calls leave behind, from what the calls below promise.
 use mathlib.Core.Path.{_≡_, refl, sym, ap, _∙_}
-use mathlib.Core.List.{List, [], _∷_, _++_}
+use mathlib.Core.List.{List, []}
 use Prim.Native.Nat.{ℕ, _+_, _-_, _≤_}
 use native.Mathlib.Omega.{arith}
-use lib.ListN.{length, take, drop, getD, replicate, length-append, length-replicate}
+use lib.ListN.{length, take, drop, replicate, length-append, length-replicate}
 use lib.Seq.{length-take-le, drop-at}
 use Rattle.format.specs.Records as F
 use Rattle.format.specs.Reading.{Read}
-use Rattle.answers.specs.declared.Shown.{Shown}
-use Rattle.answers.specs.declared.Shown.the-variants as S
 use Rattle.answers.specs.declared.EntryAnswer.{EntryAnswer}
 use Rattle.answers.specs.declared.NodeAnswer.{NodeAnswer}
 use Rattle.answers.specs.declared.UndoAnswer.{UndoAnswer}
 use Rattle.answers.specs.declared.Written.{Written}
 use Rattle.format_laws.proofs.Lists.{drop-zeros}
 use Rattle.entries.specs.Record.{wideObject}
-use Rattle.answers.specs.Answers.{View, refused, inFile, inWorkspace, Inside, entrySaid, nodeSaid, undoSaid, entryShown, nodeShown, undoShown}
+use Rattle.answers.specs.Answers.{View, refused, inFile, inWorkspace, entrySaid, nodeSaid, undoSaid, entryShown, nodeShown, undoShown}
 use Rattle.index.specs.Calls.{EntryShows, NodeShows, UndoShows}
 use Rattle.index_write.specs.Calls.{Saves}
 use Rattle.walk.specs.declared.Place.{Place}
 use Rattle.walk.specs.Walks.{StepShows}
-use Rattle.nerupazhil.specs.Replies.{shownReply, fieldNumbers, nodeReply, undoReply, stepReply, writeReply, bufferIn, NameInside, EntryReplies, NodeReplies, UndoReplies, StepReplies, WriteReplies}
-
--- ---- parts
-
--- the first five numbers of a reply that shows something
-pub shown-then : (s : Shown) (more : List ℕ)
-    → getD (shownReply s) 0 0 ∷ getD (shownReply s) 1 0 ∷ getD (shownReply s) 2 0 ∷ getD (shownReply s) 3 0 ∷ getD (shownReply s) 4 0 ∷ more
-    ≡ shownReply s ++ more
-shown-then (S.Refused n p) more = refl
-shown-then (S.InFile at n) more = refl
-shown-then (S.InWorkspace n) more = refl
-
--- and where they are all
-pub shown-alone : (s : Shown) → shownReply s ≡ shownReply s ++ []
-shown-alone (S.Refused n p) = refl
-shown-alone (S.InFile at n) = refl
-shown-alone (S.InWorkspace n) = refl
+use Rattle.replies.specs.Arrays.{shownReply, fieldNumbers, nodeReply, undoReply, stepReply, writeReply}
+use Rattle.replies.proofs.Laws.{shown-alone, name-inside}
+use Rattle.nerupazhil.specs.Replies.{EntryReplies, NodeReplies, UndoReplies, StepReplies, WriteReplies}
 
 -- ---- the zeros after an object name: of the 32 bytes the first w make the name that is shown, so it has w bytes
 
@@ -73,13 +57,6 @@ module _ (w at : ℕ) (narrow : w ≤ 32) (f work : List ℕ) where
       (unused-of w (x .first .object) narrow (ap (inView (λ y. y .first .object)) e), unused-of w (x .second .object) narrow (ap (inView (λ y. y .second .object)) e), unused-of w (x .third .object) narrow (ap (inView (λ y. y .third .object)) e))
   undo-unused (inWorkspace x) e =
       (unused-of w (x .first .object) narrow (ap (inView (λ y. y .first .object)) e), unused-of w (x .second .object) narrow (ap (inView (λ y. y .second .object)) e), unused-of w (x .third .object) narrow (ap (inView (λ y. y .third .object)) e))
-
--- a name that lies in its buffer
-pub name-inside : (s : Shown) (more f work : List ℕ) → Inside s f work → NameInside (shownReply s ++ more) f work
-unfolding bufferIn
-name-inside (S.Refused n p) more f work h = omega arith
-name-inside (S.InFile at n) more f work h = h
-name-inside (S.InWorkspace n) more f work h = omega arith
 
 -- ---- what the calls that show leave behind
 

@@ -1,77 +1,25 @@
 -- What a program reads from a reply: a refusal's number and place, or the item that its numbers, its object names and the bytes of its name make.
 use mathlib.Core.Path.{_≡_, refl, ap, _∙_}
-use mathlib.Core.List.{List, [], _∷_, _++_}
-use mathlib.Core.Bool.{Bool, true, false, not}
+use mathlib.Core.List.{List, []}
+use mathlib.Core.Bool.{not}
 use Prim.Native.Nat.{ℕ}
-use native.Mathlib.Omega.{arith}
 use lib.ListN.{take, getD}
 use lib.Dec.{eqb}
 use Rattle.format.specs.Records as F
 use Rattle.format.specs.Layout.{bit}
 use Rattle.entries.specs.declared.record.Fields.{Fields}
 use Rattle.entries.specs.Record.{entryWith}
-use Rattle.answers.specs.declared.Shown.{Shown}
-use Rattle.answers.specs.declared.Shown.the-variants as S
-use Rattle.answers.specs.Answers.{View, refused, inFile, inWorkspace, partIn, nameIn, viewOf, entrySaid, countWith, nodeSaid, stageWith, undoSaid, entryShown, nodeShown, undoShown}
+use Rattle.answers.specs.Answers.{View, entrySaid, countWith, nodeSaid, stageWith, undoSaid, entryShown, nodeShown, undoShown}
 use Rattle.walk.specs.declared.Place.{Place}
-use Rattle.nerupazhil.specs.Replies.{shownReply, fieldNumbers, nextNumbers, refusalIn, placeIn, bufferIn, bytesIn, objectIn, givenFields, Told, EntryReplies, NodeReplies, UndoReplies, StepReplies}
-use Rattle.nerupazhil.proofs.Laws.{shown-alone}
-
--- ---- parts of a reply
-
--- the bytes that a reply's name points at are the name that is shown
-pub name-bytes : (s : Shown) (more file work : List ℕ) → bytesIn (shownReply s ++ more) file work ≡ nameIn s file work
-unfolding bytesIn bufferIn nameIn partIn
-name-bytes (S.Refused n p) more file work = refl
-name-bytes (S.InFile at n) more file work = refl
-name-bytes (S.InWorkspace n) more file work = refl
-
--- yes and no
-pub flag-back : (b : Bool) → not (eqb (bit b) 0) ≡ b
-flag-back true = refl
-flag-back false = refl
+use Rattle.replies.specs.Arrays.{fieldNumbers, nextNumbers, refusalIn, placeIn, bytesIn, objectIn, givenFields}
+use Rattle.replies.proofs.Laws.{shown-alone}
+use Rattle.replies.proofs.Reading.{flag-back, after-shown, after-path, Tells, shown-tells}
+use Rattle.nerupazhil.specs.Replies.{Told, EntryReplies, NodeReplies, UndoReplies, StepReplies}
 
 -- the fields of an entry: put, given what a call showed, is given the same fields
 pub fields-back : (w : ℕ) (x : Fields) (object : List ℕ) → Told w (x .object) object → givenFields (fieldNumbers x) object ≡ x
 fields-back w x object told =
     rw (told .same, flag-back (x .«assume_valid»), flag-back (x .«skip_worktree»), flag-back (x .«intent_to_add»)) refl
-
--- of an object name that is given, what is after its w bytes is not read: put is given the same entry, and so writes the same file
-pub given-unread : (w : ℕ) (numbers object other name : List ℕ) → take w object ≡ take w other
-    → entryWith w (givenFields numbers object) name ≡ entryWith w (givenFields numbers other) name
-given-unread w numbers object other name e = rw e refl
-
--- ---- what is told: v, by a refusal's number and place, or by 0 and the item x
-
-pub record Tells {A : Type 0} (v : View A) (refusal place : ℕ) (x : A) : Type 0 where
-  pub refuses : (n p : ℕ) → v ≡ refused n p → (refusal ≡ n) × (place ≡ p)
-  pub file : (e : A) → v ≡ inFile e → (refusal ≡ 0) × (x ≡ e)
-  pub workspace : (e : A) → v ≡ inWorkspace e → (refusal ≡ 0) × (x ≡ e)
-
-module _ {A : Type 0} (more : List ℕ) where
-  tells : (s : Shown) (x : A) → Tells (viewOf s x) (refusalIn (shownReply s ++ more)) (placeIn (shownReply s ++ more)) x
-  tells (S.Refused n p) x = record {
-    refuses = λ i j e. (cc, cc);
-    file = λ y e. let z : _≡_ {A = ℕ} 0 1 = cc in absurd (omega arith);
-    workspace = λ y e. let z : _≡_ {A = ℕ} 0 1 = cc in absurd (omega arith);
-  }
-  tells (S.InFile at n) x = record {
-    refuses = λ i j e. let z : _≡_ {A = ℕ} 0 1 = cc in absurd (omega arith);
-    file = λ y e. (refl, cc);
-    workspace = λ y e. let z : _≡_ {A = ℕ} 0 1 = cc in absurd (omega arith);
-  }
-  tells (S.InWorkspace n) x = record {
-    refuses = λ i j e. let z : _≡_ {A = ℕ} 0 1 = cc in absurd (omega arith);
-    file = λ y e. let z : _≡_ {A = ℕ} 0 1 = cc in absurd (omega arith);
-    workspace = λ y e. (refl, cc);
-  }
-
-  -- of the item that a name makes
-  shown-tells : (item : List ℕ → A) (s : Shown) (f work : List ℕ) (v : View A) → viewOf s (item (nameIn s f work)) ≡ v
-      → Tells v (refusalIn (shownReply s ++ more)) (placeIn (shownReply s ++ more)) (item (bytesIn (shownReply s ++ more) f work))
-  shown-tells item s f work v e = rw (name-bytes s more f work, ← e) (tells s (item (nameIn s f work)))
-
--- ---- the replies
 
 -- the fields as a program reads them
 same-fields : (w : ℕ) (v : View F.Entry) (refusal place : ℕ) (name : List ℕ) (x y : Fields) → x ≡ y → Tells v refusal place (entryWith w y name) → Tells v refusal place (entryWith w x name)
@@ -107,12 +55,6 @@ itemWith w level valid count subtrees object name = record {
 abbrev pub nodeIn : ℕ → (reply object name : List ℕ) → F.Item
 nodeIn w reply object name = itemWith w (getD reply 5 0) (getD reply 6 0) (getD reply 7 0) (getD reply 8 0) object name
 
-pub after-shown : (s : Shown) (a b c d : ℕ) → let r = shownReply s ++ (a ∷ b ∷ c ∷ d ∷ []) in
-    (getD r 5 0 ≡ a) × (getD r 6 0 ≡ b) × (getD r 7 0 ≡ c) × (getD r 8 0 ≡ d)
-after-shown (S.Refused n p) a b c d = (refl, refl, refl, refl)
-after-shown (S.InFile at n) a b c d = (refl, refl, refl, refl)
-after-shown (S.InWorkspace n) a b c d = (refl, refl, refl, refl)
-
 pub node-tells : (w at : ℕ) (v : View F.Item) (f reply object : List ℕ) → NodeReplies w at v f reply object → (work : List ℕ)
     → Tells v (refusalIn reply) (placeIn reply) (nodeIn w reply object (bytesIn reply f work))
 unfolding nodeSaid
@@ -130,11 +72,6 @@ undoIn w reply first second third path = record {
   second = stageWith (getD reply 6 0) (objectIn w second);
   third = stageWith (getD reply 7 0) (objectIn w third);
 }
-
-pub after-path : (s : Shown) (a b c : ℕ) → let r = shownReply s ++ (a ∷ b ∷ c ∷ []) in (getD r 5 0 ≡ a) × (getD r 6 0 ≡ b) × (getD r 7 0 ≡ c)
-after-path (S.Refused n p) a b c = (refl, refl, refl)
-after-path (S.InFile at n) a b c = (refl, refl, refl)
-after-path (S.InWorkspace n) a b c = (refl, refl, refl)
 
 pub undo-tells : (w at : ℕ) (v : View F.Undo) (f reply first second third : List ℕ) → UndoReplies w at v f reply first second third → (work : List ℕ)
     → Tells v (refusalIn reply) (placeIn reply) (undoIn w reply first second third (bytesIn reply f work))

@@ -23,9 +23,10 @@ use Rattle.walk.specs.declared.Started.the-variants as T
 use Rattle.format.specs.Places.{bodyIn}
 use Rattle.walk.specs.declared.Place.{Place}
 use Rattle.walk.specs.Walks.{or18, viewIn, walkRead, stepRead, walkAnswer, startedOf, startAnswer}
-use Rattle.nerupazhil.specs.Replies.{checkReply, startReply, refusalIn, StepReplies, WriteReplies}
+use Rattle.replies.specs.Arrays.{checkReply, startReply, refusalIn}
+use Rattle.replies.proofs.Reading.{Tells}
+use Rattle.nerupazhil.specs.Replies.{StepReplies, WriteReplies}
 use Rattle.nerupazhil.proofs.Numbers.{Numbered, numbered-bad, numbered-good, numbered-need, file-numbered, rewrite-numbered, put-numbered, remove-numbered}
-use Rattle.nerupazhil.proofs.Reading.{Tells}
 
 -- the reading of a file with a workspace has a number from 1 on where it refuses
 room-numbered : (kind : ℕ) (work f : List ℕ) → Numbered (inRoom work (readKind kind f))

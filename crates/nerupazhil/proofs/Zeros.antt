@@ -1,6 +1,6 @@
 -- All that does not apply in a reply is 0, of a refusal and of a success: for every number and every byte of every reply.
 use mathlib.Core.Path.{_≡_, refl, _∙_}
-use mathlib.Core.List.{List, [], _∷_, _++_}
+use mathlib.Core.List.{List, [], _++_}
 use mathlib.Core.Bool.{Bool, true, false}
 use Prim.Native.Nat.{ℕ, suc, _-_, _<_}
 use native.Mathlib.Omega.{arith}
@@ -9,10 +9,6 @@ use Rattle.format.specs.Records as F
 use Rattle.format.specs.Layout.{bit, isValid}
 use Rattle.format.specs.Reading.{Read, bad, good}
 use Rattle.kinds.specs.Kinds.{readKind}
-use Rattle.answers.specs.declared.Count.{Count}
-use Rattle.answers.specs.declared.Count.the-variants.{Absent, Present}
-use Rattle.answers.specs.declared.Checked.{Checked}
-use Rattle.answers.specs.declared.Checked.the-variants as K
 use Rattle.answers.specs.declared.Shown.{Shown}
 use Rattle.answers.specs.declared.Shown.the-variants as S
 use Rattle.answers.specs.declared.EntryAnswer.{EntryAnswer}
@@ -21,38 +17,21 @@ use Rattle.answers.specs.declared.UndoAnswer.{UndoAnswer}
 use Rattle.answers.specs.Answers.{View, refused, inFile, inWorkspace, checkAnswer, countNumber, refusedEntry, refusedNode, refusedUndo, entryAs, nodeAs, undoAs, shownAs, entryShown}
 use Rattle.answers.specs.Writing.{writtenOf}
 use Rattle.walk.specs.declared.Place.{Place}
-use Rattle.walk.specs.declared.Started.{Started}
-use Rattle.walk.specs.declared.Started.the-variants as T
 use Rattle.walk.specs.Walks.{startAnswer}
-use Rattle.nerupazhil.specs.Replies.{isPresent, numberOf, shownReply, fieldNumbers, checkReply, nodeReply, undoReply, nextNumbers, writeReply, startReply, refusalIn, placeIn, Told, StageZeros, EntryReplies, NodeReplies, UndoReplies, StepReplies, WriteReplies}
-use Rattle.nerupazhil.proofs.Laws.{shown-alone}
+use Rattle.replies.specs.Arrays.{shownReply, fieldNumbers, checkReply, nodeReply, undoReply, nextNumbers, writeReply, startReply, refusalIn, placeIn}
+use Rattle.replies.proofs.Laws.{shown-alone}
+use Rattle.replies.proofs.Reading.{after-shown, after-path}
+use Rattle.replies.proofs.Zeros.{Zeros, NameZeros, CheckZeros, denied, done, name-zeros, no-refusal, succeeded, check-by, start-by}
+use Rattle.nerupazhil.specs.Replies.{Told, StageZeros, EntryReplies, NodeReplies, UndoReplies, StepReplies, WriteReplies}
 use Rattle.nerupazhil.proofs.Numbers.{Numbered}
-use Rattle.nerupazhil.proofs.Reading.{after-shown, after-path}
 use Rattle.nerupazhil.proofs.Successes.{Positive, check-positive, start-positive}
 
 -- ---- the statements
-
--- of a success the place is 0; a refusal has its number, its place, and n zeros after them
-pub record Zeros (n : ℕ) (reply : List ℕ) : Type 0 where
-  pub success : refusalIn reply ≡ 0 → placeIn reply ≡ 0
-  pub refused : 0 < refusalIn reply → reply ≡ refusalIn reply ∷ placeIn reply ∷ replicate n 0
-
--- no name has no place and no length; one in the workspace is at its start
-pub record NameZeros (reply : List ℕ) : Type 0 where
-  pub none : getD reply 2 0 ≡ 0 → (getD reply 3 0 ≡ 0) × (getD reply 4 0 ≡ 0)
-  pub workspace : getD reply 2 0 ≡ 2 → getD reply 3 0 ≡ 0
 
 -- an object name has zeros after its w bytes, and nothing else on a refusal
 pub record ObjectZeros (w : ℕ) (reply object : List ℕ) : Type 0 where
   pub unused : drop w object ≡ replicate (32 - w) 0
   pub refused : 0 < refusalIn reply → object ≡ replicate 32 0
-
--- check: a count is 0 without its extension, and so are the last six numbers
-pub record CheckZeros (reply : List ℕ) : Type 0 where
-  pub zeros : Zeros 14 reply
-  pub nodes : getD reply 5 0 ≡ 0 → getD reply 6 0 ≡ 0
-  pub records : getD reply 7 0 ≡ 0 → getD reply 8 0 ≡ 0
-  pub later : drop 10 reply ≡ replicate 6 0
 
 -- an entry, or a step of a walk, with n numbers after the place
 pub record EntryZeros (w n : ℕ) (reply numbers object : List ℕ) : Type 0 where
@@ -78,26 +57,10 @@ pub record UndoZeros (w : ℕ) (reply first second third : List ℕ) : Type 0 wh
 
 -- ---- the proofs
 
--- of a refusal, whose number is not 0, and of a success
-denied : (n i p : ℕ) → 0 < i → Zeros n (i ∷ p ∷ replicate n 0)
-denied n i p some = record { success = λ e. absurd (omega arith); refused = λ _. refl }
-
-done : (n : ℕ) (more : List ℕ) → Zeros n (0 ∷ 0 ∷ more)
-done n more = record { success = λ _. refl; refused = λ some. absurd (omega arith) }
-
-name-zeros : (s : Shown) (more : List ℕ) → NameZeros (shownReply s ++ more)
-name-zeros (S.Refused n p) more = record { none = λ e. (refl, refl); workspace = λ e. refl }
-name-zeros (S.InFile at n) more = record { none = λ e. absurd (omega arith); workspace = λ e. absurd (omega arith) }
-name-zeros (S.InWorkspace n) more = record { none = λ e. absurd (omega arith); workspace = λ e. refl }
-
 object-zeros : (w : ℕ) (reply o object : List ℕ) → Told w o object → (0 < refusalIn reply → o ≡ replicate 32 0) → ObjectZeros w reply object
 object-zeros w reply o object told none = record { unused = told .unused; refused = λ some. told .same ∙ none some }
 
--- a count that is absent, and one that is invalid
-number-zero : (c : Count) → isPresent c ≡ 0 → numberOf c ≡ 0
-number-zero Absent e = refl
-number-zero (Present n) e = absurd (omega arith)
-
+-- a count that is invalid
 bit-zero : (b : Bool) → bit b ≡ 0 → b ≡ false
 bit-zero true e = absurd (omega arith)
 bit-zero false e = refl
@@ -106,26 +69,12 @@ count-zero : (c : F.Count) → bit (isValid c) ≡ 0 → countNumber c ≡ 0
 count-zero (F.valid n) e = absurd (omega arith)
 count-zero F.invalid e = refl
 
-check-by : (x : Checked) → ((n p : ℕ) → x ≡ K.Refused n p → 0 < n) → CheckZeros (checkReply x)
-check-by (K.Refused n p) h = record { zeros = denied 14 n p (h n p refl); nodes = λ _. refl; records = λ _. refl; later = refl }
-check-by (K.Accepted s) h = record { zeros = done 14 _; nodes = number-zero (s .nodes); records = number-zero (s .records); later = refl }
-
-start-by : (x : Started) → ((n p : ℕ) → x ≡ T.Refused n p → 0 < n) → Zeros 2 (startReply x)
-start-by (T.Refused n p) h = denied 2 n p (h n p refl)
-start-by (T.Ready n) h = done 2 _
-
 write-by : (x : Read (List ℕ)) → Numbered x → Zeros 1 (writeReply (writtenOf x))
 write-by (bad n p) h = denied 1 n p (h .positive n p refl)
 write-by (good bytes n) h = done 1 _
 
-no-refusal {ℓ} : {X : Type ℓ} (reply : List ℕ) → refusalIn reply ≡ 0 → 0 < refusalIn reply → X
-no-refusal reply e some = absurd (omega arith)
-
 object-shown : (w : ℕ) (reply o object : List ℕ) → Told w o object → refusalIn reply ≡ 0 → ObjectZeros w reply object
 object-shown w reply o object told e = object-zeros w reply o object told (no-refusal reply e)
-
-succeeded : (n : ℕ) (reply : List ℕ) → (refusalIn reply ≡ 0) × (placeIn reply ≡ 0) → Zeros n reply
-succeeded n reply (number, place) = record { success = λ _. place; refused = no-refusal reply number }
 
 -- what holds of every answer that shows a view, from what holds of a refusal, whose number is not 0, and of an item
 module _ {A R : Type 0} (deny : ℕ → ℕ → R) (show : Shown → A → R) (name : A → List ℕ) (at : ℕ) where

@@ -1,2 +1,2 @@
--- The answers as lists of numbers.
+-- What the calls leave behind.
 pub mod Replies

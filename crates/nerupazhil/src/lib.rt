@@ -10,9 +10,8 @@ ghost use Rattle.answers.specs.Answers.{cleared, checkAnswer, entryAnswer, node
 ghost use Rattle.entries.specs.Record.{entryWith};
 ghost use Rattle.answers.specs.Writing.{rewriteAnswer, putAnswer, removeAnswer};
 ghost use Rattle.walk.specs.Walks.{startAnswer, walkAnswer, placeAfter};
-ghost use Rattle.nerupazhil.specs.Replies.{givenFields, checkReply, startReply, EntryReplies, NodeReplies, UndoReplies, StepReplies, WriteReplies};
-
-mod replies;
+ghost use Rattle.replies.specs.Arrays.{givenFields, checkReply, startReply};
+ghost use Rattle.nerupazhil.specs.Replies.{EntryReplies, NodeReplies, UndoReplies, StepReplies, WriteReplies};
 
 // ---- the calls that read
 
@@ -20,7 +19,7 @@ mod replies;
 pub extern "C" fn nerupazhil_check(kind: u32, file: &[u8], work: &mut [u8], reply: &mut [u64; 16])
     ensures { λ _. ⌜ (now (reply .exit) ≡ checkReply (checkAnswer (now (work .entry)) (readKind kind (now (file .entry))))) × (now (work .exit) ≡ cleared (now (work .entry))) ⌝ }
 {
-    *reply = crate::replies::check_reply(index::check(kind, file, work));
+    *reply = replies::check_reply(index::check(kind, file, work));
 }
 
 #[no_mangle]
@@ -39,8 +38,8 @@ pub extern "C" fn nerupazhil_entry(
     let shown = answer.shown;
     let shown_fields = answer.fields;
     let name = shown_fields.object;
-    *reply = crate::replies::shown_reply(shown);
-    *fields = crate::replies::field_numbers(shown_fields);
+    *reply = replies::shown_reply(shown);
+    *fields = replies::field_numbers(shown_fields);
     *object = name;
 }
 
@@ -57,7 +56,7 @@ pub extern "C" fn nerupazhil_tree_node(
 {
     let answer = index::tree_node(kind, file, work, k);
     let name = answer.object;
-    *reply = crate::replies::node_reply(answer);
+    *reply = replies::node_reply(answer);
     *object = name;
 }
 
@@ -78,7 +77,7 @@ pub extern "C" fn nerupazhil_undo_record(
     let first_name = answer.first;
     let second_name = answer.second;
     let third_name = answer.third;
-    *reply = crate::replies::undo_reply(answer);
+    *reply = replies::undo_reply(answer);
     *first = first_name;
     *second = second_name;
     *third = third_name;
@@ -97,7 +96,7 @@ pub extern "C" fn nerupazhil_rewrite(
 )
     ensures { λ _. ⌜ WriteReplies kind (now (file .entry)) asked (λ q. q) (rewriteAnswer (widthOf kind) (hashOf kind) (now (work .entry)) asked (length (now (out .entry))) (readKind kind (now (file .entry)))) (now (out .entry)) (now (work .entry)) (now (out .exit)) (now (work .exit)) (now (reply .exit)) ⌝ }
 {
-    *reply = crate::replies::write_reply(index_write::rewrite(kind, file, work, out, asked));
+    *reply = replies::write_reply(index_write::rewrite(kind, file, work, out, asked));
 }
 
 #[no_mangle]
@@ -114,16 +113,8 @@ pub extern "C" fn nerupazhil_put(
 )
     ensures { λ _. ⌜ WriteReplies kind (now (file .entry)) asked (putRecord (widthOf kind) (entryWith (widthOf kind) (givenFields (now (fields .entry)) (now (object .entry))) (now (name .entry)))) (putAnswer (widthOf kind) (hashOf kind) (now (work .entry)) asked (entryWith (widthOf kind) (givenFields (now (fields .entry)) (now (object .entry))) (now (name .entry))) (length (now (out .entry))) (readKind kind (now (file .entry)))) (now (out .entry)) (now (work .entry)) (now (out .exit)) (now (work .exit)) (now (reply .exit)) ⌝ }
 {
-    let given = crate::replies::given_fields(fields, object);
-    *reply = crate::replies::write_reply(index_write::put(
-        kind,
-        file,
-        work,
-        out,
-        asked,
-        name,
-        given,
-    ));
+    let given = replies::given_fields(fields, object);
+    *reply = replies::write_reply(index_write::put(kind, file, work, out, asked, name, given));
 }
 
 #[no_mangle]
@@ -139,15 +130,7 @@ pub extern "C" fn nerupazhil_remove(
 )
     ensures { λ _. ⌜ WriteReplies kind (now (file .entry)) asked (removeRecord (widthOf kind) (record { name = now (name .entry); stage = stage })) (removeAnswer (widthOf kind) (hashOf kind) (now (work .entry)) asked (record { name = now (name .entry); stage = stage }) (length (now (out .entry))) (readKind kind (now (file .entry)))) (now (out .entry)) (now (work .entry)) (now (out .exit)) (now (work .exit)) (now (reply .exit)) ⌝ }
 {
-    *reply = crate::replies::write_reply(index_write::remove(
-        kind,
-        file,
-        work,
-        out,
-        asked,
-        name,
-        stage,
-    ));
+    *reply = replies::write_reply(index_write::remove(kind, file, work, out, asked, name, stage));
 }
 
 // ---- a walk over the entries: the caller keeps the place and how many remain
@@ -161,7 +144,7 @@ pub extern "C" fn nerupazhil_walk_start(
 )
     ensures { λ _. ⌜ (now (reply .exit) ≡ startReply (startAnswer (now (work .entry)) (readKind kind (now (file .entry))))) × (now (work .exit) ≡ cleared (now (work .entry))) ⌝ }
 {
-    *reply = crate::replies::start_reply(walk::start(kind, file, work));
+    *reply = replies::start_reply(walk::start(kind, file, work));
 }
 
 #[no_mangle]
@@ -182,8 +165,8 @@ pub extern "C" fn nerupazhil_walk_next(
     let shown_fields = answer.fields;
     let name = shown_fields.object;
     let next = step.next;
-    *reply = crate::replies::step_reply(shown, next);
-    *fields = crate::replies::field_numbers(shown_fields);
+    *reply = replies::step_reply(shown, next);
+    *fields = replies::field_numbers(shown_fields);
     *object = name;
 }
 

@@ -1,6 +1,6 @@
 -- The proof that `nerupazhil_check` meets its contract.
 use mathlib.Core.Path.{ap, _∙_}
-use Rattle.nerupazhil.specs.Replies.{checkReply}
+use Rattle.replies.specs.Arrays.{checkReply}
 use borrow.Author.Needs.{needs}
 use Rattle.nerupazhil.proofs.nerupazhil_check.Statement.{statement}
 use Rattle.nerupazhil.proofs.nerupazhil_check.Tie as tie

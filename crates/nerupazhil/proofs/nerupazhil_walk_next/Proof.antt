@@ -1,6 +1,6 @@
 -- The proof that `nerupazhil_walk_next` meets its contract.
 use mathlib.Core.Path.{ap, _∙_}
-use Rattle.nerupazhil.specs.Replies.{stepReply}
+use Rattle.replies.specs.Arrays.{stepReply}
 use Rattle.nerupazhil.proofs.Laws.{step-replies}
 use Rattle.kinds.proofs.Laws.{width-most}
 use borrow.Author.Needs.{needs}

@@ -1,6 +1,6 @@
 -- The proof that `nerupazhil_walk_start` meets its contract.
 use mathlib.Core.Path.{ap, _∙_}
-use Rattle.nerupazhil.specs.Replies.{startReply}
+use Rattle.replies.specs.Arrays.{startReply}
 use borrow.Author.Needs.{needs}
 use Rattle.nerupazhil.proofs.nerupazhil_walk_start.Statement.{statement}
 use Rattle.nerupazhil.proofs.nerupazhil_walk_start.Tie as tie

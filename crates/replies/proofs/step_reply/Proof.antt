@@ -1,7 +1,7 @@
 -- The proof that `step_reply` meets its contract.
 use borrow.Author.Needs.{needs}
-use Rattle.nerupazhil.proofs.replies.step_reply.Statement.{statement}
-use Rattle.nerupazhil.proofs.replies.step_reply.Tie as tie
+use Rattle.replies.proofs.step_reply.Statement.{statement}
+use Rattle.replies.proofs.step_reply.Tie as tie
 
 enum-known-shown : tie.Need-enum-known-shown
 enum-known-shown c = search needs

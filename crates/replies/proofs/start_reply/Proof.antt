@@ -1,7 +1,7 @@
 -- The proof that `start_reply` meets its contract.
 use borrow.Author.Needs.{needs}
-use Rattle.nerupazhil.proofs.replies.start_reply.Statement.{statement}
-use Rattle.nerupazhil.proofs.replies.start_reply.Tie as tie
+use Rattle.replies.proofs.start_reply.Statement.{statement}
+use Rattle.replies.proofs.start_reply.Tie as tie
 
 enum-known-started : tie.Need-enum-known-started
 enum-known-started c = search needs

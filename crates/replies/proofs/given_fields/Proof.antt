@@ -1,7 +1,7 @@
 -- The proof that `given_fields` meets its contract.
 use borrow.Author.Needs.{needs}
-use Rattle.nerupazhil.proofs.replies.given_fields.Statement.{statement}
-use Rattle.nerupazhil.proofs.replies.given_fields.Tie as tie
+use Rattle.replies.proofs.given_fields.Statement.{statement}
+use Rattle.replies.proofs.given_fields.Tie as tie
 
 element-copy-out-t5 : tie.Need-element-copy-out-t5
 element-copy-out-t5 c = search needs

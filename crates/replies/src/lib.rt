@@ -1,7 +1,7 @@
 // Answers as arrays of numbers, and the fields of an entry from arrays that a caller lends.
 ghost use mathlib.Core.Path.{_≡_};
 ghost use Rattle.format.specs.Layout.{bit};
-ghost use Rattle.nerupazhil.specs.Replies.{isPresent, numberOf, isLeftOut, checkReply, shownReply, fieldNumbers, givenFields, nodeReply, undoReply, stepReply, writeReply, startReply};
+ghost use Rattle.replies.specs.Arrays.{isPresent, numberOf, isLeftOut, checkReply, shownReply, fieldNumbers, givenFields, nodeReply, undoReply, stepReply, writeReply, startReply};
 use answers::Checked;
 use answers::Checksum;
 use answers::Count;

@@ -1,10 +1,10 @@
 -- The proof that `node_reply` meets its contract.
 use mathlib.Core.List.{[], _∷_}
 use Rattle.format.specs.Layout.{bit}
-use Rattle.nerupazhil.proofs.Laws.{shown-then}
+use Rattle.replies.proofs.Laws.{shown-then}
 use borrow.Author.Needs.{needs}
-use Rattle.nerupazhil.proofs.replies.node_reply.Statement.{statement}
-use Rattle.nerupazhil.proofs.replies.node_reply.Tie as tie
+use Rattle.replies.proofs.node_reply.Statement.{statement}
+use Rattle.replies.proofs.node_reply.Tie as tie
 
 shown-reply-requires : tie.Need-shown-reply-requires
 shown-reply-requires c κs = search needs

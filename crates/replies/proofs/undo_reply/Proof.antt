@@ -1,9 +1,9 @@
 -- The proof that `undo_reply` meets its contract.
 use mathlib.Core.List.{[], _∷_}
-use Rattle.nerupazhil.proofs.Laws.{shown-then}
+use Rattle.replies.proofs.Laws.{shown-then}
 use borrow.Author.Needs.{needs}
-use Rattle.nerupazhil.proofs.replies.undo_reply.Statement.{statement}
-use Rattle.nerupazhil.proofs.replies.undo_reply.Tie as tie
+use Rattle.replies.proofs.undo_reply.Statement.{statement}
+use Rattle.replies.proofs.undo_reply.Tie as tie
 
 shown-reply-requires : tie.Need-shown-reply-requires
 shown-reply-requires c κs = search needs

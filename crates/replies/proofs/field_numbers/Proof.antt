@@ -1,7 +1,7 @@
 -- The proof that `field_numbers` meets its contract.
 use borrow.Author.Needs.{needs}
-use Rattle.nerupazhil.proofs.replies.field_numbers.Statement.{statement}
-use Rattle.nerupazhil.proofs.replies.field_numbers.Tie as tie
+use Rattle.replies.proofs.field_numbers.Statement.{statement}
+use Rattle.replies.proofs.field_numbers.Tie as tie
 
 bit-requires : tie.Need-bit-requires
 bit-requires c κs = search needs

@@ -1,7 +1,7 @@
 -- The proof that `check_reply` meets its contract.
 use borrow.Author.Needs.{needs}
-use Rattle.nerupazhil.proofs.replies.check_reply.Statement.{statement}
-use Rattle.nerupazhil.proofs.replies.check_reply.Tie as tie
+use Rattle.replies.proofs.check_reply.Statement.{statement}
+use Rattle.replies.proofs.check_reply.Tie as tie
 
 enum-known-checked : tie.Need-enum-known-checked
 enum-known-checked c = search needs

@@ -1,7 +1,7 @@
 -- The proof that `shown_reply` meets its contract.
 use borrow.Author.Needs.{needs}
-use Rattle.nerupazhil.proofs.replies.shown_reply.Statement.{statement}
-use Rattle.nerupazhil.proofs.replies.shown_reply.Tie as tie
+use Rattle.replies.proofs.shown_reply.Statement.{statement}
+use Rattle.replies.proofs.shown_reply.Tie as tie
 
 enum-known-shown : tie.Need-enum-known-shown
 enum-known-shown c = search needs

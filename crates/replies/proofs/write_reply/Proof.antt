@@ -1,7 +1,7 @@
 -- The proof that `write_reply` meets its contract.
 use borrow.Author.Needs.{needs}
-use Rattle.nerupazhil.proofs.replies.write_reply.Statement.{statement}
-use Rattle.nerupazhil.proofs.replies.write_reply.Tie as tie
+use Rattle.replies.proofs.write_reply.Statement.{statement}
+use Rattle.replies.proofs.write_reply.Tie as tie
 
 enum-known-written : tie.Need-enum-known-written
 enum-known-written c = search needs

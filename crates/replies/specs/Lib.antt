@@ -1,0 +1,2 @@
+-- The answers as lists of numbers.
+pub mod Arrays
