@@ -49,7 +49,8 @@ fn full(kind: Kind) -> Vec<Case> {
         putting(&before, &a),
         removing(&before, &a.name, 0),
     ];
-    let mut cases = in_versions("full", &before, &changes, &[2]);
+    let mut cases = first_refusals(&before, &a, &b);
+    cases.extend(in_versions("full", &before, &changes, &[2]));
     cases.extend(in_versions("full", &before, &changes[..1], &[1]));
     let file = Arc::new(file(&before));
     for room in [0, LARGEST, LARGEST + 1] {
@@ -59,22 +60,24 @@ fn full(kind: Kind) -> Vec<Case> {
             cases.push(Case { room, ..over });
         }
     }
-    cases.extend(first_refusals(&before, a, b));
     cases
 }
 
 /// What comes first where the result would be too long too.
-fn first_refusals(before: &Records, a: Entry, b: Entry) -> Vec<Case> {
+fn first_refusals(before: &Records, a: &Entry, b: &Entry) -> Vec<Case> {
     let word = Entry {
         word: Some(INTENT_TO_ADD),
         ..b.clone()
     };
-    let stage = Entry { stage: 1, ..a };
+    let stage = Entry {
+        stage: 1,
+        ..a.clone()
+    };
     let rows = [
         (2, rewriting(before).call(4)),
-        (2, putting(before, &b).call(1)),
+        (2, putting(before, b).call(1)),
         (4, rewriting(before).call(5)),
-        (4, putting(before, &b).call(u32::MAX)),
+        (4, putting(before, b).call(u32::MAX)),
         (21, putting(before, &word).call(2)),
         (11, putting(before, &stage).call(2)),
         (18, removing(before, b"c", 0).call(4)),
