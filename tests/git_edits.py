@@ -5,12 +5,16 @@
 PROGRAM answers the requests of edit_requests. The files are those of git_files, of a kind of object names, or of each.
 Each file is listed and held against Git as git_files does it. Then, with a copy of its repository:
 
-    rewritten in its own version and without other extensions, the file has Git's bytes; rewritten in each version, Git
-    sees the same entries, resolve undo and status, fsck complains of nothing new, and write-tree gives the same tree;
-    when Git writes the file again, its records and, where it has no other extension, its bytes are the same;
+    each request is made with every version that can be asked for: 0 gives version 4, 1 the lowest that the result can
+    have, and the bytes are those of that version by its own number; one above 4 is refused;
+
+    rewritten in its own version, or in one that Git is told to write ('git update-index --index-version'), and without
+    other extensions, the file has Git's bytes; rewritten in each version, Git sees the same entries, resolve undo and
+    status, fsck complains of nothing new, and write-tree gives the same tree; when Git writes the file again, its records
+    and, where it has no other extension, its bytes are the same;
 
     after a put the entries, valid nodes and bytes are those that 'git update-index --cacheinfo' leaves, after a remove
-    those of '--force-remove', and Git goes on: it adds, refreshes, removes and writes the same tree;
+    those of '--force-remove', asked 0 and asked 1, and Git goes on: it adds, refreshes, removes and writes the same tree;
 
     a put that would bring stage 0 together with another stage of a name is refused. Git takes the stages of a conflict out
     where it puts stage 0; a stage above 0 it puts beside stage 0 ('update-index --index-info'), which its fsck then refuses
@@ -22,10 +26,13 @@ Each file is listed and held against Git as git_files does it. Then, with a copy
 Not compared, since Git does more than document 01 asks: the nodes at and below the path of a put entry, which Git
 drops; resolve undo after a remove of stages 1 to 3, where Git adds a record; extensions that the library passes over.
 
-The last line is 'N passed, M failed', and the exit status is 0 only where M is 0.
+The stored files of vectors/versions are rewritten too: the answers are the stored ones, and Git lists their entries. The
+last line is 'N passed, M failed', and the exit status is 0 only where M is 0.
 """
 
 import argparse
+import contextlib
+import io
 import os
 import random
 import shutil
@@ -35,14 +42,29 @@ from typing import Optional
 
 import git_files
 import index_reader
+import rewriting
+import run_listing
 from edit_requests import Request, Session
-from git_files import Repository, Snapshot
+from git_files import Repository, Row, Snapshot
 from index_reader import Entry, Index
 from kinds import ALL, Kind, by_number
+from layout import Plan, Record
 from report import Program, ProgramFailed, Report
 
 ROOM = 1 << 20  # more than any of these files takes
 MODES = (0o100644, 0o100755, 0o120000)
+ASKED = (0, 1, 2, 3, 4)  # the versions that can be asked for
+ABOVE = (5, 2**32 - 1)  # and ones that cannot
+
+# What a program would do wrong that takes one version that is asked for as another.
+WRONG = (
+    ("asked 0 written as the lowest", {0: 1}),
+    ("asked 1 written as 4", {1: 4}),
+    ("asked 1 refused", {1: 5}),
+    ("asked 1 refused for the extended word", {1: 2}),
+    ("asked 5 taken", {5: 4}),
+    ("the largest number taken", {2**32 - 1: 0}),
+)
 
 # What is looked at. The last one writes to the index.
 LOOKS = (
@@ -75,6 +97,13 @@ def written_by_git(repository: Repository, index: bytes, *options: str) -> bytes
     return repository.index()
 
 
+def in_version(repository: Repository, index: bytes, version: int) -> bytes:
+    """The index as Git writes it in a version that it is told."""
+    repository.install(index)
+    repository.git("update-index", "--index-version", str(version))
+    return repository.index()
+
+
 def read(repository: Repository, index: bytes) -> Index:
     """An index of a repository, read by index_reader."""
     return index_reader.read(index, kind=repository.kind)
@@ -98,6 +127,61 @@ def without(table: Optional[dict], name: bytes) -> Optional[dict]:
     return {path: node for path, node in table.items() if path != name and not path.startswith(name + b"/")}
 
 
+# ---- versions
+
+
+def in_every_version(name: str, request: Request, entries: list, call, report: Report) -> dict:
+    """Makes a request, whose result has these entries, with each version that can be asked for, and with others. Answers
+    what was written, by its version."""
+    written = {}
+    lowest = rewriting.lowest(entries)
+    for asked, version in zip(ASKED, (4, lowest, 2, 3, 4)):
+        answer = call(request._replace(asked=asked))
+        about = f"{name}, asked {asked}"
+        if version < lowest:
+            report.same(about, ("refused", 21, 0), answer)
+        elif report.test(about, answer[0] == "done", answer[:3]):
+            report.same(f"{about}, version", version, int.from_bytes(answer[1][4:8], "big"))
+            report.same(f"{about}, bytes of that version", written.setdefault(version, answer[1]), answer[1])
+    for asked in ABOVE:
+        report.same(f"{name}, asked {asked}", ("refused", 4, 0), call(request._replace(asked=asked)))
+    return written
+
+
+def misled(call, taken: dict):
+    """A program that takes versions that are asked for as others."""
+    return lambda request: call(request._replace(asked=taken.get(request.asked, request.asked)))
+
+
+def wrong_versions(kind: Kind, call, report: Report) -> None:
+    """Sees that such a program is noticed."""
+    records = [Record(b"a"), Record(b"b", skip_worktree=True)]
+    data = Plan(4, records, kind=kind).made("an entry needs the word").data
+    request = Request("rewrite", data, room=ROOM)
+    for what, taken in WRONG:
+        counted = Report()
+        with contextlib.redirect_stdout(io.StringIO()):
+            in_every_version(what, request, records, misled(call, taken), counted)
+        report.test(f"{what}: noticed", counted.failed > 0)
+
+
+def stored(root: str, kind: Kind, call, report: Report) -> None:
+    """Rewrites the stored files: their answers, and what Git lists of those that are written."""
+    rows = [row for row in run_listing.rewritings() if row.kind == kind]
+    repository = Repository(root, "stored", 2, kind)
+    for row in rows:
+        name = f"versions/{row.name}: asked {row.asked}"
+        answer = call(Request("rewrite", row.data, row.asked, ROOM))
+        report.same(name, row.answer, rewriting.words(answer))
+        if answer[0] == "done":
+            entries = [
+                Row(b"%o" % entry.mode, entry.object.hex().encode(), b"%d" % entry.stage, entry.name)
+                for entry in read(repository, row.data).entries
+            ]
+            status, listed = repository.staged_in(answer[1])
+            report.same(f"{name}, for Git", (0, entries), (status, git_files.rows_of_git(listed)))
+
+
 # ---- rewriting
 
 
@@ -105,22 +189,13 @@ def rewritten(snapshot: Snapshot, repository: Repository, call, report: Report) 
     """Rewrites the index in each version. Answers what Git sees of the index as it is."""
     expected = look(repository, snapshot.data)
     index = read(repository, snapshot.data)
-    extended = any(entry.skip_worktree or entry.intent_to_add for entry in index.entries)
-    done = set()
-    for asked in (0, 2, 3, 4):
-        name = f"{snapshot.name}: rewritten, asked {asked}"
-        answer = call(Request("rewrite", snapshot.data, asked, ROOM))
-        if asked == 2 and extended:
-            report.same(name, ("refused", 21, 0), answer)
-            continue
-        if not report.test(name, answer[0] == "done", answer[:3]) or answer[1] in done:
-            continue
-        data = answer[1]
-        done.add(data)
-        version = int.from_bytes(data[4:8], "big")
-        report.same(f"{name}, version", asked or (3 if extended else 2), version)
-        if version == index.version and not index.others:
-            report.same(f"{name}, Git's own bytes", snapshot.data, data)
+    title = f"{snapshot.name}: rewritten"
+    written = in_every_version(title, Request("rewrite", snapshot.data, room=ROOM), index.entries, call, report)
+    for version, data in written.items():
+        name = f"{title}, version {version}"
+        own = own_bytes(repository, snapshot.data, index.entries, version)
+        if own is not None:
+            report.same(f"{name}, Git's own bytes", own, data)
         seen = look(repository, data)
         for what, output in expected.items():
             report.same(f"{name}, {what}", output, seen[what])
@@ -129,10 +204,23 @@ def rewritten(snapshot: Snapshot, repository: Repository, call, report: Report) 
         report.same(f"{name}, entries as Git writes them", index.entries, theirs.entries)
         report.same(f"{name}, nodes as Git writes them", index.nodes, theirs.nodes)
         report.same(f"{name}, resolve undo as Git writes it", index.undo or None, theirs.undo or None)
-        if not theirs.others and not (asked == 3 and not extended):
-            # Without need of the extended word Git writes version 2 in place of 3.
+        if not theirs.others and written_by_both(version, index.entries):
             report.same(f"{name}, bytes as Git writes them", again, data)
     return expected
+
+
+def written_by_both(version: int, entries: list) -> bool:
+    """Whether Git writes this version: without need of the extended word it writes 2 in place of 3."""
+    return version in (rewriting.lowest(entries), 4)
+
+
+def own_bytes(repository: Repository, index: bytes, entries: list, version: int) -> Optional[bytes]:
+    """An index of Git, with these entries, as Git has it in a version. None where Git would not write that version, or
+    the index has an extension that the library drops."""
+    if not written_by_both(version, entries):
+        return None
+    own = index if index[7] == version else in_version(repository, index, version)
+    return None if read(repository, own).others else own
 
 
 # ---- putting and removing
@@ -177,11 +265,10 @@ def draw_put(rng: random.Random, index: Index, object_name: bytes) -> Entry:
 
 def put(snapshot: Snapshot, repository: Repository, entry: Entry, call, report: Report) -> None:
     name = f"{snapshot.name}: put {entry.name[:40]!r} {entry.stage}"
-    asked = 4 if snapshot.data[7] == 4 else 0
-    answer = call(Request("put", snapshot.data, asked, ROOM, entry))
-    if not report.test(name, answer[0] == "done", answer[:3]):
-        return
-    against_git(name, repository, answer[1], put_by_git(repository, snapshot.data, entry), entry.name, report)
+    request = Request("put", snapshot.data, room=ROOM, entry=entry)
+    theirs = put_by_git(repository, snapshot.data, entry)
+    written = in_every_version(name, request, read(repository, theirs).entries, call, report)
+    against_git(name, repository, written, theirs, entry.name, report)
 
 
 def put_by_git(repository: Repository, index: bytes, entry: Entry) -> bytes:
@@ -200,13 +287,15 @@ def mixing(snapshot: Snapshot, repository: Repository, rng: random.Random, call,
     """Puts stage 0 beside the stages of a conflict, and another stage beside stage 0: both are refused."""
     index = read(repository, snapshot.data)
     object_name = bytes.fromhex(repository.blob().decode())
-    asked = 4 if snapshot.data[7] == 4 else 0
     for names, stage in ((in_conflict(index), 0), (settled(index), rng.randint(1, 3))):
         if not names:
             continue
         entry = new_entry(rng, rng.choice(names), stage, object_name)
         name = f"{snapshot.name}: mixing put {entry.name[:40]!r} {stage}"
-        report.same(name, ("refused", 11, 0), call(Request("put", snapshot.data, asked, ROOM, entry)))
+        for asked in ASKED + ABOVE:
+            number = 11 if asked in ASKED else 4
+            answer = call(Request("put", snapshot.data, asked, ROOM, entry))
+            report.same(f"{name}, asked {asked}", ("refused", number, 0), answer)
         theirs = put_by_git(repository, snapshot.data, entry)
         if stage == 0:
             stages = [other.stage for other in read(repository, theirs).entries if other.name == entry.name]
@@ -221,41 +310,52 @@ def mixing(snapshot: Snapshot, repository: Repository, rng: random.Random, call,
 def remove(snapshot: Snapshot, repository: Repository, path: bytes, call, report: Report) -> None:
     """Removes every stage of a path, as Git does."""
     name = f"{snapshot.name}: remove {path[:40]!r}"
-    asked = 4 if snapshot.data[7] == 4 else 0
-    data = snapshot.data
-    for entry in read(repository, snapshot.data).entries:
-        if entry.name == path:
-            answer = call(Request("remove", data, asked, ROOM, name=path, stage=entry.stage))
-            if not report.test(f"{name} {entry.stage}", answer[0] == "done", answer[:3]):
-                return
-            data = answer[1]
+    written, data = {}, snapshot.data
+    entries = read(repository, data).entries
+    for entry in [entry for entry in entries if entry.name == path]:
+        entries.remove(entry)
+        request = Request("remove", data, room=ROOM, name=path, stage=entry.stage)
+        written = in_every_version(f"{name} {entry.stage}", request, entries, call, report)
+        if 4 not in written:
+            return
+        data = written[4]
     repository.install(snapshot.data)
     repository.git("update-index", "-z", "--force-remove", "--stdin", given=path + b"\0")
-    against_git(name, repository, data, repository.index(), None, report)
+    against_git(name, repository, written, repository.index(), None, report)
 
 
 def against_git(
-    name: str, repository: Repository, ours: bytes, theirs: bytes, path: Optional[bytes], report: Report
+    name: str, repository: Repository, written: dict, theirs: bytes, path: Optional[bytes], report: Report
 ) -> None:
-    """Holds an edited index against Git's own. `path` is that of a put entry."""
-    our_index, their_index = read(repository, ours), read(repository, theirs)
-    report.same(f"{name}, entries", their_index.entries, our_index.entries)
-    our_nodes, their_nodes = node_table(our_index), node_table(their_index)
-    if path is not None:
-        our_nodes = without(our_nodes, path)
-    report.same(f"{name}, nodes", their_nodes, our_nodes)
-    if our_index.nodes == their_index.nodes and our_index.undo == their_index.undo and not their_index.others:
-        report.same(f"{name}, bytes", theirs, ours)
+    """Holds an edited index in each version against Git's own. `path` is that of a put entry."""
+    their_index = read(repository, theirs)
+    their_nodes = node_table(their_index)
     looks = ("entries", "status", "tree")
-    expected, seen = look(repository, theirs, looks), look(repository, ours, looks)
-    for what in looks:
-        report.same(f"{name}, {what} for Git", expected[what], seen[what])
+    expected = look(repository, theirs, looks)
+    for version, ours in written.items():
+        about = f"{name}, version {version}"
+        our_index = read(repository, ours)
+        report.same(f"{about}, entries", their_index.entries, our_index.entries)
+        our_nodes = node_table(our_index)
+        if path is not None:
+            our_nodes = without(our_nodes, path)
+        report.same(f"{about}, nodes", their_nodes, our_nodes)
+        if not written_by_both(version, their_index.entries):
+            continue
+        own = None
+        if our_index.nodes == their_index.nodes and our_index.undo == their_index.undo and not their_index.others:
+            own = own_bytes(repository, theirs, their_index.entries, version)
+            report.same(f"{about}, bytes", own, ours)
+        # Of bytes that are its own, in the version that it was told, Git is asked for the entries alone.
+        some = looks[:1] if own == ours != theirs else looks
+        for what, output in look(repository, ours, some).items():
+            report.same(f"{about}, {what} for Git", expected[what], output)
 
 
 def goes_on(snapshot: Snapshot, repository: Repository, expected: dict, call, report: Report) -> None:
     """Git adds a file to a rewritten index, refreshes it, removes the file and writes the same tree."""
     name = f"{snapshot.name}: Git goes on"
-    answer = call(Request("rewrite", snapshot.data, 4, ROOM))
+    answer = call(Request("rewrite", snapshot.data, 0, ROOM))
     if not report.test(name, answer[0] == "done", answer[:3]):
         return
     repository.install(answer[1])
@@ -306,8 +406,9 @@ def listing(data: bytes, call) -> bytes:
 def compare(snapshot: Snapshot, root: str, call, report: Report) -> None:
     git_files.compare(snapshot, lambda data: listing(data, call), report)
     if snapshot.refusal is not None:
-        answer = call(Request("rewrite", snapshot.data, 0, ROOM))
-        report.same(f"{snapshot.name}: refusal", ("refused", snapshot.refusal), answer[:2])
+        for asked in (0, 1, *ABOVE):
+            answer = call(Request("rewrite", snapshot.data, asked, ROOM))
+            report.same(f"{snapshot.name}: refusal, asked {asked}", ("refused", snapshot.refusal), answer[:2])
         return
     repository = snapshot.repository.copy(os.path.join(root, "copy"))
     # Whenever Git writes an index here, it looks whether valid nodes have the tree of their entries.
@@ -320,16 +421,17 @@ def compare(snapshot: Snapshot, root: str, call, report: Report) -> None:
         index = read(repository, snapshot.data)
         object_name = bytes.fromhex(repository.blob().decode())
         expected = rewritten(snapshot, repository, call, report)
-        requests = [Request("rewrite", snapshot.data, asked, ROOM) for asked in (0, 2, 3, 4)]
-        for _ in range(2):
+        requests = [Request("rewrite", snapshot.data, asked, ROOM) for asked in ASKED + ABOVE]
+        for asked in (0, 1):
             entry = draw_put(rng, index, object_name)
             put(snapshot, repository, entry, call, report)
-            requests.append(Request("put", snapshot.data, 4, ROOM, entry))
+            requests.append(Request("put", snapshot.data, asked, ROOM, entry))
         mixing(snapshot, repository, rng, call, report)
         if index.entries:
             entry = rng.choice(index.entries)
             remove(snapshot, repository, entry.name, call, report)
-            requests.append(Request("remove", snapshot.data, 4, ROOM, name=entry.name, stage=entry.stage))
+            for asked in (0, 1):
+                requests.append(Request("remove", snapshot.data, asked, ROOM, name=entry.name, stage=entry.stage))
         goes_on(snapshot, repository, expected, call, report)
         left_out(snapshot, repository, expected, requests, call, report)
     finally:
@@ -345,6 +447,8 @@ def run(session: Session, kind: Kind, report: Report, scenes: tuple) -> None:
 
     root = os.path.realpath(tempfile.mkdtemp(prefix="git-edits-"))
     try:
+        wrong_versions(kind, call, report)
+        stored(root, kind, call, report)
         for snapshot in git_files.snapshots(root, (2, 4), scenes, kind):
             compare(snapshot, root, call, report)
     except (RuntimeError, ProgramFailed, index_reader.Refused) as failure:

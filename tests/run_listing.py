@@ -8,7 +8,9 @@ line is 'N passed, M failed', and the exit status is 0 only where M is 0.
 """
 
 import argparse
+import itertools
 import os
+import re
 import subprocess
 import sys
 import time
@@ -18,6 +20,7 @@ from typing import NamedTuple, Optional
 import index_reader
 import make_cases
 import make_files
+from kinds import Kind, by_number
 from report import SECONDS, WIDTH, Program, ProgramFailed, Report, difference
 
 VECTORS = os.path.join(os.path.dirname(os.path.abspath(__file__)), "vectors")
@@ -49,6 +52,16 @@ class Case(NamedTuple):
     data: bytes
     answer: Optional[tuple] = None
     listing: Optional[bytes] = None
+
+
+class Rewriting(NamedTuple):
+    """A stored file to be rewritten in a version, with the answer as the table spells it."""
+
+    name: str
+    data: bytes
+    kind: Kind
+    asked: int
+    answer: str
 
 
 # ---- the cases
@@ -89,6 +102,19 @@ def vectors():
         list_name = name[: -len(".index")] + ".list"
         listing = load(list_name) if list_name in files else None
         yield Case(name, load(name), answer, listing)
+
+
+def rewritings() -> list:
+    """The rows of versions/. Each file has one for 0, 1 and 5 asked; another number of rows is an error."""
+    found = []
+    for line in load("versions", "expected.tsv").decode().splitlines():
+        name, call, answer = line.split("\t")
+        kind, asked = re.fullmatch(r"rewrite kind (\d) asked (\d+)", call).groups()
+        found.append(Rewriting(name, load("versions", name), by_number(kind), int(asked), answer))
+    names = [name for name in os.listdir(os.path.join(VECTORS, "versions")) if name.endswith(".index")]
+    if sorted((row.name, row.asked) for row in found) != sorted(itertools.product(names, (0, 1, 5))):
+        raise SystemExit("expected.tsv and the files of versions/ differ")
+    return found
 
 
 def made(files):

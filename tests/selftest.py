@@ -25,6 +25,7 @@ import index_reader
 import layout
 import make_cases
 import make_files
+import rewriting
 import run_listing
 import wrong_pages
 import wrong_readings
@@ -57,6 +58,9 @@ def vectors(report: Report) -> None:
     for name, answer in run_listing.answers("sha256").items():
         data = run_listing.load(name)
         report.same(f"{name}: check", answer, index_reader.check(data, kind=SHA256))
+    for row in run_listing.rewritings():
+        answer = rewriting.answer(row.data, row.asked, row.kind)
+        report.same(f"versions/{row.name}: asked {row.asked}", row.answer, rewriting.words(answer))
 
 
 def made_files(report: Report) -> None:
@@ -222,17 +226,28 @@ def git(report: Report) -> None:
 # ---- wrong readings that the cases must notice
 
 
-def edited(old: str, new: str):
-    """The module index_reader with one edit."""
-    with open(os.path.join(HERE, "index_reader.py"), encoding="utf-8") as stream:
+def edited(name: str, old: str, new: str):
+    """A module of this folder with one edit."""
+    with open(os.path.join(HERE, f"{name}.py"), encoding="utf-8") as stream:
         source = stream.read()
     if source.count(old) != 1:
-        raise ValueError(f"the text stands {source.count(old)} times in index_reader")
-    module = types.ModuleType("edited_reader")
+        raise ValueError(f"the text stands {source.count(old)} times in {name}")
+    module = types.ModuleType(f"edited_{name}")
     # Nodes below an invalid one are passed over by one of the edits.
     module.skip = lambda k, prefix: k + 1
-    exec(compile(source.replace(old, new), "edited_reader", "exec"), module.__dict__)
+    exec(compile(source.replace(old, new), module.__name__, "exec"), module.__dict__)
     return module
+
+
+def is_noticed(report: Report, name: str, edit: tuple, differs) -> None:
+    """Expects that a module with one edit differs."""
+    what, old, new = edit
+    try:
+        module = edited(name, old, new)
+    except ValueError as error:
+        report.test(f"wrong reading: {what}", False, error)
+        return
+    report.test(f"wrong reading is noticed: {what}", differs(module))
 
 
 def readings(report: Report) -> None:
@@ -249,14 +264,18 @@ def readings(report: Report) -> None:
         except (ValueError, IndexError, TypeError):
             return True
 
-    for what, old, new in wrong_readings.EDITS:
-        try:
-            listing_of = edited(old, new).listing
-        except ValueError as error:
-            report.test(f"wrong reading: {what}", False, error)
-            continue
-        noticed = any(differs(listing_of, *case) for case in cases)
-        report.test(f"wrong reading is noticed: {what}", noticed)
+    for edit in wrong_readings.EDITS:
+        is_noticed(report, "index_reader", edit, lambda module: any(differs(module.listing, *case) for case in cases))
+
+
+def versions(report: Report) -> None:
+    rows = run_listing.rewritings()
+
+    def differs(module) -> bool:
+        return any(module.words(module.answer(row.data, row.asked, row.kind)) != row.answer for row in rows)
+
+    for edit in wrong_readings.VERSIONS:
+        is_noticed(report, "rewriting", edit, differs)
 
 
 # ---- stand-in programs
@@ -346,6 +365,7 @@ def main() -> int:
         ("hand-written bytes, SHA-256", hand_written_sha256),
         ("Git", git),
         ("wrong readings", readings),
+        ("wrong versions", versions),
         ("stand-in programs", stand_ins),
         ("stand-in programs of edits", edit_stand_ins),
         ("wrong assurance pages", wrong_pages.noticed),

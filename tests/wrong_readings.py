@@ -1,4 +1,4 @@
-"""Wrong readings: edits of index_reader in one place, which the tests must notice.
+"""Wrong readings: edits of index_reader, and of rewriting, in one place, which the tests must notice.
 
 A row says what is wrong, the text that is there, and the text in its place.
 """
@@ -150,4 +150,20 @@ EDITS = (
     ("no paths is none", "if index.undo is None:\n        lines", "if not index.undo:\n        lines"),
     ("assume-valid as part of the stage", "stage = flags >> 12 & 3", "stage = flags >> 12 & 11"),
     ("object names in capitals", "entry.object.hex().encode()", "entry.object.hex().upper().encode()"),
+)
+
+# edits of rewriting, which the rows of vectors/versions must notice
+VERSIONS = (
+    ("asked 0 written as the lowest", "{0: 4, ", "{0: lowest(entries), "),
+    ("asked 0 keeps the version of the file", "{0: 4, ", "{0: data[7], "),
+    ("asked 0 is 21", "asked == 2 and", "asked in (0, 2) and"),
+    ("asked 1 written as 4", "1: lowest(entries)}", "1: 4}"),
+    ("asked 1 keeps the version of the file", "1: lowest(entries)}", "1: data[7]}"),
+    ("asked 1 refused", "if asked > 4", "if asked == 1 or asked > 4"),
+    ("asked 1 is 21", "asked == 2 and", "asked in (1, 2) and"),
+    ("asked 1 is always 2", "3 if extended(entries) else 2", "2"),
+    ("asked 1 is always 3", "3 if extended(entries) else 2", "3"),
+    ("asked 5 taken", "if asked > 4", "if asked > 5"),
+    ("skip-worktree needs no word", "entry.skip_worktree or entry.intent_to_add for", "entry.intent_to_add for"),
+    ("intent-to-add needs no word", "entry.skip_worktree or entry.intent_to_add for", "entry.skip_worktree for"),
 )

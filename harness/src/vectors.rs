@@ -1,7 +1,9 @@
 //! The vectors of `tests/vectors`, and folders like it: files that are made and answered by other programs.
 
+use crate::inputs::{self, Input};
 use crate::kind::Kind;
-use crate::replies::CheckReply;
+use crate::plain;
+use crate::replies::{CheckReply, WriteReply};
 use std::fs;
 use std::path::{Path, PathBuf};
 
@@ -9,6 +11,15 @@ use std::path::{Path, PathBuf};
 pub struct Vector {
     pub name: String,
     pub file: Vec<u8>,
+    pub expected: String,
+}
+
+/// A file, a version to rewrite it in, and the answer, in the words of the table of `tests/vectors/versions`.
+pub struct Rewriting {
+    pub name: String,
+    pub kind: Kind,
+    pub file: Vec<u8>,
+    pub asked: u32,
     pub expected: String,
 }
 
@@ -29,9 +40,46 @@ pub fn all(kind: Kind) -> Vec<Vector> {
     vectors
 }
 
+/// The same of every kind, as inputs.
+pub fn inputs() -> impl Iterator<Item = Input> {
+    Kind::ALL.into_iter().flat_map(|kind| {
+        let vectors = all(kind).into_iter();
+        vectors.map(move |vector| inputs::stored(kind, &vector.file))
+    })
+}
+
+/// All of `tests/vectors/versions`, whose rows have a name, `rewrite kind K asked N` and an answer.
+pub fn rewritings() -> Vec<Rewriting> {
+    let folder = folder().join("versions");
+    let row = |row: &str| match row.split('\t').collect::<Vec<_>>()[..] {
+        [name, call, expected] => rewriting(&folder, name, call, expected),
+        _ => panic!("{row}: three columns"),
+    };
+    let rewritings: Vec<Rewriting> = table(&folder).lines().map(row).collect();
+    assert_eq!(rewritings.len(), 19 * 3);
+    rewritings
+}
+
+fn rewriting(folder: &Path, name: &str, call: &str, expected: &str) -> Rewriting {
+    let words: Vec<&str> = call.split(' ').collect();
+    let number = |k: usize| words[k].parse::<u32>().expect("a number");
+    assert_eq!([words[0], words[1], words[3]], ["rewrite", "kind", "asked"]);
+    Rewriting {
+        name: name.to_string(),
+        kind: Kind::of(number(2)).expect("a kind"),
+        file: load(folder, name),
+        asked: number(4),
+        expected: expected.to_string(),
+    }
+}
+
+fn table(folder: &Path) -> String {
+    String::from_utf8(load(folder, "expected.tsv")).expect("a table in UTF-8")
+}
+
 /// All of a folder, whose table `expected.tsv` has a name and an answer in each row.
 pub fn of(folder: &Path) -> Vec<Vector> {
-    let table = String::from_utf8(load(folder, "expected.tsv")).expect("a table in UTF-8");
+    let table = table(folder);
     let rows = table.lines().map(|row| row.split_once('\t'));
     rows.map(|row| row.expect("a name and an answer"))
         .map(|(name, expected)| Vector {
@@ -71,6 +119,16 @@ pub fn words(reply: &CheckReply) -> String {
         count(reply.has_undo, reply.records)
     );
     counts + left_out(reply)
+}
+
+/// An answer of a call that writes, and what it wrote, in the words of the table.
+pub fn words_of_written(reply: &WriteReply, written: &[u8]) -> String {
+    if reply.refusal > 0 {
+        return format!("refused {} at {}", reply.refusal, reply.place);
+    }
+    let digest = plain::sha256(written);
+    let hex: String = digest.iter().map(|byte| format!("{byte:02x}")).collect();
+    format!("written {} sha256 {hex}", reply.length)
 }
 
 /// What is said, after all else in the line, of a checksum that was left out.

@@ -28,12 +28,9 @@ answers!(by_harness, ffi);
 
 /// The vectors and some drawn inputs, each with calls of every sort.
 fn questions() -> impl Iterator<Item = (Input, Vec<Call>)> {
-    let stored = Kind::ALL.into_iter().flat_map(|kind| {
-        let vectors = vectors::all(kind).into_iter();
-        vectors.map(move |vector| inputs::stored(kind, &vector.file))
-    });
     let drawn = (0..DRAWN).map(|number| inputs::input(11, number));
-    stored.chain(drawn).zip(0..).map(|(input, number)| {
+    let all = vectors::inputs().chain(drawn);
+    all.zip(0..).map(|(input, number)| {
         let checked = opponent::check(input.kind.number(), &input.bytes, &mut vec![0; WORKSPACE]);
         let calls = requests::calls(&mut Random::of(12, number), &input, &checked);
         (input, calls)
@@ -298,7 +295,7 @@ fn what_is_only_read_may_overlap() {
             work.len(),
             out.as_mut_ptr(),
             out.len(),
-            0,
+            1,
             first.add(name.start),
             name.len(),
             first.add(numbers_at).cast(),
@@ -314,7 +311,7 @@ fn what_is_only_read_may_overlap() {
         &file,
         &mut their_work,
         &mut their_out,
-        0,
+        1,
         NAME,
         fields,
     );
@@ -332,7 +329,7 @@ fn a_name_may_be_a_part_of_the_file() {
     let file = file.finish();
     let (mut work, mut out) = (vec![0; WORKSPACE], vec![0; file.len()]);
     let name = &file[12 + 62..12 + 62 + NAME.len()];
-    let reply = calls::remove(SHA1, &file, &mut work, &mut out, 0, name, 0);
+    let reply = calls::remove(SHA1, &file, &mut work, &mut out, 1, name, 0);
     let empty = File::new(Kind::Sha1, 2).finish();
     assert_eq!((reply.refusal, reply.length), (0, empty.len()));
     assert_eq!(out[..empty.len()], empty);

@@ -106,7 +106,7 @@ impl Lending {
 
     fn calls_that_write(&mut self) {
         let name = self.name.bytes().to_vec();
-        for asked in [0, 2, 3, 4] {
+        for asked in 0..=4 {
             self.write(Call::Rewrite(asked));
             for mode in [0o100644, 0] {
                 let fields = Fields {

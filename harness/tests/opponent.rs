@@ -185,12 +185,12 @@ fn a_checksum_that_is_left_out() {
             let first = format!("version {version} entries 2");
             let expected = format!("{first} checksum left out{}", &lines[first.len()..]);
             assert_eq!(listing(kind, &zeros), expected);
-            for asked in [0, 2, 3, 4] {
-                assert_eq!(rewrite(kind, &zeros, asked), rewrite(kind, &file, asked));
-            }
             let fields = list_entry(kind);
-            let [with, without] = [&file, &zeros].map(|file| put(kind, file, 0, b"c", fields));
-            assert_eq!(with, without);
+            for asked in 0..=4 {
+                assert_eq!(rewrite(kind, &zeros, asked), rewrite(kind, &file, asked));
+                let put = |file: &[u8]| put(kind, file, asked, b"c", fields);
+                assert_eq!(put(&zeros), put(&file));
+            }
         }
         let empty = kind.left_out(b"DIRC\0\0\0\x02\0\0\0\0");
         let expected =
@@ -344,7 +344,7 @@ fn a_resolve_undo_record() {
         let objects = reply.stages.map(|stage| stage.object);
         assert_eq!(objects, [kind.object(&first), [0; 32], kind.object_of(7)]);
         assert_eq!(record(1).refusal, 18);
-        assert_eq!(rewrite(kind, &file, 0).unwrap(), file);
+        assert_eq!(rewrite(kind, &file, 1).unwrap(), file);
     }
 }
 
@@ -399,22 +399,50 @@ fn the_order_of_a_requests_refusals() {
         let file = put(kind, &index(kind, 2, &[]), 3, b"a", word).unwrap();
         let put = |asked, name, fields| put(kind, &file, asked, name, fields);
         let remove = |asked, name, stage| remove(kind, &file, asked, name, stage);
-        assert_eq!(put(1, b"", bad), Err(4));
+        assert_eq!(put(5, b"", bad), Err(4));
         assert_eq!(put(2, b"", bad), Err(7));
         assert_eq!(put(2, b"", Fields { stage: 4, ..word }), Err(8));
         assert_eq!(put(2, b"", word), Err(9));
         let staged = Fields { stage: 1, ..fields };
-        assert_eq!(put(1, b"a", staged), Err(4));
+        assert_eq!(put(5, b"a", staged), Err(4));
         assert_eq!(put(2, b"a", staged), Err(11));
         assert_eq!(put(2, b"b", staged), Err(21));
         assert_eq!(put(2, b"b", fields), Err(21));
-        assert_eq!(put(2, b"a", fields), put(0, b"a", fields));
-        assert_eq!(rewrite(kind, &file, 0), Ok(file.clone()));
+        assert_eq!(put(2, b"a", fields), put(1, b"a", fields));
+        assert_eq!(rewrite(kind, &file, 1), Ok(file.clone()));
         assert_eq!(remove(5, b"b", 0), Err(4));
         assert_eq!(remove(2, b"b", 0), Err(18));
         assert_eq!(remove(2, b"a", 9), Err(18));
         assert_eq!(remove(2, b"a", 0), Ok(index(kind, 2, &[])));
         assert_eq!(remove(3, b"a", 0), Ok(index(kind, 3, &[])));
+    }
+}
+
+/// The versions that are written for 0 to 4: 0 is 4, and 1 is 2, or 3 where an entry of the result needs the word.
+#[test]
+fn versions_that_are_asked_for() {
+    let version = |file: Result<Vec<u8>, u32>| file.map(|file| file[7]);
+    for kind in Kind::ALL {
+        let plain = index(kind, 2, &[b"a", b"b"]);
+        let word = Fields {
+            skip_worktree: true,
+            ..list_entry(kind)
+        };
+        let extended = put(kind, &plain, 4, b"b", word).unwrap();
+        let without = [Ok(4), Ok(2), Ok(2), Ok(3), Ok(4)];
+        let with = [Ok(4), Ok(3), Err(21), Ok(3), Ok(4)];
+        let asked = [0, 1, 2, 3, 4];
+        assert_eq!(asked.map(|n| version(rewrite(kind, &plain, n))), without);
+        assert_eq!(asked.map(|n| version(rewrite(kind, &extended, n))), with);
+        let puts = |file, name| asked.map(|n| version(put(kind, file, n, name, word)));
+        assert_eq!(puts(&plain, b"c"), with);
+        let removes = |name| asked.map(|n| version(remove(kind, &extended, n, name, 0)));
+        assert_eq!((removes(b"a"), removes(b"b")), (with, without));
+        for above in [5, 6, 256, u32::MAX] {
+            assert_eq!(rewrite(kind, &plain, above), Err(4));
+            assert_eq!(put(kind, &plain, above, b"c", word), Err(4));
+            assert_eq!(remove(kind, &plain, above, b"a", 0), Err(4));
+        }
     }
 }
 

@@ -62,7 +62,14 @@ fn row(kind: Kind, name: &[u8; 3]) -> Vec<u8> {
     .concat()
 }
 
+/// The entries a-b, a/b and a/c in version 4, which have three bytes and share their beginning.
+fn short_rows(kind: Kind) -> [Vec<u8>; 3] {
+    let rests: [&[u8]; 3] = [b"\0\x03\0a-b\0", b"\0\x03\x02/b\0", b"\0\x03\x01c\0"];
+    rests.map(|rest| fixed(kind, [0x81, 0xa4], 0x11, rest))
+}
+
 const HEAD: &[u8] = b"DIRC\0\0\0\x02\0\0\0\x03";
+const HEAD_4: &[u8] = b"DIRC\0\0\0\x04\0\0\0\x03";
 
 /// The TREE of these nodes; the bytes of valid ones follow their texts.
 fn tree(kind: Kind, nodes: &[(&[u8], Option<u8>)]) -> Vec<u8> {
@@ -76,12 +83,15 @@ fn tree(kind: Kind, nodes: &[(&[u8], Option<u8>)]) -> Vec<u8> {
 
 /// The entries a-b, a/b and a/c of document 01 and their tree, of 51 bytes for SHA-1.
 fn example(kind: Kind) -> Vec<u8> {
-    let tree = tree(
+    let rows = [b"a-b", b"a/b", b"a/c"].map(|name| row(kind, name));
+    with_checksum(kind, &[HEAD, &rows.concat(), &example_tree(kind)])
+}
+
+fn example_tree(kind: Kind) -> Vec<u8> {
+    tree(
         kind,
         &[(b"\x003 1\n", Some(0x33)), (b"a\x002 0\n", Some(0x34))],
-    );
-    let rows = [b"a-b", b"a/b", b"a/c"].map(|name| row(kind, name));
-    with_checksum(kind, &[HEAD, &rows.concat(), &tree])
+    )
 }
 
 fn regular(kind: Kind) -> Fields {
@@ -96,14 +106,28 @@ fn regular(kind: Kind) -> Fields {
 fn a_plain_file_is_rewritten_as_it_is() {
     for kind in Kind::ALL {
         let file = example(kind);
-        assert_eq!(written(kind, &file, Call::Rewrite(0), file.len()), Ok(file));
+        assert_eq!(written(kind, &file, Call::Rewrite(1), file.len()), Ok(file));
+    }
+}
+
+#[test]
+fn a_plain_file_in_version_4() {
+    for kind in Kind::ALL {
+        let parts = [HEAD_4, &short_rows(kind).concat(), &example_tree(kind)];
+        let after = with_checksum(kind, &parts);
+        for asked in [0, 4] {
+            let given = written(kind, &example(kind), Call::Rewrite(asked), after.len());
+            assert_eq!(given, Ok(after.clone()));
+        }
+        let back = written(kind, &after, Call::Rewrite(1), 1000);
+        assert_eq!(back, Ok(example(kind)));
     }
 }
 
 #[test]
 fn a_put_of_the_record_that_is_there() {
     for kind in Kind::ALL {
-        let put = || Call::Put(0, b"a/c".to_vec(), regular(kind));
+        let put = || Call::Put(1, b"a/c".to_vec(), regular(kind));
         let tree = b"TREE\0\0\0\x0d\x00-1 1\na\x00-1 0\n";
         let rows = [b"a-b", b"a/b", b"a/c"].map(|name| row(kind, name));
         let after = with_checksum(kind, &[HEAD, &rows.concat(), tree]);
@@ -138,17 +162,25 @@ fn a_put_that_needs_the_extended_word() {
         let put = |asked| Call::Put(asked, b"a/c".to_vec(), fields);
         let head = b"DIRC\0\0\0\x02\0\0\0\x02";
         let file = with_checksum(kind, &[head, &row(kind, b"a-b"), &row(kind, b"a/b")]);
-        let after = with_checksum(
-            kind,
-            &[
-                b"DIRC\0\0\0\x04\0\0\0\x03",
-                &fixed(kind, [0x81, 0xa4], 0x11, b"\0\x03\0a-b\0"),
-                &fixed(kind, [0x81, 0xa4], 0x11, b"\0\x03\x02/b\0"),
-                &fixed(kind, [0x81, 0xed], 0x22, b"\x70\x03\x40\0\x01c\0"),
-            ],
-        );
+        let before = short_rows(kind)[..2].concat();
+        let last = fixed(kind, [0x81, 0xed], 0x22, b"\x70\x03\x40\0\x01c\0");
+        let after = with_checksum(kind, &[HEAD_4, &before, &last]);
+        for asked in [0, 4] {
+            let given = written(kind, &file, put(asked), after.len());
+            assert_eq!(given, Ok(after.clone()));
+        }
         assert_eq!(written(kind, &file, put(2), 1000), Err(21));
-        assert_eq!(written(kind, &file, put(4), after.len()), Ok(after));
+        let before = [row(kind, b"a-b"), row(kind, b"a/b")].concat();
+        let rest: &[u8] = match kind {
+            Kind::Sha1 => b"\x70\x03\x40\0a/c\0\0\0\0\0",
+            Kind::Sha256 => b"\x70\x03\x40\0a/c\0",
+        };
+        let last = fixed(kind, [0x81, 0xed], 0x22, rest);
+        let lowest = with_checksum(kind, &[b"DIRC\0\0\0\x03\0\0\0\x03", &before, &last]);
+        for asked in [1, 3] {
+            let given = written(kind, &file, put(asked), lowest.len());
+            assert_eq!(given, Ok(lowest.clone()));
+        }
     }
 }
 

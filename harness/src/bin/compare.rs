@@ -36,7 +36,9 @@ use std::time::Instant;
 const REFUSALS: [u32; 23] = [
     0, 1, 2, 3, 4, 5, 6, 7, 8, 9, 10, 11, 12, 13, 14, 15, 16, 17, 18, 19, 20, 21, 29,
 ];
-/// A run of the given number of inputs or more must meet every refusal.
+/// The versions that are asked for, with those that are then written: for 1 the lowest that the entries can have.
+const WRITTEN: [(u32, u32); 6] = [(0, 4), (1, 2), (1, 3), (2, 2), (3, 3), (4, 4)];
+/// A run of the given number of inputs or more must meet every refusal and every version.
 const COVERING: u64 = 10_000;
 /// How many failures of a thread are told in full.
 const TOLD: u64 = 10;
@@ -272,9 +274,9 @@ impl Questions {
             let room = *random.pick(&[length, length, length - 1, 0]);
             self.both(call, work, room)?;
             self.comparison.inputs_stay(&input.bytes, call.name())?;
-            return self
-                .again(random, &result)
-                .map_err(|why| format!("{call}: {why}"));
+            let again = self.again(random, &result);
+            let version = again.map_err(|why| format!("{call}: {why}"))?;
+            return self.counts.written(call, version);
         }
         self.comparison.inputs_stay(&input.bytes, call.name())
     }
@@ -319,8 +321,8 @@ impl Questions {
     }
 
     /// Sees that a file that was written is accepted, with a checksum, and stays as it is when it is rewritten in its
-    /// version.
-    fn again(&mut self, random: &mut Random, result: &[u8]) -> Result<(), String> {
+    /// version. Answers the version.
+    fn again(&mut self, random: &mut Random, result: &[u8]) -> Result<u32, String> {
         self.lend(random, result, b"");
         let checked = self.check()?;
         if checked.refusal > 0 || checked.checksum_left_out {
@@ -328,7 +330,7 @@ impl Questions {
         }
         let reply = self.both(&Call::Rewrite(checked.version), WORKSPACE, result.len())?;
         match reply.refusal() == 0 && self.comparison.written(result.len()) == result {
-            true => Ok(()),
+            true => Ok(checked.version),
             false => Err("the result is not rewritten as it is".to_string()),
         }
     }
@@ -340,7 +342,7 @@ impl Questions {
             place: checked.place,
             length: 0,
         };
-        let reply = self.both(&Call::Remove(1, Vec::new(), 9), WORKSPACE, 0)?;
+        let reply = self.both(&Call::Remove(5, Vec::new(), 9), WORKSPACE, 0)?;
         match reply == Reply::Write(expected) {
             true => Ok(()),
             false => Err(format!("a wrong request: {reply:?}")),
@@ -404,6 +406,8 @@ struct Counts {
     /// How many inputs of each kind and shape there were, and how many of these were accepted.
     inputs: BTreeMap<(Kind, Shape), (u64, u64)>,
     refusals: BTreeMap<u32, u64>,
+    /// How often each version was written, by the one that was asked for.
+    versions: BTreeMap<(u32, u32), u64>,
 }
 
 impl Counts {
@@ -427,6 +431,9 @@ impl Counts {
         for (refusal, calls) in other.refusals {
             *self.refusals.entry(refusal).or_default() += calls;
         }
+        for (versions, calls) in other.versions {
+            *self.versions.entry(versions).or_default() += calls;
+        }
     }
 
     fn call(&mut self, refusal: u32) -> Result<(), String> {
@@ -434,6 +441,16 @@ impl Counts {
             return Err(format!("there is no refusal {refusal}"));
         }
         *self.refusals.entry(refusal).or_default() += 1;
+        Ok(())
+    }
+
+    /// Sees that a result has a version that the call may give.
+    fn written(&mut self, call: &Call, version: u32) -> Result<(), String> {
+        let row = WRITTEN
+            .into_iter()
+            .find(|row| call.asked() == Some(row.0) && row.1 == version);
+        let row = row.ok_or(format!("{call}: version {version}"))?;
+        *self.versions.entry(row).or_default() += 1;
         Ok(())
     }
 
@@ -457,15 +474,26 @@ impl Counts {
         }
         let calls: u64 = self.refusals.values().sum();
         println!("{:>16}  {calls:>9}", "all");
+        println!("{:>16}  {:>9}", "asked, written", "results");
+        for ((asked, version), results) in &self.versions {
+            println!("{:>16}  {results:>9}", format!("{asked}, {version}"));
+        }
     }
 
-    /// How many refusals were not met, or accepted files without a checksum, or puts that mix stages, and tells them.
+    /// How many refusals were not met, or versions, or accepted files without a checksum, or puts that mix stages, and
+    /// tells them.
     fn missed(&self) -> u64 {
         let missed = REFUSALS.iter().filter(|refusal| self.of(**refusal) == 0);
         let refusals = missed
             .inspect(|refusal| println!("FAILED: no call was answered with refusal {refusal}"))
             .count() as u64;
         let mut others = 0;
+        for versions in WRITTEN {
+            if !self.versions.contains_key(&versions) {
+                println!("FAILED: no result for the version asked and written {versions:?}");
+                others += 1;
+            }
+        }
         if self.left_out == 0 {
             println!("FAILED: no input was accepted with its checksum left out");
             others += 1;

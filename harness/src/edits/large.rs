@@ -49,32 +49,47 @@ fn full(kind: Kind) -> Vec<Case> {
         putting(&before, &a),
         removing(&before, &a.name, 0),
     ];
-    let mut cases = in_versions("full", &before, &changes, &[2]);
+    let mut cases = first_refusals(&before, &a, &b);
+    cases.extend(in_versions("full", &before, &changes, &[2]));
+    cases.extend(in_versions("full", &before, &changes[..1], &[1]));
     let file = Arc::new(file(&before));
     for room in [0, LARGEST, LARGEST + 1] {
-        for call in [rewriting(&before).call(4), putting(&before, &b).call(2)] {
+        for call in [rewriting(&before).call(0), putting(&before, &b).call(2)] {
             let over = refused(kind, "full, too long", &file, call, 2);
             let room = Some(room);
             cases.push(Case { room, ..over });
         }
     }
+    cases
+}
+
+/// What comes first where the result would be too long too.
+fn first_refusals(before: &Records, a: &Entry, b: &Entry) -> Vec<Case> {
     let word = Entry {
         word: Some(INTENT_TO_ADD),
-        ..b
+        ..b.clone()
     };
-    let call = putting(&before, &word).call(2);
-    cases.push(refused(kind, "full, 21 before 2", &file, call, 21));
-    let stage = Entry { stage: 1, ..a };
-    let call = putting(&before, &stage).call(2);
-    cases.push(refused(kind, "full, 11 before 2", &file, call, 11));
-    let call = removing(&before, b"c", 0).call(4);
-    cases.push(refused(kind, "full, 18 before 2", &file, call, 18));
-    cases
+    let stage = Entry {
+        stage: 1,
+        ..a.clone()
+    };
+    let rows = [
+        (2, rewriting(before).call(4)),
+        (2, putting(before, b).call(1)),
+        (4, rewriting(before).call(5)),
+        (4, putting(before, b).call(u32::MAX)),
+        (21, putting(before, &word).call(2)),
+        (11, putting(before, &stage).call(2)),
+        (18, removing(before, b"c", 0).call(4)),
+    ];
+    let file = Arc::new(file(before));
+    rows.map(|(number, call)| refused(before.kind, "full, first refusal", &file, call, number))
+        .into()
 }
 
 fn one_less(kind: Kind) -> Vec<Case> {
     let before = filled(kind, vec![tight(kind, b'a')], LARGEST - 1, false);
-    in_versions("one byte less", &before, &[rewriting(&before)], &[4])
+    in_versions("one byte less", &before, &[rewriting(&before)], &[0])
 }
 
 /// A root that becomes invalid loses its object name, and 1 is -1.
@@ -85,7 +100,7 @@ fn puts(kind: Kind) -> Vec<Case> {
     for (valid, more) in [(false, bytes), (true, bytes - kind.width() + 1)] {
         let before = filled(kind, vec![a.clone()], LARGEST - more, valid);
         let put = putting(&before, &b);
-        cases.extend(in_versions("put, just fits", &before, &[put], &[2]));
+        cases.extend(in_versions("put, just fits", &before, &[put], &[1]));
         let before = filled(kind, vec![a.clone()], LARGEST - more + 1, valid);
         let call = putting(&before, &b).call(2);
         let file = Arc::new(file(&before));
@@ -103,11 +118,15 @@ fn from_version_4(kind: Kind) -> Vec<Case> {
         ..filled(kind, entries.clone(), total, false)
     };
     let fits = of_length(LARGEST);
-    let mut cases = in_versions("from version 4", &fits, &[rewriting(&fits)], &[2]);
+    let mut cases = in_versions("from version 4", &fits, &[rewriting(&fits)], &[1]);
     let over = of_length(LARGEST + 1);
-    let call = rewriting(&over).call(2);
+    let change = [rewriting(&over)];
+    cases.extend(in_versions("stays version 4", &over, &change, &[0]));
     let file = Arc::new(file(&over));
-    cases.push(refused(kind, "from version 4, too long", &file, call, 2));
+    for asked in [1, 2] {
+        let call = change[0].call(asked);
+        cases.push(refused(kind, "from version 4, too long", &file, call, 2));
+    }
     cases
 }
 
@@ -118,7 +137,7 @@ fn others(kind: Kind) -> Vec<Case> {
     let fill = Extension::Passed(*b"FILL", vec![0; LARGEST - around]);
     let dropped = records(kind, 2, vec![a.clone()], vec![fill]);
     let changes = [rewriting(&dropped), putting(&dropped, &b)];
-    let mut cases = in_versions("dropped", &dropped, &changes, &[0, 4]);
+    let mut cases = in_versions("dropped", &dropped, &changes, &[0, 1]);
     let long = filled(kind, vec![a.clone()], LARGEST + 1, false);
     let file = Arc::new(file(&long));
     for change in [rewriting(&long), removing(&long, &a.name, 0)] {

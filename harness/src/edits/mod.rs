@@ -8,6 +8,7 @@ mod refusals;
 mod results;
 mod stages;
 mod trees;
+mod versions;
 
 pub use drawn::drawn;
 pub use large::LARGE;
@@ -22,8 +23,8 @@ use records::{file, Change};
 use std::panic::{catch_unwind, AssertUnwindSafe};
 use std::sync::Arc;
 
-/// The versions that can be asked for.
-const ASKED: [u32; 4] = [0, 2, 3, 4];
+/// The versions that can be asked for: 0 is 4, and 1 the lowest that the result can have.
+const ASKED: [u32; 5] = [0, 1, 2, 3, 4];
 /// The length of a workspace with bytes that stay untouched.
 const WORK: usize = WORKSPACE + 100;
 /// The length of an output that a refusal leaves as it was.
@@ -68,7 +69,7 @@ impl Answer {
 pub type Group = fn(Kind) -> Vec<Case>;
 
 /// The cases without chance, by groups.
-pub const GROUPS: [(&str, Group); 13] = [
+pub const GROUPS: [(&str, Group); 15] = [
     ("document", results::document),
     ("place", results::places),
     ("name", results::names),
@@ -80,6 +81,8 @@ pub const GROUPS: [(&str, Group); 13] = [
     ("part of a tree", trees::parts),
     ("stage", stages::puts),
     ("mixed file", stages::files),
+    ("version", versions::rewrites),
+    ("version after an edit", versions::edits),
     ("order", refusals::orders),
     ("refusal", refusals::limits),
 ];

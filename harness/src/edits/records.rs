@@ -239,12 +239,17 @@ impl Change {
             return Answer::Refused(11, 0);
         }
         let extended = entries.iter().any(|entry| entry.word.unwrap_or(0) != 0);
-        let version = match (asked, extended) {
-            (2, true) => return Answer::Refused(21, 0),
-            (0, true) => 3,
-            (0, false) => 2,
-            _ => asked,
-        };
+        match (asked, extended) {
+            (2, true) => Answer::Refused(21, 0),
+            (1, true) => self.written(3),
+            (1, false) => self.written(2),
+            (0, _) => self.written(4),
+            _ => self.written(asked),
+        }
+    }
+
+    /// The one file of the result's records in a version.
+    pub fn written(&self, version: u32) -> Answer {
         Answer::Written(file(&plainly(version, &self.after)))
     }
 }

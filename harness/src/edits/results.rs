@@ -14,7 +14,7 @@ use std::sync::Arc;
 pub fn document(kind: Kind) -> Vec<Case> {
     let tree = of_names(kind, 2, &[b"a-b", b"a/b", b"a/c"], true);
     let put = putting(&tree, &tree.entries[2]);
-    let mut cases = in_versions("tree after a put", &tree, &[put], &[0]);
+    let mut cases = in_versions("tree after a put", &tree, &[put], &[0, 1]);
     let saw = of_names(kind, 2, &[b"saw/cut.txt", b"saw/cutter.txt"], false);
     cases.extend(in_versions("saw", &saw, &[rewriting(&saw)], &ASKED));
     let plan = vec![undo(b"plan", [REGULAR, 0, REGULAR])];

@@ -123,7 +123,7 @@ fn near_names(kind: Kind, version: u32) -> Vec<Case> {
         let puts: Vec<_> = names
             .map(|name| putting(&before, &other(name, put)))
             .collect();
-        cases.extend(in_versions("near name", &before, &puts, &[0, 4]));
+        cases.extend(in_versions("near name", &before, &puts, &[0, 1]));
     }
     cases
 }
@@ -148,7 +148,9 @@ fn first_refusals(kind: Kind, version: u32) -> Vec<Case> {
             (11, 2, sound),
             (11, 2, word),
             (11, 4, word),
-            (4, 1, bad_mode),
+            (11, 0, sound),
+            (11, 1, word),
+            (4, 6, bad_mode),
             (4, 5, sound),
             (7, 2, bad_mode),
             (8, 2, stage_4),
@@ -205,7 +207,7 @@ fn mixed(wrong: &Records, at: usize, earlier: Option<u32>) -> Vec<Case> {
         Call::Rewrite(0),
         Call::Put(4, name(), fields),
         Call::Put(9, b"".to_vec(), Fields { mode: 0, ..fields }),
-        Call::Remove(0, name(), 0),
+        Call::Remove(1, name(), 0),
         Call::Remove(9, b"c".to_vec(), 9),
     ];
     let number = earlier.unwrap_or(11);

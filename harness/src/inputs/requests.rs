@@ -8,8 +8,23 @@ use crate::random::Random;
 use crate::replies::{CheckReply, Fields, WORKSPACE};
 use std::fmt;
 
-/// Versions to ask for: those that there are, more than once, and ones that there are not.
-const ASKED: [u32; 14] = [0, 0, 0, 2, 2, 2, 3, 3, 4, 4, 1, 5, 0x0200_0000, u32::MAX];
+/// Versions to ask for. What 0 and 1 ask for is 4, and 2 or 3.
+const ASKED: [u32; 13] = [0, 0, 0, 1, 1, 1, 2, 2, 2, 3, 3, 4, 4];
+/// Versions that cannot be asked for, some with bytes of ones that can.
+pub const ABOVE: [u32; 12] = [
+    5,
+    6,
+    7,
+    8,
+    34,
+    256,
+    257,
+    258,
+    0x1_0003,
+    0x0200_0000,
+    0x8000_0002,
+    u32::MAX,
+];
 const STAGES: [u32; 12] = [0, 0, 0, 0, 1, 2, 3, 4, 7, 256, 0x1_0000, u32::MAX];
 const MODES: [u32; 12] = [
     0o100644, 0o100644, 0o100644, 0o100755, 0o120000, 0o160000, 0o100755, 0o160000, 0, 0o100664,
@@ -43,6 +58,24 @@ impl Call {
     /// Whether it takes an output.
     pub fn writes(&self) -> bool {
         matches!(self, Self::Rewrite(_) | Self::Put(..) | Self::Remove(..))
+    }
+
+    /// The same with another version asked for, where it writes.
+    pub fn asking(&self, asked: u32) -> Self {
+        match self.clone() {
+            Self::Rewrite(_) => Self::Rewrite(asked),
+            Self::Put(_, name, fields) => Self::Put(asked, name, fields),
+            Self::Remove(_, name, stage) => Self::Remove(asked, name, stage),
+            other => other,
+        }
+    }
+
+    /// The version that it asks for, where it writes.
+    pub fn asked(&self) -> Option<u32> {
+        match self {
+            Self::Rewrite(asked) | Self::Put(asked, ..) | Self::Remove(asked, ..) => Some(*asked),
+            _ => None,
+        }
     }
 
     /// The name that it takes.
@@ -106,7 +139,7 @@ pub fn calls(random: &mut Random, input: &Input, checked: &CheckReply) -> Vec<Ca
         calls.push(Call::Entry(number(random, checked.entries)));
         calls.push(Call::TreeNode(number(random, checked.nodes)));
         calls.push(Call::UndoRecord(number(random, checked.records)));
-        calls.push(Call::Rewrite(*random.pick(&ASKED)));
+        calls.push(Call::Rewrite(version(random)));
         calls.push(put(random, input));
         calls.push(remove(random, input));
         calls.extend(of_entry(random, input, checked));
@@ -114,6 +147,14 @@ pub fn calls(random: &mut Random, input: &Input, checked: &CheckReply) -> Vec<Ca
         calls.push(forged(random, input));
     }
     calls
+}
+
+/// A version to ask for, mostly one that can be.
+fn version(random: &mut Random) -> u32 {
+    match random.one_in(4) {
+        true => *random.pick(&ABOVE),
+        false => *random.pick(&ASKED),
+    }
 }
 
 /// A number of an entry, node or record: mostly of one that there is, or close to the last, or far beyond.
@@ -149,12 +190,12 @@ fn put(random: &mut Random, input: &Input) -> Call {
         skip_worktree: random.one_in(4),
         intent_to_add: random.one_in(4),
     };
-    Call::Put(*random.pick(&ASKED), name(random, input), fields)
+    Call::Put(version(random), name(random, input), fields)
 }
 
 fn remove(random: &mut Random, input: &Input) -> Call {
     let stage = *random.pick(&STAGES);
-    Call::Remove(*random.pick(&ASKED), name(random, input), stage)
+    Call::Remove(version(random), name(random, input), stage)
 }
 
 /// A put of an entry that is there, as it is, with another mode or at another stage, or its removal.
@@ -166,7 +207,7 @@ fn of_entry(random: &mut Random, input: &Input, checked: &CheckReply) -> Option<
     let name = input.names.get(k)?.clone();
     let kind = input.kind.number();
     let entry = opponent::entry(kind, &input.bytes, &mut vec![0; WORKSPACE], k as u32);
-    let (asked, fields) = (*random.pick(&ASKED), entry.fields);
+    let (asked, fields) = (version(random), entry.fields);
     Some(match random.below(4) {
         0 => Call::Remove(asked, name, fields.stage),
         1 => Call::Put(asked, name, fields),

@@ -1,4 +1,4 @@
-//! A second library for the index file in plain Rust, written from document 01 and requests 1, 2 and 10 of document 02
+//! A second library for the index file in plain Rust, written from document 01 and requests 1, 2, 7 and 10 of document 02
 //! alone: it shares nothing with the proved one. The calls have the signatures of `ffi`, so that answers, workspaces and
 //! outputs can be compared; `check` is also what the speed of the proved check is measured against.
 
@@ -73,7 +73,7 @@ pub fn undo_record(kind: u32, file: &[u8], work: &mut [u8], k: u32) -> UndoReply
     })
 }
 
-/// Writes the file's records in a version.
+/// Writes the file's records in the version asked for: 2, 3 or 4, 0 for 4, 1 for the lowest that they can have.
 pub fn rewrite(kind: u32, file: &[u8], work: &mut [u8], out: &mut [u8], asked: u32) -> WriteReply {
     edit(kind, file, work, out, asked, None)
 }

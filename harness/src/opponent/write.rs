@@ -56,7 +56,7 @@ pub fn edit(
 
 /// Checks the asked version, and the record of a put.
 fn check_request(asked: u32, change: Option<Change>) -> Result<(), u32> {
-    if !matches!(asked, 0 | 2..=4) {
+    if asked > 4 {
         return Err(refusal::VERSION);
     }
     let (name, stage, fields) = match change {
@@ -93,8 +93,8 @@ fn mixes(contents: &Contents, change: Option<Change>) -> bool {
     })
 }
 
-/// The version to write, which depends on whether an entry of the result needs the extended word. Refused where the
-/// entry to remove is absent.
+/// The version to write: 0 asks for 4, and 1 for the lowest that the result can have, 2 where none of its entries needs
+/// the extended word and else 3. Refused where the entry to remove is absent.
 fn version(contents: &Contents, asked: u32, change: Option<Change>) -> Result<u32, u32> {
     let entries = &contents.entries;
     let put = change.and_then(|change| change.put);
@@ -112,8 +112,9 @@ fn version(contents: &Contents, asked: u32, change: Option<Change>) -> Result<u3
     }
     match (asked, needed) {
         _ if change.is_some() && put.is_none() && !found => Err(refusal::ABSENT),
-        (0, false) => Ok(2),
-        (0, true) => Ok(3),
+        (0, _) => Ok(4),
+        (1, false) => Ok(2),
+        (1, true) => Ok(3),
         (2, true) => Err(refusal::NEEDS_WORD),
         _ => Ok(asked),
     }

@@ -107,7 +107,7 @@ fn edits(kind: Kind, file: &[u8]) {
     ];
     names.extend(others.map(|name| name.as_bytes().to_vec()));
     for (i, name) in names.iter().enumerate() {
-        let asked = [0, 2, 3, 4, 1][i % 5];
+        let asked = i as u32 % 6;
         fields.stage = i as u32 % 5;
         fields.mode = [0o100644, 0o100755, 0o120000, 0o160000, 0o40000][i / 2 % 5];
         fields.skip_worktree = i % 3 == 0;
@@ -240,7 +240,7 @@ fn results_at_the_limit() {
             let file = &file_near_limit(kind, last)[..];
             let reply = both!(kind, file, LARGEST, |work, out| rewrite(file, work, out, 2));
             assert_eq!((reply.length, reply.refusal), (length, refusal));
-            let reply = both!(kind, file, 99, |work, out| rewrite(file, work, out, 0));
+            let reply = both!(kind, file, 99, |work, out| rewrite(file, work, out, 1));
             assert_eq!(reply.refusal, if refusal == 0 { 20 } else { 2 });
         }
     }
