@@ -46,7 +46,7 @@ fn append_checksum(out: &mut [u8], n: usize, kind: u32, w: usize) -> usize
     put_part(out, n, &checksum, 0, w)
 }
 
-// The file of a version, with an edit. w is the width of the kind's object names and of its checksum. It is measured first, as if an entry needed the extended word, since no length depends on that: 21 where version 2 has no extended word, 2 where it is too long, 20 where the output is too small.
+// The file of a version, with an edit. w is the width of the kind's object names and of its checksum. It is measured first, in the version for entries that need the extended word, since only version 4 has other lengths: 21 where version 2 has no extended word, 2 where it is too long, 20 where the output is too small.
 pub fn write(
     b: &[u8],
     parts: Parts,

@@ -247,7 +247,7 @@ fn save(
 
 // ---- the calls
 
-// The same records in a version: 2, 3, 4, or 0 for 2 where no record needs the extended word, else 3.
+// The same records in a version: 2, 3, 4; 0 for 4; or 1 for the lowest, which is 2 where no record of the result needs the extended word, else 3.
 pub fn rewrite(kind: u32, file: &[u8], work: &mut [u8], out: &mut [u8], asked: u32) -> Written
     ensures { λ r. ⌜ Saves kind (now (file .entry)) asked (λ q. q) (rewriteAnswer (widthOf kind) (hashOf kind) (now (work .entry)) asked (length (now (out .entry))) (readKind kind (now (file .entry)))) (now (out .entry)) (now (work .entry)) (now (out .exit)) (now (work .exit)) r ⌝ }
 {
