@@ -1,5 +1,7 @@
 // The cache tree: reading the data of the TREE extension. Every fault of the data is refusal 15, so the answers have no number.
 // w is the width of an object name.
+
+#![tactic(auto)]
 pub mod differ;
 pub mod list;
 pub mod orders;

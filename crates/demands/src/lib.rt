@@ -1,1 +1,3 @@
 // The demands on the library, stated and proved in proofs/.
+
+#![tactic(auto)]

@@ -1,4 +1,6 @@
 // The whole file: its header, its entries, its extensions; and what an accepted one has.
+
+#![tactic(auto)]
 pub mod header;
 
 ghost use Rattle.std.specs.Prelude.{◌≡◌, ◌≤◌, length};

@@ -1,5 +1,7 @@
 // SHA-1, FIPS 180-4. A message is hashed in one call, or in pieces: start, absorb for each piece of whole blocks, finish.
 // The module buffered takes pieces of any length.
+
+#![tactic(auto)]
 pub mod buffered;
 
 ghost use Rattle.std.specs.Prelude.{◌≡◌, List, ℕ, ◌+◌, ◌/◌, ◌<◌, ◌≤◌, length, get_or};

@@ -3,6 +3,8 @@
 // For SHA-1 and SHA-256, "abc" and the 448-bit message are the examples published with FIPS 180-4; a million times "a" is
 // the long example of FIPS 180-2, A.3 and B.3. The 896-bit message is that of the SHA-512 example. The file stdout has the
 // digests from another implementation.
+
+#![tactic(auto)]
 mod print;
 mod with_sha1;
 mod with_sha256;

@@ -1,5 +1,7 @@
 // The calls that write an index: rewrite it in a version, put one record, remove one name and stage. kind says which object names it has:
 // 1 is SHA-1, 2 is SHA-256, any other is refused with 29.
+
+#![tactic(auto)]
 ghost use Rattle.std.specs.Prelude.{◌≡◌, [], ◌∷◌, true, ℕ, ◌≤◌, length};
 ghost use Rattle.format.specs.Bytes.{fit32};
 ghost use Rattle.format.specs.Reading.{good};

@@ -1,5 +1,7 @@
 // Lists the index of a SHA-1 repository that is on standard input: a line with its version and its number of entries, and whether the checksum was
 // left out, a line for each entry, then what it has of a cache tree and of resolve-undo records. A refusal prints only its number and its place.
+
+#![tactic(auto)]
 use answers::{Checked, Checksum, Count};
 
 // At most 65,536 bytes are taken.

@@ -1,5 +1,7 @@
 // Bytes into an output, one part after another. Each function answers the place after its part. A part that does not fit is not written, so
 // an empty output measures. A part begins at most 2 ^ 50 bytes from the start, far above any file.
+
+#![tactic(auto)]
 ghost use Rattle.std.specs.Prelude.{[], ◌∷◌, ◌+◌, ◌-◌, ◌≤◌, ◌<◌, length, take, drop, replicate};
 ghost use Rattle.format.specs.Bytes.{put16, put32};
 ghost use Rattle.output.specs.Output.{Wrote};

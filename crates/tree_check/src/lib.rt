@@ -1,4 +1,6 @@
 // The counts of a cache tree against the entries: refusal 16.
+
+#![tactic(auto)]
 pub mod counts;
 pub mod gather;
 pub mod look;

@@ -1,5 +1,7 @@
 // A hash table of names. A name has a key; a slot of the table has a key, or 0 where it is empty. Keys are made with two numbers that whoever writes a
 // file can't choose, so that two names have the same key by chance only.
+
+#![tactic(auto)]
 ghost use Rattle.std.specs.Prelude.{◌≡◌, ℕ, ◌+◌, ◌*◌, ◌%◌, ◌≤◌, ◌<◌, length, get_or, set};
 ghost use Rattle.tree_table.specs.Keys.{step_key, last_key, key_in, step_of, next_slot, slot_in, SeedOnly, is_of};
 

@@ -1,6 +1,8 @@
 // Writing the data of a cache tree from the data of one that was read. A number has one decimal text, so a valid node is copied as it is; an
 // invalid one is written with "-1" and no object name. Each function answers the place after what it wrote; with an output too short it measures.
 // w is the width of an object name, 1 or more.
+
+#![tactic(auto)]
 ghost use Rattle.std.specs.Prelude.{◌≡◌, cond, ◌-◌, ◌≤◌, ◌<◌, length, take, drop};
 ghost use Rattle.format.specs.Layout.{under};
 ghost use Rattle.format.specs.Writer.{write_tree};

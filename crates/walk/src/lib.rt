@@ -1,5 +1,7 @@
 // A walk over the entries of a file of version 2 or 3: the next entry, step by step, without a workspace. The kind says which function gives object
 // names: 1 is SHA-1, 2 is SHA-256.
+
+#![tactic(auto)]
 ghost use Rattle.std.specs.Prelude.{◌≡◌, false, ◌-◌, ◌≤◌, length, drop, eqb};
 ghost use Rattle.format.specs.Records as F;
 ghost use Rattle.format.specs.Reader.{read_entry};

@@ -1,0 +1,11 @@
+-- `hash_words::tail` meets its contract. The loop's invariant: the first i bytes are the message's, the others zero. Assumes nothing.
+use Rattle.std.proofs.Common.{◌≡◌, ℕ, ◌+◌, ◌-◌, ◌*◌, ◌/◌, ◌%◌, ◌≤◌, ◌++◌, length, take, drop, replicate, sym, refl, ◌∙◌, ⊎_elim, arith, length-drop, length-set, get_or-drop}
+use Rattle.hash_words.proofs.Copying.{copy-next, copy_done}
+use Rattle.hash_words.proofs.Padding.{tail-right}
+use Rattle.hash_words.proofs.tail.Given as goal
+
+abbrev pub invariant-loop-i : goal.invariant-loop-i
+invariant-loop-i l = (l.i ≤ l.part) × (length l.t ≡ 128) × (l.t ≡ take l.i (drop l.from l.rest) ++ drop l.i (replicate 128 0))
+
+abbrev pub decreases-loop-i : goal.decreases-loop-i
+decreases-loop-i l = l.part - l.i
