@@ -49,7 +49,7 @@ be32s-put32s (n ∷ ns) r h =
     let head : be32 s 0 ≡ n = be32-put32 n (put32s ns ++ r) (ltb-true _ _ small) in
     let seam : drop 4 s ≡ put32s ns ++ r = drop_at (put32 n) (put32s ns ++ r) 4 (length-put32 n) in
     let tail : be32s s 4 (length ns) ≡ ns = sym (be32s-drop 4 s 0 (length ns)) ∙ rw seam (be32s-put32s ns r rest) in
-    rw (append_assoc (put32 n) (put32s ns) r, head, tail) refl
+    ap (λ (x : List ℕ). be32s x 0 (length (n ∷ ns))) (append_assoc (put32 n) (put32s ns) r) ∙ rw (head, tail) refl
 
 -- what is read fits, and puts the bytes back
 pub fit32-be32s : (s : List ℕ) (a n : ℕ) → Bytes s → fit32 (be32s s a n) ≡ true

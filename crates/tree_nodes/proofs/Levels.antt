@@ -1,6 +1,6 @@
 -- Laws of the pass that finds a node's level: the stack of what remains, what it says of the items that are still to come, and the loop. w is the
 -- width of an object name.
-use mathlib.Core.Path.{◌≡◌, refl, sym, ap, ◌∙◌}
+use mathlib.Core.Path.{◌≡◌, refl, sym, ap, subst, ◌∙◌}
 use mathlib.Core.List.{List, [], ◌∷◌, ◌++◌, append-nil, append_assoc}
 use Prim.Native.Nat.{ℕ, zero, suc, ◌+◌, ◌-◌, ◌≤◌, ◌<◌}
 use native.Mathlib.Omega.{arith}
@@ -79,7 +79,7 @@ module _ (r : List ℕ) (depth : ℕ) where
 
   pub climb-root : depth ≤ 0 → climbed (stack_of r (suc depth)) ≡ stack_of r 1
   unfolding climbed stack_of
-  climb-root h = let z : depth ≡ 0 = omega arith in rw z
+  climb-root h = let z : depth ≡ 0 = omega arith in subst (λ (d : ℕ). climbed (stack_of r (suc d)) ≡ stack_of r 1) (sym z) refl
 
 pub climb-more : (r : List ℕ) (depth : ℕ) → 0 < depth → get_or r depth 0 ≤ 0 → climbed (stack_of r (suc depth)) ≡ climbed (stack_of r (suc (depth - 1)))
 unfolding climbed stack_of

@@ -1,0 +1,13 @@
+-- The proof that `climb` meets its contract. The loop keeps where the climb ends.
+use mathlib.Core.Path.{◌≡◌, refl, sym, ◌∙◌}
+use Prim.Native.Nat.{suc, ◌<◌}
+use native.Mathlib.Omega.{arith}
+use Rattle.tree_nodes.specs.Levels.{stack_of, climbed}
+use Rattle.tree_nodes.proofs.Levels.{climb-stays, climb-root, climb-more}
+use Rattle.tree_nodes.proofs.passes.climb.Given as goal
+
+abbrev pub invariant-loop-at : goal.invariant-loop-at
+invariant-loop-at l = (l.at < 128) × (climbed (stack_of l.remaining (suc l.depth)) ≡ climbed (stack_of l.remaining (suc l.at)))
+
+abbrev pub decreases-loop-at : goal.decreases-loop-at
+decreases-loop-at l = l.at
