@@ -7,14 +7,14 @@ ghost use Rattle.answers.specs.Answers.{refused, part_in, name_in, entry_said, n
 use entries::record::{Fields, no_fields};
 
 // The number of nodes or records, where the file has the extension.
-#[derive(Drop)]
+#[derive(Clone, Copy)]
 pub enum Count {
     Absent,
     Present(u32),
 }
 
 // What the last bytes of a file are: the hash of all before, zeros in its place, or neither.
-#[derive(Drop)]
+#[derive(Clone, Copy)]
 pub enum Checksum {
     Matches,
     LeftOut,
@@ -22,7 +22,7 @@ pub enum Checksum {
 }
 
 // What check tells of an accepted file; end is the byte where entries end. The checksum is not wrong.
-#[derive(Drop)]
+#[derive(Clone, Copy)]
 pub struct Summary {
     pub version: u32,
     pub entries: u32,
@@ -33,21 +33,21 @@ pub struct Summary {
 }
 
 // The answer of check: a refusal's number and place, or what an accepted file has.
-#[derive(Drop)]
+#[derive(Clone, Copy)]
 pub enum Checked {
     Refused(u32, usize),
     Accepted(Summary),
 }
 
 // A refusal's number and place, or where the name of what is shown is: its place and length in the file, or its length in the workspace, from the workspace's start.
-#[derive(Drop)]
+#[derive(Clone, Copy)]
 pub enum Shown {
     Refused(u32, usize),
     InFile(usize, usize),
     InWorkspace(usize),
 }
 
-#[derive(Drop)]
+#[derive(Clone, Copy)]
 pub struct EntryAnswer {
     pub shown: Shown,
     pub fields: Fields,
@@ -55,7 +55,7 @@ pub struct EntryAnswer {
 
 // A tree node: its level, its entry count where it is valid, its number of subtrees, its object name, zeros where it is invalid. An object name has
 // 32 bytes of room: a shorter one is first, zeros follow.
-#[derive(Drop)]
+#[derive(Clone, Copy)]
 pub struct NodeAnswer {
     pub shown: Shown,
     pub level: u32,
@@ -66,7 +66,7 @@ pub struct NodeAnswer {
 }
 
 // A resolve-undo record: the modes of stages 1 to 3, 0 where the stage is missing, and their object names, zeros where it is missing.
-#[derive(Drop)]
+#[derive(Clone, Copy)]
 pub struct UndoAnswer {
     pub shown: Shown,
     pub first_mode: u32,
@@ -78,7 +78,7 @@ pub struct UndoAnswer {
 }
 
 // The answer of rewrite, put and remove: a refusal's number and place, or how many bytes were written.
-#[derive(Drop)]
+#[derive(Clone, Copy)]
 pub enum Written {
     Refused(u32, usize),
     Done(usize),

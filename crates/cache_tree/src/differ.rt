@@ -14,7 +14,7 @@ use tree_table::{KEYS, Table, clear, key_of, make_seed, slot_of};
 const CHUNK: u32 = 2600;
 
 // Two names of a chunk are equal; or they differ, and this is the place after them.
-#[derive(Drop)]
+#[derive(Clone, Copy)]
 enum Chunk {
     Equal,
     Next(usize),

@@ -14,7 +14,7 @@ use tree_nodes::node::{NodeRead, read_node};
 use tree_table::Table;
 
 // The number of nodes.
-#[derive(Drop)]
+#[derive(Clone, Copy)]
 pub enum TreeRead {
     Bad,
     Good(u32),

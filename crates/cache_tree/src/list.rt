@@ -13,7 +13,7 @@ use tree_nodes::node::{NodeRead, read_node};
 use tree_table::Table;
 
 // The place after a list and its number of nodes in all.
-#[derive(Drop)]
+#[derive(Clone, Copy)]
 pub enum ListRead {
     Bad,
     Good { next: usize, nodes: u32 },

@@ -40,7 +40,7 @@ fn length_below(s: &[u8], t: &[u8], n: usize) -> bool
 }
 
 // In which of the two orders names rise.
-#[derive(Drop)]
+#[derive(Clone, Copy)]
 pub struct Rising {
     pub by_slash: bool,
     pub by_length: bool,

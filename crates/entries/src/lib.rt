@@ -10,7 +10,7 @@ ghost use Rattle.fields.specs.Begun.{Begun};
 ghost use Rattle.entries.specs.Answers.{read_head, fixed_of, head_length, HeadPassed, text_of, text_length, text_taken, HasLength, NamePassed, number_of, number_value, number_taken};
 
 // The bytes before the name: how many, the flags, and the extended word or 0.
-#[derive(Drop)]
+#[derive(Clone, Copy)]
 pub struct Head {
     pub length: usize,
     pub flags: u32,
@@ -18,21 +18,21 @@ pub struct Head {
 }
 
 // A refusal's number, or the bytes before the name.
-#[derive(Drop)]
+#[derive(Clone, Copy)]
 pub enum Fixed {
     Bad(u32),
     Good(Head),
 }
 
 // A refusal's number, or the length of a name and how many bytes were taken.
-#[derive(Drop)]
+#[derive(Clone, Copy)]
 pub enum Text {
     Bad(u32),
     Good(usize, usize),
 }
 
 // A refusal's number, or the number N of version 4 and how many bytes were taken.
-#[derive(Drop)]
+#[derive(Clone, Copy)]
 pub enum Number {
     Bad(u32),
     Good(usize, usize),

@@ -3,7 +3,7 @@ ghost use Rattle.std.specs.Prelude.{◌≡◌, ◌+◌, ◌≤◌, length, take,
 ghost use Rattle.entries.specs.Record.{wide_object, FieldsRead, no_fields};
 
 // The fields of an entry but its name; zeros and false in a refusal. The object name has 32 bytes of room: a shorter one is first, zeros follow.
-#[derive(Drop)]
+#[derive(Clone, Copy)]
 pub struct Fields {
     pub ctime_seconds: u32,
     pub ctime_nanoseconds: u32,

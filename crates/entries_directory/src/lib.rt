@@ -8,7 +8,7 @@ use entries_run::{Cursor, Next, name_at, pass_entry};
 use fields::find;
 
 // The name of the first entry ahead is before the cursor. common is what it has in common with the name before it.
-#[derive(Drop)]
+#[derive(Clone, Copy)]
 pub struct Front {
     pub cursor: Cursor,
     pub ahead: usize,

@@ -16,7 +16,7 @@ use crate::rest::WriteEnd;
 use entries::record::Fields;
 
 // What changes: nothing; an entry is put after the first k, in place of the next one or not; the entry after the first k is removed.
-#[derive(Drop)]
+#[derive(Clone, Copy)]
 pub enum Edit {
     Keep,
     Put(u32, bool),

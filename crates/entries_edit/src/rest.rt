@@ -9,7 +9,7 @@ ghost use Rattle.entries_edit.specs.Rests.{StepWritten, OthersWritten, PastWritt
 use entries_run::{Cursor, Next, Step};
 
 // The place after what was written, and whether an entry of it needs the extended word.
-#[derive(Drop)]
+#[derive(Clone, Copy)]
 pub struct WriteEnd {
     pub at: usize,
     pub extended: bool,

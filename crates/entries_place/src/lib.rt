@@ -10,7 +10,7 @@ use format::Order;
 
 // How many entries are before a name and stage, whether the next one has them, and whether some entry mixes with them: one of the two is stage 0 of
 // the name, the other another stage of it.
-#[derive(Drop)]
+#[derive(Clone, Copy)]
 pub struct Place {
     pub before: u32,
     pub there: bool,
@@ -18,7 +18,7 @@ pub struct Place {
 }
 
 // Whether an entry is before a name and stage, has them, or mixes with them.
-#[derive(Drop)]
+#[derive(Clone, Copy)]
 pub struct Compared {
     pub before: bool,
     pub same: bool,

@@ -10,7 +10,7 @@ use entries::{Fixed, Head, Number, Text};
 use format::Order;
 
 // The place of the next entry, and where the name of the one before is, with its stage.
-#[derive(Drop)]
+#[derive(Clone, Copy)]
 pub struct Cursor {
     pub at: usize,
     pub start: usize,
@@ -19,7 +19,7 @@ pub struct Cursor {
 }
 
 // An entry: the bytes before its name, its flags, its extended word or 0, what its name and the one before have in common, and what comes next.
-#[derive(Drop)]
+#[derive(Clone, Copy)]
 pub struct Step {
     pub head: usize,
     pub flags: u32,
@@ -29,28 +29,28 @@ pub struct Step {
 }
 
 // A refusal's number, or an entry.
-#[derive(Drop)]
+#[derive(Clone, Copy)]
 pub enum Next {
     Bad(u32),
     Good(Step),
 }
 
 // A refusal's number and place, or the byte where entries end.
-#[derive(Drop)]
+#[derive(Clone, Copy)]
 pub enum Run {
     Bad(u32, usize),
     Good(usize),
 }
 
 // A refusal's number and place, or an entry and its place.
-#[derive(Drop)]
+#[derive(Clone, Copy)]
 pub enum Sought {
     Bad(u32, usize),
     Good(usize, Step),
 }
 
 // Whether a name may follow another, and how many bytes they have in common.
-#[derive(Drop)]
+#[derive(Clone, Copy)]
 pub struct Standing {
     pub rises: bool,
     pub common: usize,

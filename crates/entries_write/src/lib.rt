@@ -12,7 +12,7 @@ ghost use Rattle.entries_write.specs.Parts.{PrefixKept, NameWritten, RestWritten
 use entries_run::{Cursor, Next, Step};
 
 // How far writing is: the cursor in the body, the place in the output, and whether an entry so far needs the extended word.
-#[derive(Drop)]
+#[derive(Clone, Copy)]
 pub struct Progress {
     pub cursor: Cursor,
     pub at: usize,

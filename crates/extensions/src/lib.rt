@@ -15,7 +15,7 @@ use tree_check::counts::counts_ok;
 use tree_table::NUMBERS;
 
 // The place after an extension's data, by its kind, or a refusal's number.
-#[derive(Drop)]
+#[derive(Clone, Copy)]
 pub enum Head {
     Bad(u32),
     Tree(usize),
@@ -24,7 +24,7 @@ pub enum Head {
 }
 
 // Whether there is a cache tree, where its data are in the body, and how many nodes it has.
-#[derive(Drop)]
+#[derive(Clone, Copy)]
 pub struct TreePlace {
     pub there: bool,
     pub at: usize,
@@ -33,7 +33,7 @@ pub struct TreePlace {
 }
 
 // The same of the resolve-undo records.
-#[derive(Drop)]
+#[derive(Clone, Copy)]
 pub struct UndoPlace {
     pub there: bool,
     pub at: usize,
@@ -42,21 +42,21 @@ pub struct UndoPlace {
 }
 
 // What was found so far.
-#[derive(Drop)]
+#[derive(Clone, Copy)]
 pub struct Found {
     pub tree: TreePlace,
     pub undo: UndoPlace,
 }
 
 // One extension: a refusal's number, or the place after it and what has been found with it.
-#[derive(Drop)]
+#[derive(Clone, Copy)]
 pub enum One {
     Bad(u32),
     Good(usize, Found),
 }
 
 // All extensions: a refusal's number and place, or what was found.
-#[derive(Drop)]
+#[derive(Clone, Copy)]
 pub enum Extended {
     Bad(u32, usize),
     Good(Found),

@@ -11,7 +11,7 @@ use answers::Checksum;
 pub const LARGEST: usize = 16777216;
 
 // The version, the number of entries and what the checksum is.
-#[derive(Drop)]
+#[derive(Clone, Copy)]
 pub struct Opening {
     pub version: u32,
     pub count: u32,
@@ -19,7 +19,7 @@ pub struct Opening {
 }
 
 // A refusal's number and place, or what an accepted header says.
-#[derive(Drop)]
+#[derive(Clone, Copy)]
 pub enum Header {
     Bad(u32, usize),
     Good(Opening),

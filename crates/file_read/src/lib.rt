@@ -20,7 +20,7 @@ use entries_run::Run;
 use extensions::{Extended, Found};
 
 // What an accepted file has; end is the byte where entries end.
-#[derive(Drop)]
+#[derive(Clone, Copy)]
 pub struct Parts {
     pub version: u32,
     pub count: u32,
@@ -30,7 +30,7 @@ pub struct Parts {
 }
 
 // A refusal's number and place, or what the file has.
-#[derive(Drop)]
+#[derive(Clone, Copy)]
 pub enum Whole {
     Bad(u32, usize),
     Good(Parts),

@@ -3,7 +3,7 @@
 #![tactic(auto)]
 
 // How one name compares to another.
-#[derive(Drop)]
+#[derive(Clone, Copy)]
 pub enum Order {
     Below,
     Same,

@@ -13,7 +13,7 @@ ghost use Rattle.hash.specs.Window.{At};
 use hash_words::{add, ch, load, maj, put_word, rotl, tail};
 
 // The hash value H_0 .. H_4 between blocks, and the working variables a .. e within one.
-#[derive(Drop)]
+#[derive(Clone, Copy)]
 pub struct State {
     pub a: u32,
     pub b: u32,

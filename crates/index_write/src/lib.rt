@@ -24,7 +24,7 @@ use file_read::{Parts, Whole, read_cleared};
 use versions::asked_ok;
 
 // What is asked for: the records as they are, with one put, or without the entry of a name and this stage.
-#[derive(Drop)]
+#[derive(Clone, Copy)]
 pub enum Request {
     Rewrite,
     Put,
@@ -32,7 +32,7 @@ pub enum Request {
 }
 
 // A refusal's number, or an edit.
-#[derive(Drop)]
+#[derive(Clone, Copy)]
 pub enum Plan {
     Refused(u32),
     Change(Edit),

@@ -11,21 +11,21 @@ ghost use Rattle.resolve_undo.specs.Answers.{mode_found, mode_read, ModeWithin, 
 use format::Order;
 
 // The mode of a text; Bad where it is none of the five.
-#[derive(Drop)]
+#[derive(Clone, Copy)]
 enum ModeFound {
     Bad,
     Good(u32),
 }
 
 // A mode and the place after it.
-#[derive(Drop)]
+#[derive(Clone, Copy)]
 pub enum ModeRead {
     Bad,
     Good(u32, usize),
 }
 
 // A record: the length of its path, the modes of its stages, the place of the first object name, the place after the record.
-#[derive(Drop)]
+#[derive(Clone, Copy)]
 pub struct Record {
     pub path: usize,
     pub first: u32,
@@ -35,14 +35,14 @@ pub struct Record {
     pub next: usize,
 }
 
-#[derive(Drop)]
+#[derive(Clone, Copy)]
 pub enum RecordRead {
     Bad,
     Good(Record),
 }
 
 // The number of records.
-#[derive(Drop)]
+#[derive(Clone, Copy)]
 pub enum RecordsRead {
     Bad,
     Good(u32),
@@ -50,7 +50,7 @@ pub enum RecordsRead {
 
 // A record as it is shown: the place and the length of its path, and its stages. Where a stage is missing, its mode and its object
 // name are zeros; where ok is false, all is. An object name has 32 bytes of room: a shorter one is first, zeros follow.
-#[derive(Drop)]
+#[derive(Clone, Copy)]
 pub struct Shown {
     pub ok: bool,
     pub path: usize,

@@ -13,7 +13,7 @@ ghost use Rattle.sha256.specs.Window.{At};
 use hash_words::{add, ch, load, maj, put_word, rotr, tail};
 
 // The hash value H_0 .. H_7 between blocks, and the working variables a .. h within one.
-#[derive(Drop)]
+#[derive(Clone, Copy)]
 pub struct State {
     pub a: u32,
     pub b: u32,

@@ -22,7 +22,7 @@ const SHORT: usize = 4096;
 const LONG: usize = 131072;
 
 // The name has no further "/"; or the place in it after that "/", and no sibling has the component before; or one has it, and where that is.
-#[derive(Drop)]
+#[derive(Clone, Copy)]
 pub enum Look {
     File,
     Missing(usize),

@@ -9,7 +9,7 @@ ghost use Rattle.tree_check.specs.Survey.{survey_of};
 use tree_nodes::node::{NodeRead, read_node};
 
 // Whether a node below a valid one is invalid, or how many nodes have a count of at least 1.
-#[derive(Drop)]
+#[derive(Clone, Copy)]
 pub enum Survey {
     Inconsistent,
     Consistent(u32),

@@ -14,7 +14,7 @@ const LEVELS: usize = 128;
 
 // A directory that was entered: the place of its node's subtrees and their number, whether the node is valid, its count, the length of the directory's
 // name with its last "/", and how many entries were ahead when it was entered. The walk holds one for each level, so numbers have 32 bits.
-#[derive(Drop)]
+#[derive(Clone, Copy)]
 pub struct Directory {
     pub at: u32,
     pub k: u32,
@@ -25,7 +25,7 @@ pub struct Directory {
 }
 
 // A part of a directory's entries: it was passed, whether its test holds, and what is ahead of it; or it is in a directory that is entered.
-#[derive(Drop)]
+#[derive(Clone, Copy)]
 pub enum Part {
     Passed(bool, Front),
     Entered(Directory),

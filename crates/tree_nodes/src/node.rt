@@ -7,7 +7,7 @@ use crate::number::{Number, read_number};
 use fields::find;
 
 // An entry count, 0 where it says "invalid", and the place after it.
-#[derive(Drop)]
+#[derive(Clone, Copy)]
 pub enum Count {
     Bad,
     Good {
@@ -18,7 +18,7 @@ pub enum Count {
 }
 
 // A number of subtrees, and the place after it.
-#[derive(Drop)]
+#[derive(Clone, Copy)]
 pub enum Subtrees {
     Bad,
     Good { subtrees: u32, next: usize },
@@ -26,7 +26,7 @@ pub enum Subtrees {
 
 // A node: the place of the NUL after its name, its entry count, 0 where that is invalid, its number of subtrees, the place of its
 // object name, which is there where the count is valid, and the place after it all.
-#[derive(Drop)]
+#[derive(Clone, Copy)]
 pub struct Node {
     pub nul: usize,
     pub valid: bool,
@@ -36,7 +36,7 @@ pub struct Node {
     pub next: usize,
 }
 
-#[derive(Drop)]
+#[derive(Clone, Copy)]
 pub enum NodeRead {
     Bad,
     Good(Node),

@@ -4,7 +4,7 @@ ghost use Rattle.tree_nodes.specs.Answers.{number_in};
 
 use fields::wide64;
 
-#[derive(Drop)]
+#[derive(Clone, Copy)]
 pub enum Number {
     Bad,
     Good(u32),

@@ -7,14 +7,14 @@ use crate::node::{NodeRead, read_node};
 use fields::find;
 
 // The place of a node in the data and its level, from 1 on.
-#[derive(Drop)]
+#[derive(Clone, Copy)]
 pub struct NodePlace {
     pub place: usize,
     pub level: u32,
 }
 
 // The end of a node's name, and the place after the node and all below it.
-#[derive(Drop)]
+#[derive(Clone, Copy)]
 pub struct Sibling {
     pub nul: usize,
     pub next: usize,

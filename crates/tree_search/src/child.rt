@@ -9,14 +9,14 @@ use tree_nodes::node::{NodeRead, read_node};
 use tree_nodes::passes::after_tree;
 
 // Where the sibling is.
-#[derive(Drop)]
+#[derive(Clone, Copy)]
 pub enum Child {
     Missing,
     Found(usize),
 }
 
 // What can be told at once.
-#[derive(Drop)]
+#[derive(Clone, Copy)]
 pub enum Answer {
     Unknown,
     Known(Child),

@@ -58,7 +58,7 @@ fn order_at(d: &[u8], place: usize, name: &[u8], by_length: bool) -> Order
 }
 
 // Whether a name was found, and where the cursor goes on.
-#[derive(Drop)]
+#[derive(Clone, Copy)]
 struct Ahead {
     found: bool,
     place: usize,

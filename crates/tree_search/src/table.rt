@@ -12,7 +12,7 @@ use tree_nodes::passes::sibling_at;
 use tree_table::{Table, clear, has_seed, is_of, key_of, make_seed, place_of, set_list, slot_of};
 
 // Which of the two. Many shorter lists may be below a long one: they have a table of their own, so that they don't make the long one's begin anew.
-#[derive(Drop)]
+#[derive(Clone, Copy)]
 pub enum Region {
     Short,
     Long,

@@ -15,7 +15,7 @@ use output::{put_byte, put_part};
 use tree_nodes::node::{Node, NodeRead, read_node};
 
 // A place of the data and one of the output, after some trees.
-#[derive(Drop)]
+#[derive(Clone, Copy)]
 struct Passed {
     place: usize,
     at: usize,
@@ -78,7 +78,7 @@ fn put_trees(d: &[u8], start: usize, n: u64, out: &mut [u8], at: usize, w: usize
 
 // A place on the path to a name's directory: how many siblings are left there, how many trees of the levels above follow them, and the byte from
 // which on the name is one in their directory.
-#[derive(Drop)]
+#[derive(Clone, Copy)]
 struct PathPlace {
     place: usize,
     at: usize,

@@ -17,28 +17,28 @@ use entries::{Fixed, Head, Text};
 use file_read::Whole;
 
 // The answer of start: a refusal's number and place, or how many entries a walk has before it.
-#[derive(Drop)]
+#[derive(Clone, Copy)]
 pub enum Started {
     Refused(u32, usize),
     Ready(u32),
 }
 
 // The place of the next entry, and how many remain.
-#[derive(Drop)]
+#[derive(Clone, Copy)]
 pub struct Place {
     pub at: usize,
     pub left: u32,
 }
 
 // The next entry, and the place after it.
-#[derive(Drop)]
+#[derive(Clone, Copy)]
 pub struct Step {
     pub answer: EntryAnswer,
     pub next: Place,
 }
 
 // A walk: the kind and the file, the place of the next entry, and how many remain.
-#[derive(Drop)]
+#[derive(Clone, Copy)]
 pub struct Walk<'a> {
     pub kind: u32,
     pub file: &'a [u8],
@@ -47,7 +47,7 @@ pub struct Walk<'a> {
 }
 
 // Nothing, or an entry: the bytes before its name, the length of its name, and how many bytes it has from its name on.
-#[derive(Drop)]
+#[derive(Clone, Copy)]
 pub enum Sight {
     Nothing,
     Found(Head, usize, usize),

@@ -1,0 +1,11 @@
+-- The proof that `next_entry` meets its contract.
+use mathlib.Core.Path.{refl}
+use borrow.Author.Rules.{rules}
+use Rattle.format_laws.proofs.Tests.{false-true}
+use Rattle.entries_run.proofs.next_entry.Goals as goal
+
+pub entry_at-requires : goal.entry_at-requires
+entry_at-requires c = (c.requires.0, c.requires.1, λ e. false-true e, c.requires.2)
+
+pub returns : goal.returns
+returns c = c.entry_at.ensures.first refl

@@ -1,0 +1,8 @@
+-- `hash::chain` meets its contract, field by field. Assumes nothing.
+use borrow.Author.Rules.{rules}
+use Rattle.hash.specs.Sha1.{chain}
+use Rattle.hash.proofs.chain.Goals as goal
+
+pub returns : goal.returns
+unfolding chain
+returns c = cc

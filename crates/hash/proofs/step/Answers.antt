@@ -1,0 +1,8 @@
+-- `hash::step` meets its contract, field by field. Assumes nothing.
+use borrow.Author.Rules.{rules}
+use Rattle.hash.specs.Sha1.{round}
+use Rattle.hash.proofs.step.Goals as goal
+
+pub returns : goal.returns
+unfolding round
+returns c = cc
