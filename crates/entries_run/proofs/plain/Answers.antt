@@ -6,11 +6,11 @@ use Rattle.entries.specs.Answers.{text_taken}
 use Rattle.entries.proofs.Names.{plain-cut}
 use Rattle.entries_run.proofs.PlainRests.{Compared, named-begun, plain-bad, plain-order, plain-good}
 use Rattle.entries_run.proofs.plain.Goals as goal
-use Rattle.entries_run.proofs.plain.Goals.{In-Good-2}
+use Rattle.entries_run.proofs.plain.Goals.{In-Good}
 
 -- what is known once the name is compared with the one before, and read
 compared :
-    (c : In-Good-2) →
+    (c : In-Good) →
     let a = c.args in
     Compared a.b.now a.c a.h c.in-Good.k c.in-Good.m c.standing_of-d.result
 compared c =
@@ -40,7 +40,7 @@ overflow_add-at-then-d c =
     omega (arith, m, c.read_named-t.ensures, c.requires.0)
 
 pub returns-then-d : goal.returns-then-d
-returns-then-d c = λ w v work head old. rw c.step_of.ensures (plain-good _ v _ work old _ _ _ _ _ (compared (goal.at.returns-then-d c).In-Good-2) head c.if-d.true)
+returns-then-d c = λ w v work head old. rw c.step_of.ensures (plain-good _ v _ work old _ _ _ _ _ (compared (goal.at.returns-then-d c).In-Good) head c.if-d.true)
 
 pub returns-in-Bad : goal.returns-in-Bad
 returns-in-Bad c =
@@ -48,4 +48,4 @@ returns-in-Bad c =
     λ w v work head old. plain-bad _ v a.b.now work old a.c a.h _ (λ i. sym c.in-Bad.is ∙ c.read_named-t.ensures.0 i)
 
 pub returns-else-d : goal.returns-else-d
-returns-else-d c = λ w v work head old. plain-order _ v _ work old _ _ _ _ _ (compared (goal.at.returns-else-d c).In-Good-2) c.if-d.false
+returns-else-d c = λ w v work head old. plain-order _ v _ work old _ _ _ _ _ (compared (goal.at.returns-else-d c).In-Good) c.if-d.false
