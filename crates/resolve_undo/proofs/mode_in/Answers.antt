@@ -1,0 +1,57 @@
+-- The proof that `mode_in` meets its contract.
+use mathlib.Core.Path.{sym, ◌∙◌}
+use borrow.Author.Rules.{rules}
+use Rattle.format.specs.Layout.{mode_text}
+use Rattle.format.specs.Reader.{mode_in}
+use Rattle.resolve_undo.proofs.mode_in.Goals as goal
+
+pub returns-then-same : goal.returns-then-same
+unfolding mode_in mode_text
+returns-then-same c =
+    rw (sym c.same.ensures ∙ c.if-same.true)
+
+pub returns-then-same-2 : goal.returns-then-same-2
+unfolding mode_in mode_text
+returns-then-same-2 c =
+    rw (sym c.same.ensures ∙ c.if-same.false, sym c.same-2.ensures ∙ c.if-same-2.true)
+
+pub returns-then-same-3 : goal.returns-then-same-3
+unfolding mode_in mode_text
+returns-then-same-3 c =
+    rw (
+      sym c.same.ensures ∙ c.if-same.false,
+      sym c.same-2.ensures ∙ c.if-same-2.false,
+      sym c.same-3.ensures ∙ c.if-same-3.true,
+    )
+
+pub returns-then-same-4 : goal.returns-then-same-4
+unfolding mode_in mode_text
+returns-then-same-4 c =
+    rw (
+      sym c.same.ensures ∙ c.if-same.false,
+      sym c.same-2.ensures ∙ c.if-same-2.false,
+      sym c.same-3.ensures ∙ c.if-same-3.false,
+      sym c.same-4.ensures ∙ c.if-same-4.true,
+    )
+
+pub returns-then-same-5 : goal.returns-then-same-5
+unfolding mode_in mode_text
+returns-then-same-5 c =
+    rw (
+      sym c.same.ensures ∙ c.if-same.false,
+      sym c.same-2.ensures ∙ c.if-same-2.false,
+      sym c.same-3.ensures ∙ c.if-same-3.false,
+      sym c.same-4.ensures ∙ c.if-same-4.false,
+      sym c.same-5.ensures ∙ c.if-same-5.true,
+    )
+
+pub returns : goal.returns
+unfolding mode_in mode_text
+returns c =
+    rw (
+      sym c.same.ensures ∙ c.if-same.false,
+      sym c.same-2.ensures ∙ c.if-same-2.false,
+      sym c.same-3.ensures ∙ c.if-same-3.false,
+      sym c.same-4.ensures ∙ c.if-same-4.false,
+      sym c.same-5.ensures ∙ c.if-same-5.false,
+    )

@@ -1,0 +1,27 @@
+-- The proof that `read_mode` meets its contract.
+use mathlib.Core.Path.{sym, ◌∙◌}
+use Prim.Native.Nat.{◌<◌}
+use native.Mathlib.Omega.{arith}
+use lib.ListN.{length}
+use borrow.Author.Rules.{rules}
+use Rattle.resolve_undo.proofs.Laws.{mode-none, mode-bad, mode-good}
+use Rattle.resolve_undo.proofs.read_mode.Goals as goal
+
+pub returns-then-e-d : goal.returns-then-e-d
+returns-then-e-d c =
+    let a = c.args in
+    (λ p. sym (mode-none a.at _ a.d.now c.find-e.ensures.0 c.requires p c.if-e-d.true), tt)
+
+pub returns-in-Bad : goal.returns-in-Bad
+returns-in-Bad c =
+    let a = c.args in
+    let more : c.find-e.result < length a.d.now = omega arith in
+    (λ p. sym (mode-bad a.at _ a.d.now c.find-e.ensures.0 c.requires p more (sym c.mode_in-m.ensures ∙ c.in-Bad.is)), tt)
+
+pub returns-in-Good : goal.returns-in-Good
+returns-in-Good c =
+    let a = c.args in
+    let more : c.find-e.result < length a.d.now = omega arith in (
+      λ p. sym (mode-good a.at _ a.d.now c.find-e.ensures.0 c.requires p more _ (sym c.mode_in-m.ensures ∙ c.in-Good.is)),
+      omega arith,
+    )

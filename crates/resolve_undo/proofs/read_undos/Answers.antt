@@ -1,0 +1,37 @@
+use mathlib.Core.Path.{◌≡◌, sym, ◌∙◌}
+use mathlib.Core.List.{[]}
+use Prim.Native.Nat.{ℕ, ◌+◌, ◌≤◌, ◌-◌, zero-le}
+use native.Mathlib.Omega.{arith}
+use lib.ListN.{length, take, drop}
+use borrow.Author.Rules.{rules}
+use Rattle.format.specs.Reader.{read_undos}
+use Rattle.resolve_undo.specs.Answers.{records_read}
+use Rattle.resolve_undo.proofs.Laws.{record-bounds}
+use Rattle.resolve_undo.proofs.Records.{answer_from, from_start, from_end, from-bad, from-good, within}
+use Rattle.resolve_undo.proofs.read_undos.Goals as goal
+
+pub loop-at-init : goal.loop-at-init
+loop-at-init c = (zero-le, zero-le, zero-le, λ p. from_start _ p c.args.d.now)
+
+pub returns-in-Bad : goal.returns-in-Bad
+returns-in-Bad c =
+    λ p. sym (c.loop-at.invariant.3 p ∙ from-bad _ _ _ _ _ c.read_undo-g.ensures c.in-Bad.is p _ c.loop-at-test.true)
+
+pub loop-at-smaller : goal.loop-at-smaller
+loop-at-smaller c =
+    let b = record-bounds _ _ _ _ c.read_undo-g.ensures.1 c.in-Good.is in
+    omega arith
+
+pub loop-at-preserved : goal.loop-at-preserved
+loop-at-preserved c =
+    let b = within _ _ _ _ _ c.read_undo-g.ensures _ c.in-Good.is c.requires.1 c.loop-at.invariant.0 in (
+      b.1,
+      b.2,
+      omega arith,
+      λ p. c.loop-at.invariant.3 p ∙ from-good _ _ _ _ _ c.read_undo-g.ensures _ c.in-Good.is p c.requires.1 c.loop-at-test.true c.loop-at.records,
+    )
+
+pub returns : goal.returns
+returns c =
+    let a = c.args in
+    λ p. sym (c.loop-at.invariant.3 p ∙ from_end _ p c.loop-at.records c.loop-at.at _ a.d.now c.loop-at-test.false)

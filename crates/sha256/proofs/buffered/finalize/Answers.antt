@@ -1,0 +1,13 @@
+-- `sha256::buffered::finalize` meets its contract: the bytes that are kept end the message. Assumes nothing.
+use mathlib.Core.Path.{ap, ◌∙◌}
+use borrow.Author.Rules.{rules}
+use Rattle.hash_words.proofs.Buffers.{buffered-ended}
+use Rattle.sha256.specs.Sha256.{H0, digest, finish, sha256}
+use Rattle.sha256.proofs.Blocks.{absorbs}
+use Rattle.sha256.proofs.buffered.finalize.Goals as goal
+
+pub returns : goal.returns
+unfolding finish sha256
+returns c = λ m a.
+    let h = c.args.h in
+    c.last.ensures ∙ ap digest (buffered-ended absorbs H0 m h.block h.state h.length a)
