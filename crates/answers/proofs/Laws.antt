@@ -77,9 +77,9 @@ module _ (at n : ℕ) (s : List ℕ) where
   unfolding part_in
   part_out h = rw (lt-leb (at + n) (length s) h)
 
-  pub part_in : at + n ≤ length s → part_in at n s ≡ take n (drop at s)
+  pub part_in_lem : at + n ≤ length s → part_in at n s ≡ take n (drop at s)
   unfolding part_in
-  part_in h = rw (le-leb (at + n) (length s) h)
+  part_in_lem h = rw (le-leb (at + n) (length s) h)
 
 -- a part of the first m elements
 pub part-within : (m at n : ℕ) (s : List ℕ) → at + n ≤ m → take n (drop at (take m s)) ≡ take n (drop at s)
@@ -94,7 +94,7 @@ unfolding name_in holding
 holding-name name file work =
     let rest : List ℕ = replicate (8192 - length name) 0 ++ drop 8192 work in
     let fits : 0 + length name ≤ length (name ++ rest) = simp length-append (omega arith) in
-    part_in 0 (length name) (name ++ rest) fits ∙ take_at name rest (length name) refl
+    part_in_lem 0 (length name) (name ++ rest) fits ∙ take_at name rest (length name) refl
 
 -- ---- items
 

@@ -1,0 +1,15 @@
+use borrow.Author.Rules.{rules}
+use Rattle.tree_table.proofs.Slots.{key-end, key-odd, key_more}
+use Rattle.tree_table.specs.Keys.{key_from, key_in}
+use lib.ListN.{length, drop}
+use native.Mathlib.Omega.{arith}
+use native.Mathlib.Nat.{mul-le-mul}
+use Prim.Native.Nat.{ℕ, ◌*◌, ◌-◌, ◌≤◌, ◌<◌}
+use mathlib.Core.Path.{◌≡◌, sym, ◌∙◌}
+use Rattle.tree_table.proofs.key_of.Given as goal
+
+abbrev pub invariant-loop-i : goal.invariant-loop-i
+invariant-loop-i l = (l.i ≤ length l.s) × (l.h < 4294967296) × (l.m < 1073741824) × (l.n < 1073741824) × (key_in l.t l.s ≡ key_from l.m l.n l.h (drop l.i l.s))
+
+abbrev pub decreases-loop-i : goal.decreases-loop-i
+decreases-loop-i l = length l.s - l.i

@@ -1,0 +1,14 @@
+use borrow.Author.Rules.{rules}
+use Rattle.tree_table.proofs.Slots.{probe-end, probe-here, probe-empty, probe-on, slot_is}
+use Rattle.tree_table.specs.Keys.{probe, next_slot}
+use native.Mathlib.Omega.{arith}
+use native.Mathlib.Nat.{mod-lt}
+use Prim.Native.Nat.{ℕ, ◌-◌, ◌%◌, ◌<◌}
+use mathlib.Core.Path.{◌≡◌, refl, ap, ◌∙◌}
+use Rattle.tree_table.proofs.slot_of.Given as goal
+
+abbrev pub invariant-loop-left : goal.invariant-loop-left
+invariant-loop-left l = (l.i < l.slots) × (probe l.from l.slots l.t l.key (l.slots - 1) (l.key % l.slots) ≡ probe l.from l.slots l.t l.key l.left l.i)
+
+abbrev pub decreases-loop-left : goal.decreases-loop-left
+decreases-loop-left l = l.left

@@ -1,0 +1,10 @@
+-- The proof that `step_of` meets its contract.
+use mathlib.Core.Path.{refl}
+use native.Mathlib.Omega.{arith}
+use Rattle.tree_table.specs.Keys.{step_of}
+use borrow.Author.Rules.{rules}
+use Rattle.tree_table.proofs.step_of.Goals as goal
+
+pub returns : goal.returns
+unfolding step_of
+returns c = (refl, omega arith)
