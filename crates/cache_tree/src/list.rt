@@ -44,7 +44,7 @@ pub(crate) fn with_root(listed: ListRead) -> ListRead
 }
 
 // The node at a place and all below it, with at most the given number of levels.
-#[cycle(read_list_read_subtree)]
+#[cycle(readers)]
 pub fn read_subtree(d: &[u8], at: usize, levels: u32, t: &mut Table, w: usize) -> ListRead
     requires { (at ≤ length d.now) × (length d.now ≤ 16777216) × (levels ≤ 127) × (length t.old ≡ 3126) }
     ensures { (result ≡ list_at at (tested distinct_below (read_one w levels (drop at d.now)))) × (length t.new ≡ 3126) }
@@ -67,7 +67,7 @@ pub fn read_subtree(d: &[u8], at: usize, levels: u32, t: &mut Table, w: usize) -
 }
 
 // k siblings at a place and all below them, with at most the given number of levels. Names that rise in one of two orders differ; others are looked at again.
-#[cycle(read_list_read_subtree)]
+#[cycle(readers)]
 pub fn read_list(d: &[u8], at: usize, levels: u32, k: u32, t: &mut Table, w: usize) -> ListRead
     requires { (at ≤ length d.now) × (length d.now ≤ 16777216) × (levels ≤ 127) × (length t.old ≡ 3126) }
     ensures { (result ≡ list_at at (tested distinct (read_forest w 0 levels k (drop at d.now)))) × (length t.new ≡ 3126) }

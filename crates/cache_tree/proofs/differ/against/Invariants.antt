@@ -1,0 +1,15 @@
+-- The proof that `against` meets its contract.
+use Rattle.cache_tree.proofs.Apart.{apart-end, apart-not, apart_next}
+use Rattle.cache_tree.specs.Chunks.{apart}
+use Rattle.tree_nodes.specs.Flat.{names_of}
+use lib.ListN.{length, drop}
+use native.Mathlib.Omega.{arith}
+use Prim.Native.Nat.{◌≤◌}
+use mathlib.Core.Path.{◌≡◌, refl, sym, ◌∙◌}
+use Rattle.cache_tree.proofs.differ.against.Given as goal
+
+abbrev pub invariant-loop-left : goal.invariant-loop-left
+invariant-loop-left l = (l.y ≤ length l.d) × (apart (names_of l.w l.n (drop l.a l.d)) (names_of l.w l.k (drop l.b l.d)) ≡ apart (names_of l.w l.n (drop l.a l.d)) (names_of l.w l.left (drop l.y l.d)))
+
+abbrev pub decreases-loop-left : goal.decreases-loop-left
+decreases-loop-left l = l.left

@@ -1,0 +1,21 @@
+-- The proof that `fill` meets its contract.
+use Rattle.cache_tree.proofs.Apart.{after-start, differ-start, held_start, fill-equal, fill-differ, fill-rest, fill-held, put-length, filled-equal, filled_next}
+use Rattle.cache_tree.specs.Chunks.{all_held, rest_after}
+use Rattle.tree_nodes.specs.Flat.{names_of, names_differ}
+use lib.ListN.{length, drop}
+use native.Mathlib.Omega.{arith}
+use Prim.Native.Nat.{◌-◌, ◌≤◌}
+use mathlib.Core.Bool.{true}
+use mathlib.Core.Path.{◌≡◌, refl, sym, ◌∙◌}
+use Rattle.cache_tree.proofs.differ.fill.Given as goal
+
+abbrev pub invariant-loop-n : goal.invariant-loop-n
+invariant-loop-n l = (l.y ≤ length l.d)
+    × (l.n ≤ l.k)
+    × (drop l.y l.d ≡ rest_after l.w l.n (drop l.a l.d))
+    × (names_differ (names_of l.w l.n (drop l.a l.d)) ≡ true)
+    × (all_held l.t (names_of l.w l.n (drop l.a l.d)) ≡ true)
+    × (length l.t ≡ 3126)
+
+abbrev pub decreases-loop-n : goal.decreases-loop-n
+decreases-loop-n l = l.k - l.n

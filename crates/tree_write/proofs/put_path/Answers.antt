@@ -1,0 +1,52 @@
+use mathlib.Core.Path.{◌≡◌, refl, ◌∙◌}
+use Prim.Native.Nat.{ℕ, ◌+◌, ◌*◌, ◌-◌, ◌≤◌}
+use native.Mathlib.Omega.{arith}
+use lib.ListN.{length, drop}
+use Rattle.format.specs.Records.{Forest}
+use Rattle.format.specs.Writer.{write_forest}
+use Rattle.format.specs.Requests.{invalid_path}
+use Rattle.tree_counts.specs.Counts.{SoundForest}
+use Rattle.tree_nodes.specs.Flat.{Reads}
+use Rattle.tree_write.specs.Steps.{StepBounds}
+use Rattle.tree_write.proofs.Steps.{path-start, path-end, Going, going_start, going_on}
+use Rattle.tree_write.proofs.put_path.Goals as goal
+
+pub loop-way-init : goal.loop-way-init
+loop-way-init c = (
+  record { room = c.requires; named = omega arith; few = omega arith },
+  omega arith,
+  refl,
+  λ f m sound r. going_start _ _ _ _ _ (path-start _ _ _ _ _ f m sound r),
+)
+
+pub step-way-requires : goal.step-way-requires
+step-way-requires c = (c.loop-way.invariant.0, c.loop-way-test.true)
+
+pub loop-way-smaller : goal.loop-way-smaller
+loop-way-smaller c = c.step-way.ensures.less
+
+pub loop-way-preserved : goal.loop-way-preserved
+loop-way-preserved c =
+    let t = c.step-way.ensures in
+    let short = t.short in
+    (t.ready, omega arith, t.long ∙ c.loop-way.invariant.2, λ f m sound r. going_on _ _ _ _ _ _ _ (c.loop-way.invariant.3 f m sound r) _ _ t)
+
+pub put_trees-passed-requires : goal.put_trees-passed-requires
+put_trees-passed-requires c =
+    let few = c.loop-way.invariant.0.few in
+    let inside = c.loop-way.invariant.0.room.inside in
+    (c.loop-way.invariant.0.room, omega arith)
+
+pub shape_of-out : goal.shape_of-out
+shape_of-out c = let long = c.loop-way.invariant.2 in omega arith
+
+pub returns : goal.returns
+returns c =
+    let t = c.put_trees-passed.ensures in
+    let short = t.short in
+    let within = t.within in
+    let before = c.loop-way.invariant.1 in
+    record {
+      wrote = λ f m sound r. let x = c.loop-way.invariant.3 f m sound r in x.rest _ _ (path-end _ _ _ _ x.still c.loop-way-test.false _ _ _ t);
+      short = omega arith;
+    }
