@@ -21,7 +21,7 @@ node_of c = node-is _ _ c.requires.0.room.inside _ (here_of c).read
 after-of : (c : Then-is_under) → 
     c.args.way.from + (c.in-Good.node.nul - c.args.way.place) + 1 ≤ length c.args.name.now
 after-of c =
-    let is : NodeIs c.args.w c.args.d.now c.args.way.place c.in-Good.node = node-is _ _ c.requires.0.room.inside _ (here_of c).read in
+    let is : NodeIs c.args.w c.args.d.now c.args.way.place c.in-Good.node = node-is _ _ c.requires.0.room.inside _ (sym c.in-Good.is ∙ c.read_node-read.ensures) in
     let ended = is.ended in
     let within = is.within in
     name-after _ _ _ _ _ is.named (omega arith) c.requires.0.named (sym c.is_under.ensures ∙ c.if-is_under.true)
@@ -43,12 +43,12 @@ overflow_sub-result-then-is_under c = (node_of (goal.at.overflow_sub-result-then
 pub overflow_add-result-then-is_under : goal.overflow_add-result-then-is_under
 overflow_add-result-then-is_under c =
     let after = after-of (goal.at.overflow_add-result-then-is_under c).Then-is_under in
-    omega (arith, start_of (goal.at.overflow_add-result-then-is_under c).In-Good)
+    omega arith
 
 pub overflow_add-result-then-is_under-2 : goal.overflow_add-result-then-is_under-2
 overflow_add-result-then-is_under-2 c =
     let after = after-of (goal.at.overflow_add-result-then-is_under-2 c).Then-is_under in
-    omega (arith, start_of (goal.at.overflow_add-result-then-is_under-2 c).In-Good)
+    omega arith
 
 pub returns-then-is_under : goal.returns-then-is_under
 returns-then-is_under c =
@@ -60,7 +60,7 @@ returns-then-is_under c =
     let short = c.put_invalid-at.ensures.short in
     record {
       ready = record {
-        room = record { inside = is.within; few = st.pre.0.room.few; near = omega arith; wide = st.pre.0.room.wide };
+        room = record { inside = is.within; few = c.requires.0.room.few; near = omega arith; wide = c.requires.0.room.wide };
         named = after-of (goal.at.returns-then-is_under c).Then-is_under;
         few = omega (arith, c.struct_known-then-is_under-4-1.given);
       };
@@ -68,7 +68,7 @@ returns-then-is_under c =
       less = omega (arith, c.struct_known-then-is_under-2-1.given);
       short = short;
       wrote = λ s x.
-          step-enters _ _ _ s x st.pre.1 st.pre.0.room.inside _ (here_of (goal.at.returns-then-is_under c).In-Good) _ _ _ (sym c.is_under.ensures ∙ c.if-is_under.true) c.put_invalid-at.ensures;
+          step-enters _ _ _ s x c.requires.1 c.requires.0.room.inside _ (here_of (goal.at.returns-then-is_under c).In-Good) _ _ _ (sym c.is_under.ensures ∙ c.if-is_under.true) c.put_invalid-at.ensures;
     }
 
 pub returns-in-Bad : goal.returns-in-Bad
@@ -91,13 +91,13 @@ returns-else-is_under c =
     let ended = t.ended in
     record {
       ready = record {
-        room = record { inside = t.within; few = st.pre.0.room.few; near = omega arith; wide = st.pre.0.room.wide };
-        named = st.pre.0.named;
+        room = record { inside = t.within; few = c.requires.0.room.few; near = omega arith; wide = c.requires.0.room.wide };
+        named = c.requires.0.named;
         few = omega arith;
       };
       long = omega arith;
       less = omega arith;
       short = short;
       wrote = λ s x.
-          step-passes _ _ _ s x st.pre.1 st.pre.0.room.inside _ (here_of (goal.at.returns-else-is_under c).In-Good) _ _ _ (sym c.is_under.ensures ∙ c.if-is_under.false) t;
+          step-passes _ _ _ s x c.requires.1 c.requires.0.room.inside _ (here_of (goal.at.returns-else-is_under c).In-Good) _ _ _ (sym c.is_under.ensures ∙ c.if-is_under.false) t;
     }

@@ -1,0 +1,80 @@
+use mathlib.Core.List.{List}
+use Prim.Native.Nat.{ℕ, ◌-◌, ◌≤◌}
+use native.Mathlib.Omega.{arith}
+use borrow.Author.Rules.{rules}
+use lib.ListN.{length}
+use Rattle.format.specs.Records.{Entry}
+use Rattle.format.specs.Layout.{TREE, REUC, names}
+use Rattle.fields.specs.Workspace.{Frame}
+use Rattle.fields.proofs.Workspace.{frame_same, frame_then}
+use Rattle.entries_run.specs.Steps.{EntriesRead}
+use Rattle.spelling.proofs.Extensions.{extensions_of}
+use Rattle.extensions.proofs.Places.{seeks-end}
+use Rattle.extensions.proofs.Runs.{Behind, behind-none, behind-end, behind-bad, behind_more}
+use Rattle.extensions.proofs.read_extensions.Goals as goal
+
+pub loop-place-init : goal.loop-place-init
+loop-place-init c =
+    let a = c.args in
+    rw c.none_found-found.ensures (c.requires.0, frame_same _, λ es m q. behind-none _ a.b.now (names es) a.at)
+
+pub read_extension-one-requires : goal.read_extension-one-requires
+read_extension-one-requires c =
+    let r = c.requires.1 in
+    (c.loop-place.invariant.0, record { least = r.least; most = r.most; room = omega (arith, c.loop-place.invariant.1) }, omega arith, omega arith)
+
+pub shape_of-work-in-Bad : goal.shape_of-work-in-Bad
+shape_of-work-in-Bad c =
+    omega (arith, c.loop-place.invariant.1)
+
+pub returns-in-Bad : goal.returns-in-Bad
+unfolding extensions_of
+returns-in-Bad c =
+    let a = c.args in
+    let t = rw c.in-Bad.is at c.read_extension-one.ensures in
+    record {
+      answered =
+          λ es m q.
+          behind-bad _ a.b.now (names es) a.at c.loop-place.place c.loop-place.found (c.loop-place.invariant.2 es m q) c.loop-place-test.true _ (t.answered es m q);
+      frame = frame_then c.loop-place.invariant.1 t.frame;
+    }
+
+pub loop-place-smaller : goal.loop-place-smaller
+loop-place-smaller c =
+    let a = c.args in
+    let t = rw c.in-Good.is at c.read_extension-one.ensures in
+    let n = t.inside in
+    omega arith
+
+pub loop-place-preserved : goal.loop-place-preserved
+loop-place-preserved c =
+    let a = c.args in
+    let t = rw c.in-Good.is at c.read_extension-one.ensures in (
+      t.inside.1,
+      frame_then c.loop-place.invariant.1 t.frame,
+      λ es m q.
+          let (x, reads, added) = t.answered es m q in
+          behind_more _ a.b.now (names es) a.at c.loop-place.place c.loop-place.found (c.loop-place.invariant.2 es m q) c.loop-place-test.true _ _ x t.inside reads added,
+    )
+
+pub shape_of-work : goal.shape_of-work
+shape_of-work c = c.loop-place.invariant.1.long
+
+pub returns : goal.returns
+unfolding extensions_of
+returns c =
+    let a = c.args in
+    record {
+      answered =
+          λ es m q.
+          let h = c.loop-place.invariant.2 es m q in
+          record {
+            list = h.list;
+            reads = behind-end _ a.b.now (names es) a.at c.loop-place.place c.loop-place.found h c.loop-place-test.false c.loop-place.invariant.0;
+            tree = h.tree;
+            undo = h.undo;
+            tree_at = seeks-end TREE a.b.now a.at c.loop-place.place _ _ h.tree_at c.loop-place.invariant.0;
+            undo_at = seeks-end REUC a.b.now a.at c.loop-place.place _ _ h.undo_at c.loop-place.invariant.0;
+          };
+      frame = c.loop-place.invariant.1;
+    }

@@ -1,0 +1,42 @@
+-- The proof that `counts_ok` meets its contract.
+use mathlib.Core.Path.{sym, ◌∙◌}
+use mathlib.Core.List.{[]}
+use native.Mathlib.Omega.{arith}
+use Rattle.fields.proofs.Workspace.{frame_same}
+use Rattle.tree_nodes.proofs.Nodes.{node-is}
+use Rattle.tree_check.proofs.Wholes.{answer-none, answer-inconsistent, answer-consistent}
+use borrow.Author.Rules.{rules}
+use Rattle.tree_check.proofs.counts.counts_ok.Goals as goal
+
+pub survey_trees-found-requires : goal.survey_trees-found-requires
+survey_trees-found-requires c =
+    let is = node-is c.args.d.now 0 (omega arith) _ (sym c.in-Good.is ∙ c.read_node-read.ensures) in
+    (is.within, c.requires.0)
+
+pub walk_root-requires : goal.walk_root-requires
+walk_root-requires c =
+    let is = node-is c.args.d.now 0 (omega arith) _ (sym c.in-Good.is ∙ c.read_node-read.ensures) in
+    (is.within, c.requires.0, record { least = c.requires.1.least; most = c.requires.1.most; room = c.requires.1.room }, c.requires.2, omega arith)
+
+pub returns-in-Bad : goal.returns-in-Bad
+returns-in-Bad c = record {
+  frame = frame_same _;
+  is = λ es m t n q₁ q₂ differ. answer-none _ _ t n q₂ differ [] (sym c.in-Bad.is ∙ c.read_node-read.ensures);
+}
+
+pub returns-in-Inconsistent : goal.returns-in-Inconsistent
+returns-in-Inconsistent c =
+    record {
+      frame = frame_same _;
+      is = λ es m t n q₁ q₂ differ.
+          answer-inconsistent _ _ t n q₂ differ _ _ (sym c.in-Good.is ∙ c.read_node-read.ensures) _ c.survey_trees-found.ensures c.in-Inconsistent.is;
+    }
+
+pub returns-in-Consistent : goal.returns-in-Consistent
+returns-in-Consistent c =
+    let last = c.walk_root.ensures in
+    record {
+      frame = last.frame;
+      is = λ es m t n q₁ q₂ differ.
+          answer-consistent _ _ t n q₂ differ _ _ (sym c.in-Good.is ∙ c.read_node-read.ensures) _ c.survey_trees-found.ensures _ c.in-Consistent.is _ (last.is es m q₁);
+    }

@@ -1,0 +1,26 @@
+-- The proof that `walk_directories` meets its contract. The loop keeps bounds, whatever the entries and the tree are; and, where they were read, what was
+-- passed in the directory of each level, with the sums up to there.
+use mathlib.Core.Path.{◌≡◌, refl, sym, ap, ◌∙◌}
+use mathlib.Core.List.{List, ◌∷◌}
+use Prim.Native.Nat.{ℕ}
+use native.Mathlib.Omega.{arith}
+use lib.ListN.{length, drop}
+use Rattle.format.specs.Records.{Forest}
+use Rattle.format.specs.Reading.{good}
+use Rattle.format.specs.Reader.{read_forest}
+use Rattle.tree_counts.specs.Counts.{SoundForest}
+use Rattle.entries_directory.specs.Ahead.{Ahead}
+use Rattle.tree_search.specs.Table.{Known}
+use Rattle.tree_check.proofs.Turns.{turns, turns-passed}
+use Rattle.tree_check.proofs.Walks.{Walk, walk_start, walk-passed, walk-full, walk-entered, walk-left, walk_end}
+use Rattle.tree_check.proofs.Loops.{Looping, loop-start, loop-ready, loop-passed, less-entered, loop-entered, above_before, less-left, loop-left}
+use borrow.Author.Rules.{rules}
+use Rattle.tree_check.proofs.walk.walk_directories.Given as goal
+
+abbrev pub invariant-loop-work : goal.invariant-loop-work
+invariant-loop-work l = Known l.w l.d l.t × Looping l.d l.b l.initial.work l.above l.work l.level l.dir l.front l.found
+    × ((f : Forest) (n : ℕ) → SoundForest f → read_forest l.w 0 127 l.initial.dir.k (drop l.initial.dir.at l.d) ≡ good f n → (x : List ℕ) (xs : List (List ℕ)) → Ahead l.w l.v l.b l.initial.work l.initial.front x xs
+    → Walk l.w l.d l.above l.b l.v l.initial.dir f (x ∷ xs) l.work l.level l.dir l.front l.ok l.found)
+
+abbrev pub decreases-loop-work : goal.decreases-loop-work
+decreases-loop-work l = turns l.front.ahead l.dir.ahead l.level
