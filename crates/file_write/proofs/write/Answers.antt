@@ -24,7 +24,7 @@ width c m = length-hash c.args.kind m ∙ sym c.requires.1
 measured :
     (c : After-measure-sized) →
     let a = c.args in
-    Measured a.w a.b.now a.parts a.work.now a.edit (entry_with a.w a.fields a.name.now) (version_of a.asked true) c.measure-sized.new.1.1.0
+    Measured a.w a.b.now a.parts a.work.now a.edit (entry_with a.w a.fields a.name.now) (version_of a.asked true) c.measure-sized.new.work
     c.measure-sized.result
 measured c = rw c.version_for.ensures at c.measure-sized.ensures
 
@@ -36,7 +36,7 @@ free c = sym c.is_barred.ensures ∙ c.if-is_barred.false
 lengths : (c : After-put_body-written) → c.put_body-written.result.at ≡ c.measure-sized.result.at
 lengths c =
     let p = c.requires.0 in
-    same_size _ (hash_of c.args.kind) (width «?place-Start») _ _ _ _ c.args.asked _ _ _ (rw c.version_for.ensures at c.measure-sized.ensures) _ (sym c.is_barred.ensures ∙ c.if-is_barred.false) c.if-long-gt16777216.false c.if-out-long.false _ c.version_for-version.ensures _ _ _ c.put_body-written.ensures
+    same_size _ (hash_of c.args.kind) (λ m. length-hash c.args.kind m ∙ sym c.requires.1) _ _ _ _ c.args.asked _ _ _ (rw c.version_for.ensures at c.measure-sized.ensures) _ (sym c.is_barred.ensures ∙ c.if-is_barred.false) c.if-long-gt16777216.false c.if-out-long.false _ c.version_for-version.ensures _ _ _ c.put_body-written.ensures
     p.records p.has p.there
 
 pub returns-then-is_barred : goal.returns-then-is_barred

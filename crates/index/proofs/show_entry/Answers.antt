@@ -22,7 +22,7 @@ placed :
 placed c = c.seek_entry-sought.ensures.placed _ _ c.in-Good.is
 
 -- the workspace is as long as before
-room-left : (c : After-slice_known-2-1) → 8192 ≤ length c.seek_entry-sought.new.1.1.0
+room-left : (c : After-slice_known-2-1) → 8192 ≤ length c.seek_entry-sought.new.work
 room-left c = omega (arith, c.requires.0.room, c.seek_entry-sought.ensures.frame)
 
 pub overflow_sub-n : goal.overflow_sub-n

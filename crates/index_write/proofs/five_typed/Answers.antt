@@ -5,10 +5,9 @@ use native.Mathlib.Omega.{arith}
 use lib.Dec.{ltb}
 use borrow.Author.Tests.{lt-ltb}
 use Rattle.format.specs.Bytes.{fit32}
-use Rattle.index_write.proofs.five_typed.Statement.{statement}
-use Rattle.index_write.proofs.five_typed.Tie as tie
+use Rattle.index_write.proofs.five_typed.Goals as goal
 
-returns : tie.Need-returns
+pub returns : goal.returns
 unfolding fit32
 returns c =
     let a = c.args in
@@ -18,6 +17,3 @@ returns c =
     let fd : ltb a.d 4294967296 ≡ true = omega (arith, lt-ltb) in
     let fe : ltb a.e 4294967296 ≡ true = omega (arith, lt-ltb) in
     rw (fa, fb, fc, fd, fe) refl
-
-pub five-typed-spec : {M : Type 1} → statement M
-five-typed-spec = tie.close (tie.spec returns)
