@@ -1,5 +1,4 @@
 -- Laws of a walk, and the theorem that it shows the entries of a file one after another.
-pub mod Apart
 pub mod Examples
 pub mod Plain
 pub mod Proved

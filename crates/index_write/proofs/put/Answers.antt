@@ -17,6 +17,6 @@ returns c =
     record {
       writes = c.save.ensures;
       back =
-          put_in a.kind a.work.now a.file.now a.asked _ (λ i. omega (arith, c.shared_slice_known-1.given i)) (entry_with (width_of a.kind) a.fields a.name.now) refl c.«?type-inv».ensures.numbers
-          (length-take-le (width_of a.kind) a.fields.object (omega (arith, width-most a.kind, c.«?type-inv».ensures.object)));
+          put_in a.kind a.work.now a.file.now a.asked _ (λ i. omega (arith, c.type_inv.file i)) (entry_with (width_of a.kind) a.fields a.name.now) refl c.typed.ensures.numbers
+          (length-take-le (width_of a.kind) a.fields.object (omega (arith, width-most a.kind, c.typed.ensures.object)));
     }
