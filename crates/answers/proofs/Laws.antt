@@ -14,7 +14,7 @@ use Rattle.format_laws.proofs.Readings.{bad-good}
 use Rattle.format_laws.proofs.Lists.{past-zeros}
 use Rattle.fields.specs.Workspace.{Frame}
 use Rattle.answers.specs.declared.Shown.TheVariants.{InWorkspace}
-use Rattle.answers.specs.Answers.{too_small, in_room, View, refused, cleared, holding, part_in, name_in}
+use Rattle.answers.specs.Answers.{too_small, in_room, cleared, holding, part_in, name_in}
 
 -- ---- the workspace
 

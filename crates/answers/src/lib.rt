@@ -1,6 +1,7 @@
 // What the calls on an index answer: the types, the fields of an entry, the names that answers point at, refusals. The calls are in crate index.
 
 #![tactic(auto)]
+
 ghost use Rattle.std.specs.Prelude.{◌≡◌, List, [], ℕ, ◌+◌};
 ghost use Rattle.answers.specs.Answers.{refused, part_in, name_in, entry_said, node_said, undo_said, refused_entry, refused_node, refused_undo};
 

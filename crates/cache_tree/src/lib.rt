@@ -2,6 +2,7 @@
 // w is the width of an object name.
 
 #![tactic(auto)]
+
 pub mod differ;
 pub mod list;
 pub mod orders;

@@ -1,6 +1,7 @@
 // The entries of a body, which were read before, written with one of them put or removed, or as they are.
 
 #![tactic(auto)]
+
 pub mod record;
 pub mod rest;
 

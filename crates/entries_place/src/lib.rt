@@ -1,6 +1,7 @@
 // Where a name and a stage are among the entries of a body.
 
 #![tactic(auto)]
+
 ghost use Rattle.std.specs.Prelude.{◌≤◌, length};
 ghost use Rattle.entries_run.specs.Steps.{key_at, Room, Inside, AllRead};
 ghost use Rattle.entries_place.specs.Places.{KeysCompared, PlaceFound};

@@ -1,6 +1,7 @@
 // One entry of any version after another, the run of all entries, and entry number k.
 
 #![tactic(auto)]
+
 ghost use Rattle.std.specs.Prelude.{◌≡◌, false, cond, List, ℕ, ◌+◌, ◌-◌, ◌≤◌, length, take, drop, eqb};
 ghost use Rattle.format.specs.Reader.{read_entry};
 ghost use Rattle.entries.specs.Answers.{Size};

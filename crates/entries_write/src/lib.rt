@@ -1,6 +1,7 @@
 // Entries of a body that were read before, written in a version: the name, what follows the object name, an entry, entries one after another.
 
 #![tactic(auto)]
+
 ghost use Rattle.std.specs.Prelude.{◌≡◌, not, ◌||◌, ◌+◌, ◌*◌, ◌≤◌, ◌<◌, length};
 ghost use Rattle.format.specs.Bytes.{put_n};
 ghost use Rattle.format.specs.Reader.{is_set};

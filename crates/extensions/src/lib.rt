@@ -1,6 +1,7 @@
 // All extensions of a body: which there are, where the data of the known ones are, or the first refusal.
 
 #![tactic(auto)]
+
 ghost use Rattle.std.specs.Prelude.{◌≡◌, ◌+◌, ◌≤◌, length, drop};
 ghost use Rattle.format.specs.Layout.{cache_tree, resolve_undo};
 ghost use Rattle.format.specs.Reader.{read_tree, read_extension};

@@ -1,6 +1,7 @@
 // Fields, texts and names in a slice of bytes, and the workspace that holds a name.
 
 #![tactic(auto)]
+
 ghost use Rattle.std.specs.Prelude.{◌≡◌, ◌++◌, ◌+◌, ◌-◌, ◌≤◌, ◌<◌, length, take, drop, replicate};
 ghost use Rattle.format.specs.Bytes.{be16, be32, eq_list, before, zeros};
 ghost use Rattle.format.specs.Names as Names;

@@ -1,6 +1,7 @@
 // The whole file: its header, its entries, its extensions; and what an accepted one has.
 
 #![tactic(auto)]
+
 pub mod header;
 
 ghost use Rattle.std.specs.Prelude.{◌≡◌, ◌≤◌, length};

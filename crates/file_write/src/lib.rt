@@ -1,6 +1,7 @@
 // The file that is written: its body is measured, then written and appended with its checksum.
 
 #![tactic(auto)]
+
 pub mod body;
 
 ghost use Rattle.std.specs.Prelude.{◌≡◌, ◌+◌, ◌≤◌, ◌<◌, length, take};

@@ -1,6 +1,7 @@
 // Operations on 32-bit words and the padding of messages, after FIPS 180-4: what SHA-1 and SHA-256 share.
 
 #![tactic(auto)]
+
 ghost use Rattle.std.specs.Prelude.{◌≡◌, ◌+◌, ◌*◌, ◌%◌, ◌^◌, ◌<◌, ◌≤◌, length};
 ghost use Rattle.std.proofs.lemmas.List.Edits.{sets};
 ghost use Rattle.hash_words.specs.Words as W;

@@ -10,7 +10,6 @@ use Rattle.format.specs.Records as F
 use Rattle.format.specs.Reading.{Read}
 use Rattle.format.specs.Reader.{Contents}
 use Rattle.format.specs.Places.{body_in}
-use Rattle.answers.specs.declared.Checked.TheVariants as K
 use Rattle.answers.specs.declared.EntryAnswer.{EntryAnswer}
 use Rattle.answers.specs.declared.NodeAnswer.{NodeAnswer}
 use Rattle.answers.specs.declared.UndoAnswer.{UndoAnswer}

@@ -2,6 +2,7 @@
 // one is refused with 29, after 19 and before all of the file. w is the width of an object name.
 
 #![tactic(auto)]
+
 ghost use Rattle.std.specs.Prelude.{◌≡◌, List, [], true, cond, ℕ, ◌+◌, ◌≤◌, ◌<◌, length, take, drop, replicate, eqb};
 ghost use Rattle.std.proofs.Math.Option.{Option};
 ghost use Rattle.std.proofs.Math.ListN.{get_elem?};

@@ -1,6 +1,7 @@
 // The kinds of object names: 1 is SHA-1, 2 is SHA-256.
 
 #![tactic(auto)]
+
 ghost use Rattle.std.specs.Prelude.{◌≡◌, ◌≤◌, take};
 ghost use Rattle.kinds.specs.Kinds.{ok_kind, width_of, hash_of};
 

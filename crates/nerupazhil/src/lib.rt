@@ -1,6 +1,7 @@
 // The calls for programs in other languages: every public call of the library. Only numbers and pointers cross this boundary: a slice is a pointer and a length, where a null pointer with length 0 is the empty one, and a reply is an array of numbers that the caller lends. Each call takes the kind of object names: 1 is SHA-1, 2 is SHA-256, any other is refused with 29. The first number of a reply is the refusal, 0 of a success, the second its place; all that does not apply is 0.
 
 #![tactic(auto)]
+
 ghost use Rattle.std.specs.Prelude.{◌≡◌, length};
 ghost use Rattle.format.specs.Places.{body_in, name_place, entry_name_place, node_place, undo_place};
 ghost use Rattle.format.specs.Requests.{put_record, remove_record};

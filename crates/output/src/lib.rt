@@ -2,6 +2,7 @@
 // an empty output measures. A part begins at most 2 ^ 50 bytes from the start, far above any file.
 
 #![tactic(auto)]
+
 ghost use Rattle.std.specs.Prelude.{[], ◌∷◌, ◌+◌, ◌-◌, ◌≤◌, ◌<◌, length, take, drop, replicate};
 ghost use Rattle.format.specs.Bytes.{put16, put32};
 ghost use Rattle.output.specs.Output.{Wrote};

@@ -1,6 +1,7 @@
 // The resolve-undo records of an index: the data of its REUC extension, read. w is the width of an object name.
 
 #![tactic(auto)]
+
 ghost use Rattle.std.specs.Prelude.{◌≡◌, [], ◌&&◌, ℕ, ◌+◌, ◌≤◌, length, take, drop};
 ghost use Rattle.format.specs.Names as Names;
 ghost use Rattle.format.specs.Reader.{mode_in, read_mode, read_stages, read_undo, read_undos};

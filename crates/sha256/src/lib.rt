@@ -2,6 +2,7 @@
 // The module buffered takes pieces of any length.
 
 #![tactic(auto)]
+
 pub mod buffered;
 
 ghost use Rattle.std.specs.Prelude.{◌≡◌, List, ℕ, ◌+◌, ◌/◌, ◌<◌, ◌≤◌, length, get_or};

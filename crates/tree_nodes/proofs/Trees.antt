@@ -8,7 +8,7 @@ use lib.ListN.{take, drop, length}
 use lib.Seq.{drop-drop}
 use lib.Dec.{eqb}
 use Rattle.format.specs.Bytes.{before}
-use Rattle.format.specs.Records.{valid, Forest, nil, tree, Tree, Node, items, tree_items}
+use Rattle.format.specs.Records.{Forest, nil, tree, Tree, items, tree_items}
 use Rattle.format.specs.Layout.{is_valid}
 use Rattle.format.specs.Reading.{Read, good}
 use Rattle.format.specs.Reader.{Head, read_nodes, read_node, read_forest}

@@ -2,6 +2,7 @@
 // file can't choose, so that two names have the same key by chance only.
 
 #![tactic(auto)]
+
 ghost use Rattle.std.specs.Prelude.{◌≡◌, ℕ, ◌+◌, ◌*◌, ◌%◌, ◌≤◌, ◌<◌, length, get_or, set};
 ghost use Rattle.tree_table.specs.Keys.{step_key, last_key, key_in, step_of, next_slot, slot_in, SeedOnly, is_of};
 

@@ -3,6 +3,7 @@
 // w is the width of an object name, 1 or more.
 
 #![tactic(auto)]
+
 ghost use Rattle.std.specs.Prelude.{◌≡◌, cond, ◌-◌, ◌≤◌, ◌<◌, length, take, drop};
 ghost use Rattle.format.specs.Layout.{under};
 ghost use Rattle.format.specs.Writer.{write_tree};

@@ -1,6 +1,7 @@
 // What a version that is asked for means: whether it may be, and which the file has that is written.
 
 #![tactic(auto)]
+
 ghost use Rattle.std.specs.Prelude.{◌≡◌, ◌&&◌, eqb};
 ghost use Rattle.format.specs.Requests.{ok_asked, version_of};
 

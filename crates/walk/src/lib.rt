@@ -2,6 +2,7 @@
 // names: 1 is SHA-1, 2 is SHA-256.
 
 #![tactic(auto)]
+
 ghost use Rattle.std.specs.Prelude.{◌≡◌, false, ◌-◌, ◌≤◌, length, drop, eqb};
 ghost use Rattle.format.specs.Records as F;
 ghost use Rattle.format.specs.Reader.{read_entry};

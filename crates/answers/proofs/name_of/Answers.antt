@@ -1,6 +1,5 @@
 -- The proof that `name_of` meets its contract.
 use Rattle.answers.specs.Answers.{name_in}
-use borrow.Author.Rules.{rules}
 use Rattle.answers.proofs.name_of.Goals as goal
 
 pub returns-in-Refused : goal.returns-in-Refused

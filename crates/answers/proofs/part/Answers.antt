@@ -3,7 +3,6 @@ use mathlib.Core.Path.{sym}
 use native.Mathlib.Nat.{add-sub_cancel_left}
 use native.Mathlib.Omega.{arith}
 use Rattle.answers.proofs.Laws.{part_out, part_in_lem}
-use borrow.Author.Rules.{rules}
 use Rattle.answers.proofs.part.Goals as goal
 
 pub returns-then-s-at : goal.returns-then-s-at

@@ -1,7 +1,6 @@
 -- The proof that `refused_entry` meets its contract.
 use mathlib.Core.Path.{refl}
 use Rattle.answers.specs.Answers.{entry_said}
-use borrow.Author.Rules.{rules}
 use Rattle.answers.proofs.refused_entry.Goals as goal
 
 pub returns : goal.returns

@@ -5,7 +5,6 @@ use Rattle.cache_tree.specs.Answers.{rooted}
 use Rattle.format.specs.Layout.{distinct}
 use native.Mathlib.Omega.{arith}
 use mathlib.Core.Path.{sym, ap, ◌∙◌}
-use borrow.Author.Rules.{rules}
 use Rattle.cache_tree.proofs.read_nodes.Goals as goal
 use Rattle.cache_tree.proofs.read_nodes.Goals.{In-Good}
 

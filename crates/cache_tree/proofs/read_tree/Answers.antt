@@ -2,7 +2,6 @@ use Rattle.cache_tree.proofs.Faults.{answered}
 use Rattle.cache_tree.proofs.Shape.{NodesAre, nodes-are, tree-no-nodes, tree-longer, tree-shaped}
 use native.Mathlib.Omega.{arith}
 use mathlib.Core.Path.{sym, ◌∙◌}
-use borrow.Author.Rules.{rules}
 use Rattle.cache_tree.proofs.read_tree.Goals as goal
 use Rattle.cache_tree.proofs.read_tree.Goals.{In-Good}
 

@@ -1,7 +1,6 @@
 -- The proof that `byte_at` meets its contract.
 use mathlib.Core.Path.{refl}
 use native.Mathlib.Omega.{arith}
-use borrow.Author.Rules.{rules}
 use Rattle.entries.proofs.byte_at.Goals as goal
 
 pub overflow_cast-result : goal.overflow_cast-result

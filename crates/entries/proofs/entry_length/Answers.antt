@@ -1,6 +1,5 @@
 -- The proof that `entry_length` meets its contract.
 use native.Mathlib.Omega.{arith}
-use borrow.Author.Rules.{rules}
 use Rattle.format.specs.Layout.{entry_length}
 use Rattle.entries.proofs.entry_length.Goals as goal
 

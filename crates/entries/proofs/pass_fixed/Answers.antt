@@ -1,5 +1,4 @@
 -- The proof that `pass_fixed` meets its contract.
-use borrow.Author.Rules.{rules}
 use Rattle.entries.proofs.Before.{passed-cut, passed-plain, passed-cut-word, passed-word}
 use Rattle.entries.proofs.pass_fixed.Goals as goal
 

@@ -1,5 +1,4 @@
 -- The proof that `pass_plain` meets its contract.
-use borrow.Author.Rules.{rules}
 use Rattle.entries.proofs.Names.{passed_over, passed-short, passed-good}
 use Rattle.entries.proofs.pass_plain.Goals as goal
 

@@ -1,6 +1,5 @@
 -- The proof that `plain_length` meets its contract.
 use native.Mathlib.Omega.{arith}
-use borrow.Author.Rules.{rules}
 use borrow.Author.Tests.{lt-ltb, le-ltb}
 use Rattle.format.specs.Reader.{plain_length}
 use Rattle.entries.proofs.plain_length.Goals as goal

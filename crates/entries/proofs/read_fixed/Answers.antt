@@ -1,7 +1,6 @@
 -- The proof that `read_fixed` meets its contract.
 use mathlib.Core.Path.{sym, ◌∙◌}
 use native.Mathlib.Omega.{arith}
-use borrow.Author.Rules.{rules}
 use Rattle.entries.proofs.Before.{Flagged, fixed-cut, fixed-mode, fixed_plain, fixed-version, fixed-cut-word, fixed_word, fixed-bad-word}
 use Rattle.entries.proofs.read_fixed.Goals as goal
 use Rattle.entries.proofs.read_fixed.Goals.{After-read16-x}

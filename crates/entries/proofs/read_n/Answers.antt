@@ -1,6 +1,5 @@
 -- The proof that `read_n` meets its contract.
 use native.Mathlib.Omega.{arith}
-use borrow.Author.Rules.{rules}
 use Rattle.entries.proofs.Names.{First, Second, n-cut, n-one, n-one-over, n-cut-two, n-three, n-two, n-two-over}
 use Rattle.entries.proofs.read_n.Goals as goal
 use Rattle.entries.proofs.read_n.Goals.{After-byte_at-x, After-byte_at-y}

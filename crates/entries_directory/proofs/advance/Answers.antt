@@ -3,7 +3,6 @@ use mathlib.Core.Path.{refl}
 use native.Mathlib.Omega.{arith}
 use Rattle.fields.proofs.Workspace.{frame_same}
 use Rattle.entries_directory.proofs.Ahead.{fits-end, step_end, step-bad, step_fits, step-on}
-use borrow.Author.Rules.{rules}
 use Rattle.entries_directory.proofs.advance.Goals as goal
 
 pub returns-then-s-le1 : goal.returns-then-s-le1

@@ -1,7 +1,6 @@
 -- The proof that `is_file` meets its contract.
 use mathlib.Core.Path.{sym, ◌∙◌}
 use native.Mathlib.Omega.{arith}
-use borrow.Author.Rules.{rules}
 use borrow.Author.Tests.{eqb-true}
 use Rattle.format_laws.proofs.Tests.{false-true}
 use Rattle.entries_directory.proofs.First.{fits-length, name-file}

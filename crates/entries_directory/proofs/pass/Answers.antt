@@ -1,14 +1,9 @@
-use mathlib.Core.Path.{◌≡◌, sym, ap, ◌∙◌}
-use mathlib.Core.List.{List}
-use mathlib.Core.Bool.{true, ◌&&◌}
+use mathlib.Core.Path.{sym, ap, ◌∙◌}
+use mathlib.Core.Bool.{◌&&◌}
 use Prim.Native.Nat.{ℕ}
 use native.Mathlib.Omega.{arith}
-use borrow.Author.Rules.{rules}
-use lib.ListN.{length}
 use lib.Dec.{leb, ltb}
-use Rattle.directories.specs.Names.{begins}
-use Rattle.entries_directory.specs.Ahead.{After}
-use Rattle.entries_directory.proofs.Ahead.{Going, going_start, going_on, going_end, Passing, pass-start, pass_on, pass-end, stays-some}
+use Rattle.entries_directory.proofs.Ahead.{going_start, going_on, going_end, pass-start, pass_on, pass-end, stays-some}
 use Rattle.entries_directory.proofs.pass.Goals as goal
 
 pub loop-work-init : goal.loop-work-init

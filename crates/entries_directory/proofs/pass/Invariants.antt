@@ -1,15 +1,12 @@
 -- The proof that `pass` meets its contract. The loop keeps that the names in the directory are passed in part.
-use mathlib.Core.Path.{◌≡◌, sym, ap, ◌∙◌}
+use mathlib.Core.Path.{◌≡◌}
 use mathlib.Core.List.{List}
-use mathlib.Core.Bool.{true, ◌&&◌}
+use mathlib.Core.Bool.{true}
 use Prim.Native.Nat.{ℕ}
-use native.Mathlib.Omega.{arith}
-use borrow.Author.Rules.{rules}
 use lib.ListN.{length}
-use lib.Dec.{leb, ltb}
 use Rattle.directories.specs.Names.{begins}
 use Rattle.entries_directory.specs.Ahead.{After}
-use Rattle.entries_directory.proofs.Ahead.{Going, going_start, going_on, going_end, Passing, pass-start, pass_on, pass-end, stays-some}
+use Rattle.entries_directory.proofs.Ahead.{Going, Passing}
 use Rattle.entries_directory.proofs.pass.Given as goal
 
 abbrev pub invariant-loop-work : goal.invariant-loop-work

@@ -1,11 +1,5 @@
-use mathlib.Core.Path.{◌≡◌}
-use mathlib.Core.List.{List, ◌∷◌}
-use Prim.Native.Nat.{ℕ}
 use native.Mathlib.Omega.{arith}
-use borrow.Author.Rules.{rules}
-use lib.ListN.{length}
-use Rattle.entries_directory.specs.Ahead.{After, File, FilesPassed}
-use Rattle.entries_directory.proofs.Ahead.{Going, going_start, going_on, going_end, files-start, files-on, stays-some}
+use Rattle.entries_directory.proofs.Ahead.{going_start, going_on, going_end, files-start, files-on, stays-some}
 use Rattle.entries_directory.proofs.pass_files.Goals as goal
 
 pub loop-work-init : goal.loop-work-init

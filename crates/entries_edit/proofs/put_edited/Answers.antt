@@ -1,6 +1,5 @@
 -- The proof that `put_edited` meets its contract.
 use native.Mathlib.Omega.{arith}
-use borrow.Author.Rules.{rules}
 use Rattle.entries_edit.proofs.put_edited.Goals as goal
 
 pub put_with-requires : goal.put_with-requires

@@ -1,6 +1,5 @@
 -- The proof that `put_kept` meets its contract.
 use native.Mathlib.Omega.{arith}
-use borrow.Author.Rules.{rules}
 use Rattle.entries_run.proofs.Steps.{inside-first, readable-first}
 use Rattle.entries_edit.proofs.Edits.{kept-written}
 use Rattle.entries_edit.proofs.put_kept.Goals as goal

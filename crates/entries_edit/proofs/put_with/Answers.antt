@@ -2,7 +2,6 @@
 use mathlib.Core.Path.{◌∙◌}
 use Prim.Native.Nat.{◌≤◌}
 use native.Mathlib.Omega.{arith}
-use borrow.Author.Rules.{rules}
 use Rattle.fields.proofs.Workspace.{frame_then}
 use Rattle.entries_run.proofs.Steps.{inside-first, readable-first}
 use Rattle.entries.specs.Record.{entry_with}

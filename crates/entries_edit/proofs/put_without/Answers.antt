@@ -2,7 +2,6 @@
 use mathlib.Core.Path.{refl}
 use Prim.Native.Nat.{◌≤◌}
 use native.Mathlib.Omega.{arith}
-use borrow.Author.Rules.{rules}
 use Rattle.entries_run.proofs.Steps.{inside-first, readable-first}
 use Rattle.entries_edit.proofs.Edits.{readable-rest, without-written}
 use Rattle.entries_edit.proofs.put_without.Goals as goal

@@ -1,12 +1,11 @@
 use mathlib.Core.Path.{refl}
 use mathlib.Core.List.{List}
-use Prim.Native.Nat.{ℕ, ◌-◌, ◌≤◌}
+use Prim.Native.Nat.{ℕ}
 use native.Mathlib.Omega.{arith}
-use borrow.Author.Rules.{rules}
 use Rattle.entries_run.specs.declared.Next.{Next}
 use Rattle.entries_run.specs.Steps.{EntryStepped, EntryPassed}
 use Rattle.entries_run.proofs.Steps.{readable-again, readable-never}
-use Rattle.entries_place.proofs.Finding.{Searching, search-first, search-left, search-more, search-end, search-stop}
+use Rattle.entries_place.proofs.Finding.{search-first, search-left, search-more, search-end, search-stop}
 use Rattle.entries_place.proofs.find_place.Goals as goal
 use Rattle.entries_place.proofs.find_place.Goals.{After-pass_entry-arg-1, After-pass_entry-g}
 

@@ -1,6 +1,5 @@
 -- The proof that `order_of` meets its contract.
 use mathlib.Core.Path.{sym, ◌∙◌}
-use borrow.Author.Rules.{rules}
 use Rattle.entries_place.proofs.Keys.{compared-below, compared-above, compared_same}
 use Rattle.entries_place.proofs.order_of.Goals as goal
 

@@ -1,6 +1,5 @@
 -- The proof that `entry_at` meets its contract.
 use mathlib.Core.Path.{refl, sym, ◌∙◌}
-use borrow.Author.Rules.{rules}
 use borrow.Author.Tests.{ne_eqb}
 use Rattle.format_laws.proofs.Tests.{false-true}
 use Rattle.entries.specs.declared.Fixed.TheVariants as F

@@ -1,6 +1,5 @@
 -- The proof that `head_at` meets its contract.
 use mathlib.Core.Path.{sym, ◌∙◌}
-use borrow.Author.Rules.{rules}
 use Rattle.format_laws.proofs.Tests.{false-true}
 use Rattle.entries.proofs.Before.{head-size}
 use Rattle.entries_run.proofs.head_at.Goals as goal

@@ -3,7 +3,6 @@ use mathlib.Core.Path.{sym}
 use native.Mathlib.Omega.{arith}
 use lib.Seq.{length-take-le}
 use Rattle.entries_run.proofs.Names.{name_at-work, name_at-body}
-use borrow.Author.Rules.{rules}
 use Rattle.entries_run.proofs.name_at.Goals as goal
 
 pub slice_bounds-result-end : goal.slice_bounds-result-end

@@ -1,6 +1,5 @@
 -- The proof that `next_entry` meets its contract.
 use mathlib.Core.Path.{refl}
-use borrow.Author.Rules.{rules}
 use Rattle.format_laws.proofs.Tests.{false-true}
 use Rattle.entries_run.proofs.next_entry.Goals as goal
 

@@ -3,7 +3,6 @@ use mathlib.Core.Path.{sym, ◌∙◌}
 use Prim.Native.Nat.{◌≤◌}
 use native.Mathlib.Omega.{arith}
 use lib.ListN.{length}
-use borrow.Author.Rules.{rules}
 use Rattle.entries_run.proofs.Rests.{tested}
 use Rattle.entries_run.proofs.PackedRests.{packed-bad, numbered}
 use Rattle.entries_run.proofs.packed.Goals as goal

@@ -1,7 +1,6 @@
 -- The proof that `pass_plain` meets its contract.
 use mathlib.Core.Path.{ap}
 use native.Mathlib.Omega.{arith}
-use borrow.Author.Rules.{rules}
 use Rattle.entries.specs.Answers.{text_length, text_taken}
 use Rattle.entries_run.proofs.PlainRests.{plain-unread, plain-passed}
 use Rattle.entries_run.proofs.pass_plain.Goals as goal

@@ -1,7 +1,6 @@
 -- The proof that `plain` meets its contract.
 use mathlib.Core.Path.{◌≡◌, sym, ap, ◌∙◌}
 use native.Mathlib.Omega.{arith}
-use borrow.Author.Rules.{rules}
 use Rattle.entries.specs.Answers.{text_taken}
 use Rattle.entries.proofs.Names.{plain-cut}
 use Rattle.entries_run.proofs.PlainRests.{Compared, named-begun, plain-bad, plain-order, plain-good}

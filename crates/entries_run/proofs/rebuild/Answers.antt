@@ -2,7 +2,6 @@
 use Prim.Native.Nat.{◌≤◌}
 use native.Mathlib.Omega.{arith}
 use lib.ListN.{length}
-use borrow.Author.Rules.{rules}
 use Rattle.entries_run.proofs.Names.{rebuilt}
 use Rattle.entries_run.proofs.rebuild.Goals as goal
 

@@ -1,13 +1,8 @@
-use mathlib.Core.Path.{◌≡◌, refl}
-use mathlib.Core.List.{List, []}
-use Prim.Native.Nat.{◌+◌}
+use mathlib.Core.Path.{refl}
+use mathlib.Core.List.{[]}
 use native.Mathlib.Omega.{arith}
-use borrow.Author.Rules.{rules}
-use lib.ListN.{length, length-append}
-use Rattle.format.specs.Records.{Entry}
-use Rattle.fields.specs.Begun.{Begun}
-use Rattle.entries_run.specs.Steps.{name_at, cursor_of}
-use Rattle.entries_run.proofs.Steps.{begun_first, begun-next, Walking, walking-first, walking-more, ran-bad, ran-good}
+use lib.ListN.{length-append}
+use Rattle.entries_run.proofs.Steps.{begun_first, begun-next, walking-first, walking-more, ran-bad, ran-good}
 use Rattle.entries_run.proofs.run_entries.Goals as goal
 
 pub loop-left-init : goal.loop-left-init

@@ -1,14 +1,12 @@
 -- The proof that `run_entries` meets its contract. The loop keeps that some entries lie before the cursor, which with those left are all.
-use mathlib.Core.Path.{◌≡◌, refl}
-use mathlib.Core.List.{List, []}
+use mathlib.Core.Path.{◌≡◌}
+use mathlib.Core.List.{List}
 use Prim.Native.Nat.{◌+◌}
-use native.Mathlib.Omega.{arith}
-use borrow.Author.Rules.{rules}
-use lib.ListN.{length, length-append}
+use lib.ListN.{length}
 use Rattle.format.specs.Records.{Entry}
 use Rattle.fields.specs.Begun.{Begun}
 use Rattle.entries_run.specs.Steps.{name_at, cursor_of}
-use Rattle.entries_run.proofs.Steps.{begun_first, begun-next, Walking, walking-first, walking-more, ran-bad, ran-good}
+use Rattle.entries_run.proofs.Steps.{Walking}
 use Rattle.entries_run.proofs.run_entries.Given as goal
 
 abbrev pub invariant-loop-left : goal.invariant-loop-left

@@ -1,11 +1,7 @@
-use mathlib.Core.Path.{◌≡◌}
-use mathlib.Core.List.{List, []}
-use Prim.Native.Nat.{◌+◌}
+use mathlib.Core.List.{[]}
 use native.Mathlib.Omega.{arith}
-use borrow.Author.Rules.{rules}
-use lib.ListN.{length, length-append}
-use Rattle.format.specs.Records.{Entry}
-use Rattle.entries_run.proofs.Steps.{Walking, walking-first, walking-more, sought-bad, sought-good}
+use lib.ListN.{length-append}
+use Rattle.entries_run.proofs.Steps.{walking-first, walking-more, sought-bad, sought-good}
 use Rattle.entries_run.proofs.seek_entry.Goals as goal
 
 pub loop-left-init : goal.loop-left-init

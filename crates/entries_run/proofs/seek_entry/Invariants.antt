@@ -1,12 +1,10 @@
 -- The proof that `seek_entry` meets its contract. The loop keeps that some entries lie before the cursor, which with those left are k.
 use mathlib.Core.Path.{◌≡◌}
-use mathlib.Core.List.{List, []}
+use mathlib.Core.List.{List}
 use Prim.Native.Nat.{◌+◌}
-use native.Mathlib.Omega.{arith}
-use borrow.Author.Rules.{rules}
-use lib.ListN.{length, length-append}
+use lib.ListN.{length}
 use Rattle.format.specs.Records.{Entry}
-use Rattle.entries_run.proofs.Steps.{Walking, walking-first, walking-more, sought-bad, sought-good}
+use Rattle.entries_run.proofs.Steps.{Walking}
 use Rattle.entries_run.proofs.seek_entry.Given as goal
 
 abbrev pub invariant-loop-left : goal.invariant-loop-left

@@ -1,6 +1,5 @@
 -- The proof that `standing_of` meets its contract.
 use mathlib.Core.Path.{sym, ◌∙◌}
-use borrow.Author.Rules.{rules}
 use Rattle.entries_run.proofs.Names.{stands}
 use Rattle.entries_run.proofs.standing_of.Goals as goal
 

@@ -2,7 +2,6 @@
 use mathlib.Core.Path.{sym, ◌∙◌}
 use native.Mathlib.Omega.{arith}
 use lib.Seq.{length-take-le}
-use borrow.Author.Rules.{rules}
 use Rattle.entries_run.proofs.Rests.{tested}
 use Rattle.entries_run.proofs.PackedRests.{Ended, Copied, kept-begun, suffix-cut, suffix-long, suffix-name, suffix-field, suffix-order, suffix-good, suffix-passed}
 use Rattle.entries_run.proofs.suffix.Goals as goal

@@ -1,13 +1,12 @@
 use mathlib.Core.List.{List}
 use Prim.Native.Nat.{ℕ, ◌≤◌}
 use native.Mathlib.Omega.{arith}
-use borrow.Author.Rules.{rules}
 use lib.ListN.{length}
 use Rattle.fields.proofs.Workspace.{frame_then}
 use Rattle.entries_run.specs.declared.Next.{Next}
 use Rattle.entries_run.specs.Steps.{EntryStepped, EntryPassed}
 use Rattle.entries_run.proofs.Steps.{readable-again, readable-never}
-use Rattle.entries_write.proofs.Runs.{Writing, writing_start, writing-left, writing_more, writing-end}
+use Rattle.entries_write.proofs.Runs.{writing_start, writing-left, writing_more, writing-end}
 use Rattle.entries_write.proofs.Stepping.{step-read, step_kept}
 use Rattle.entries_write.proofs.put_entries.Goals as goal
 use Rattle.entries_write.proofs.put_entries.Goals.{After-pass_entry-arg-1, After-pass_entry-g}

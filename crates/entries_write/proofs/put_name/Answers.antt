@@ -1,6 +1,5 @@
 -- The proof that `put_name` meets its contract.
 use Rattle.entries_write.proofs.Names.{name-packed, name-plain}
-use borrow.Author.Rules.{rules}
 use Rattle.entries_write.proofs.put_name.Goals as goal
 
 pub returns-then-version-eq4 : goal.returns-then-version-eq4

@@ -1,7 +1,6 @@
 -- The proof that `put_number` meets its contract.
 use native.Mathlib.Omega.{arith}
 use Rattle.entries_write.proofs.Names.{number-one, number-two}
-use borrow.Author.Rules.{rules}
 use Rattle.entries_write.proofs.put_number.Goals as goal
 
 pub returns-then-n-lt128 : goal.returns-then-n-lt128

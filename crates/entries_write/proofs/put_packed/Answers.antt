@@ -2,7 +2,6 @@
 use native.Mathlib.Omega.{arith}
 use lib.ListN.{length-take}
 use Rattle.entries_write.proofs.Names.{packed-wrote}
-use borrow.Author.Rules.{rules}
 use Rattle.entries_write.proofs.put_packed.Goals as goal
 
 pub put_byte-requires : goal.put_byte-requires

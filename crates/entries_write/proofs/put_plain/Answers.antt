@@ -1,7 +1,6 @@
 -- The proof that `put_plain` meets its contract.
 use native.Mathlib.Omega.{arith}
 use Rattle.entries_write.proofs.Names.{plain-wrote}
-use borrow.Author.Rules.{rules}
 use Rattle.entries_write.proofs.put_plain.Goals as goal
 
 pub returns : goal.returns

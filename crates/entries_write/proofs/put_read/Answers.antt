@@ -7,7 +7,6 @@ use Rattle.format.specs.Bytes.{Bytes}
 use Rattle.format_laws.proofs.Tests.{and-inv}
 use borrow.Author.Tests.{not-true}
 use Rattle.entries_write.proofs.Copies.{head-most, head-end, plain_copied, head-copied}
-use borrow.Author.Rules.{rules}
 use Rattle.entries_write.proofs.put_read.Goals as goal
 
 pub returns-then-v-version : goal.returns-then-v-version

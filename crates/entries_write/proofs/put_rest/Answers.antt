@@ -3,7 +3,6 @@ use native.Mathlib.Omega.{arith}
 use Rattle.entries_write.proofs.Words.{rest-short, rest-long}
 use Rattle.format.specs.Names.{length_field}
 use Rattle.format_laws.proofs.Numbers.{length-put16}
-use borrow.Author.Rules.{rules}
 use Rattle.entries_write.proofs.put_rest.Goals as goal
 
 pub overflow_add-flags : goal.overflow_add-flags

@@ -2,7 +2,6 @@
 use native.Mathlib.Omega.{arith}
 use Rattle.format.specs.Bytes.{Bytes}
 use Rattle.entries_write.proofs.Words.{fixed-end, entry-wrote}
-use borrow.Author.Rules.{rules}
 use Rattle.entries_write.proofs.put_step.Goals as goal
 
 pub put_rest-requires : goal.put_rest-requires

@@ -2,7 +2,6 @@
 use mathlib.Core.Path.{refl}
 use borrow.Author.Tests.{eq-eqb, ne_eqb}
 use Rattle.format.specs.Reader.{is_set}
-use borrow.Author.Rules.{rules}
 use Rattle.entries_write.proofs.stays.Goals as goal
 
 pub returns-then-flags-eq1 : goal.returns-then-flags-eq1

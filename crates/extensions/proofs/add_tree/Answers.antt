@@ -2,7 +2,6 @@ use Rattle.extensions.proofs.Trees.{tree-refused, tree-miscounted, tree-added}
 use Rattle.extensions.proofs.Known.{known-seen}
 use mathlib.Core.Path.{sym, ◌∙◌}
 use Rattle.fields.proofs.Workspace.{frame_same}
-use borrow.Author.Rules.{rules}
 use Rattle.extensions.proofs.add_tree.Goals as goal
 
 pub returns-then-found : goal.returns-then-found

@@ -1,6 +1,5 @@
 -- The proof that `add_undo` meets its contract.
 use mathlib.Core.Path.{sym, ◌∙◌}
-use borrow.Author.Rules.{rules}
 use Rattle.extensions.proofs.Known.{known-seen, undo-refused, undo-added}
 use Rattle.extensions.proofs.add_undo.Goals as goal
 

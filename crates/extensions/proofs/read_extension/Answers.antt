@@ -1,7 +1,6 @@
 -- The proof that `read_extension` meets its contract: what the head says, and what the function for its kind answers.
 use mathlib.Core.Path.{refl}
 use native.Mathlib.Omega.{arith}
-use borrow.Author.Rules.{rules}
 use Rattle.format.specs.Layout.{names}
 use Rattle.fields.proofs.Workspace.{frame_same}
 use Rattle.extensions.specs.Found.{seen_of}

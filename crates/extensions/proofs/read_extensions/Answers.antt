@@ -1,16 +1,9 @@
-use mathlib.Core.List.{List}
-use Prim.Native.Nat.{ℕ, ◌-◌, ◌≤◌}
 use native.Mathlib.Omega.{arith}
-use borrow.Author.Rules.{rules}
-use lib.ListN.{length}
-use Rattle.format.specs.Records.{Entry}
 use Rattle.format.specs.Layout.{TREE, REUC, names}
-use Rattle.fields.specs.Workspace.{Frame}
 use Rattle.fields.proofs.Workspace.{frame_same, frame_then}
-use Rattle.entries_run.specs.Steps.{EntriesRead}
 use Rattle.spelling.proofs.Extensions.{extensions_of}
 use Rattle.extensions.proofs.Places.{seeks-end}
-use Rattle.extensions.proofs.Runs.{Behind, behind-none, behind-end, behind-bad, behind_more}
+use Rattle.extensions.proofs.Runs.{behind-none, behind-end, behind-bad, behind_more}
 use Rattle.extensions.proofs.read_extensions.Goals as goal
 
 pub loop-place-init : goal.loop-place-init

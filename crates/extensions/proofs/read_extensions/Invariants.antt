@@ -1,17 +1,12 @@
 -- The proof that `read_extensions` meets its contract. The loop keeps that some extensions lie behind, which with those left are all.
 use mathlib.Core.List.{List}
 use Prim.Native.Nat.{ℕ, ◌-◌, ◌≤◌}
-use native.Mathlib.Omega.{arith}
-use borrow.Author.Rules.{rules}
 use lib.ListN.{length}
 use Rattle.format.specs.Records.{Entry}
-use Rattle.format.specs.Layout.{TREE, REUC, names}
+use Rattle.format.specs.Layout.{names}
 use Rattle.fields.specs.Workspace.{Frame}
-use Rattle.fields.proofs.Workspace.{frame_same, frame_then}
 use Rattle.entries_run.specs.Steps.{EntriesRead}
-use Rattle.spelling.proofs.Extensions.{extensions_of}
-use Rattle.extensions.proofs.Places.{seeks-end}
-use Rattle.extensions.proofs.Runs.{Behind, behind-none, behind-end, behind-bad, behind_more}
+use Rattle.extensions.proofs.Runs.{Behind}
 use Rattle.extensions.proofs.read_extensions.Given as goal
 
 abbrev pub invariant-loop-place : goal.invariant-loop-place

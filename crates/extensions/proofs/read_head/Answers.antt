@@ -1,7 +1,6 @@
 -- The proof that `read_head` meets its contract: one law for each return.
 use mathlib.Core.Path.{refl}
 use native.Mathlib.Omega.{arith}
-use borrow.Author.Rules.{rules}
 use Rattle.extensions.proofs.Heads.{head-short, head-cut, head-low, head-high, head-tree, head-undo, head-other, four_bytes}
 use Rattle.extensions.proofs.read_head.Goals as goal
 

@@ -1,8 +1,5 @@
-use mathlib.Core.Path.{◌≡◌, refl, sym, ◌∙◌}
-use Prim.Native.Nat.{◌≤◌, ◌-◌}
+use mathlib.Core.Path.{refl, sym, ◌∙◌}
 use native.Mathlib.Omega.{arith}
-use lib.ListN.{take, drop}
-use Rattle.format.specs.Bytes.{zeros}
 use Rattle.fields.proofs.Laws.{zeros-end, zeros-step, zeros_differ}
 use Rattle.fields.proofs.all_zero.Goals as goal
 

@@ -1,10 +1,8 @@
 -- The proof that `all_zero` meets its contract. The loop keeps whether the rest is zero.
-use mathlib.Core.Path.{◌≡◌, refl, sym, ◌∙◌}
+use mathlib.Core.Path.{◌≡◌}
 use Prim.Native.Nat.{◌≤◌, ◌-◌}
-use native.Mathlib.Omega.{arith}
 use lib.ListN.{take, drop}
 use Rattle.format.specs.Bytes.{zeros}
-use Rattle.fields.proofs.Laws.{zeros-end, zeros-step, zeros_differ}
 use Rattle.fields.proofs.all_zero.Given as goal
 
 abbrev pub invariant-loop-i : goal.invariant-loop-i

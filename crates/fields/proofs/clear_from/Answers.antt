@@ -1,8 +1,7 @@
 use mathlib.Core.Path.{◌≡◌, refl, ◌∙◌}
-use Prim.Native.Nat.{◌≤◌, ◌-◌}
+use Prim.Native.Nat.{◌≤◌}
 use native.Mathlib.Omega.{arith}
-use lib.ListN.{length, replicate, length-set}
-use lib.Seq.{paste}
+use lib.ListN.{length, length-set}
 use Rattle.fields.proofs.Laws.{fill_none, fill_step, fill-all}
 use Rattle.fields.proofs.clear_from.Goals as goal
 

@@ -1,10 +1,8 @@
 -- The proof that `clear_from` meets its contract. Before place i the workspace is zero from n on.
-use mathlib.Core.Path.{◌≡◌, refl, ◌∙◌}
+use mathlib.Core.Path.{◌≡◌}
 use Prim.Native.Nat.{◌≤◌, ◌-◌}
-use native.Mathlib.Omega.{arith}
-use lib.ListN.{length, replicate, length-set}
+use lib.ListN.{length, replicate}
 use lib.Seq.{paste}
-use Rattle.fields.proofs.Laws.{fill_none, fill_step, fill-all}
 use Rattle.fields.proofs.clear_from.Given as goal
 
 abbrev pub invariant-loop-i : goal.invariant-loop-i

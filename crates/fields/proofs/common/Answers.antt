@@ -1,10 +1,8 @@
 use mathlib.Core.Path.{◌≡◌}
-use Prim.Native.Nat.{◌+◌, ◌≤◌, ◌-◌, ◌<◌}
+use Prim.Native.Nat.{◌≤◌, ◌<◌}
 use native.Mathlib.Omega.{arith}
-use lib.ListN.{length, drop}
-use Rattle.format.specs.Names.{common}
+use lib.ListN.{length}
 use Rattle.fields.proofs.Laws.{common-step, common-differ, common-out}
-use borrow.Author.Rules.{rules}
 use Rattle.fields.proofs.common.Goals as goal
 
 pub common_words-i-requires : goal.common_words-i-requires

@@ -1,11 +1,8 @@
 -- The proof that `common` meets its contract. The words and the loop keep the whole count.
 use mathlib.Core.Path.{◌≡◌}
 use Prim.Native.Nat.{◌+◌, ◌≤◌, ◌-◌, ◌<◌}
-use native.Mathlib.Omega.{arith}
 use lib.ListN.{length, drop}
 use Rattle.format.specs.Names.{common}
-use Rattle.fields.proofs.Laws.{common-step, common-differ, common-out}
-use borrow.Author.Rules.{rules}
 use Rattle.fields.proofs.common.Given as goal
 
 abbrev pub invariant-loop-i : goal.invariant-loop-i

@@ -1,9 +1,6 @@
 use mathlib.Core.Path.{◌≡◌}
-use Prim.Native.Nat.{◌+◌, ◌≤◌, ◌-◌}
 use native.Mathlib.Omega.{arith}
-use lib.ListN.{drop}
 use Rattle.format.specs.Bytes.{Bytes}
-use Rattle.format.specs.Names.{common}
 use Rattle.fields.specs.Words.{little}
 use Rattle.fields.proofs.Laws.{common-many}
 use Rattle.fields.proofs.common_words.Goals as goal

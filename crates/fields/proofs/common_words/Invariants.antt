@@ -1,12 +1,8 @@
 -- The proof that `common_words` meets its contract. The loop keeps the whole count.
 use mathlib.Core.Path.{◌≡◌}
 use Prim.Native.Nat.{◌+◌, ◌≤◌, ◌-◌}
-use native.Mathlib.Omega.{arith}
 use lib.ListN.{drop}
-use Rattle.format.specs.Bytes.{Bytes}
 use Rattle.format.specs.Names.{common}
-use Rattle.fields.specs.Words.{little}
-use Rattle.fields.proofs.Laws.{common-many}
 use Rattle.fields.proofs.common_words.Given as goal
 
 abbrev pub invariant-loop-i : goal.invariant-loop-i

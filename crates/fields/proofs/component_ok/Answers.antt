@@ -1,6 +1,5 @@
 -- The proof that `component_ok` meets its contract.
 use mathlib.Core.Path.{sym, ◌∙◌}
-use borrow.Author.Rules.{rules}
 use Rattle.format.specs.Names.{ok_component}
 use Rattle.fields.proofs.Laws.{long-component}
 use Rattle.fields.proofs.component_ok.Goals as goal

@@ -1,8 +1,5 @@
-use mathlib.Core.Path.{◌≡◌, refl}
-use Prim.Native.Nat.{◌+◌, ◌≤◌, ◌-◌}
+use mathlib.Core.Path.{refl}
 use native.Mathlib.Omega.{arith}
-use lib.ListN.{length, drop}
-use Rattle.format.specs.Bytes.{before}
 use Rattle.fields.proofs.Laws.{before-end, before_here, before-later}
 use Rattle.fields.proofs.find.Goals as goal
 

@@ -1,10 +1,8 @@
 -- The proof that `find` meets its contract. The loop keeps the place that the search answers.
-use mathlib.Core.Path.{◌≡◌, refl}
+use mathlib.Core.Path.{◌≡◌}
 use Prim.Native.Nat.{◌+◌, ◌≤◌, ◌-◌}
-use native.Mathlib.Omega.{arith}
 use lib.ListN.{length, drop}
 use Rattle.format.specs.Bytes.{before}
-use Rattle.fields.proofs.Laws.{before-end, before_here, before-later}
 use Rattle.fields.proofs.find.Given as goal
 
 abbrev pub invariant-loop-i : goal.invariant-loop-i

@@ -1,6 +1,5 @@
 -- The proof that `half` meets its contract.
 use native.Mathlib.Omega.{arith}
-use borrow.Author.Rules.{rules}
 use Rattle.fields.specs.Words.{little}
 use Rattle.fields.proofs.Laws.{little-four}
 use Rattle.fields.proofs.half.Goals as goal

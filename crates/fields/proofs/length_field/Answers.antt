@@ -1,7 +1,6 @@
 -- The proof that `length_field` meets its contract.
 use native.Mathlib.Omega.{arith}
 use Rattle.format.specs.Names.{length_field}
-use borrow.Author.Rules.{rules}
 use Rattle.fields.proofs.length_field.Goals as goal
 
 pub returns-then-n-lt4095 : goal.returns-then-n-lt4095

@@ -1,9 +1,6 @@
-use mathlib.Core.Bool.{true}
 use mathlib.Core.Path.{◌≡◌, refl, ◌∙◌}
-use Prim.Native.Nat.{◌+◌, ◌-◌, ◌≤◌}
+use Prim.Native.Nat.{◌+◌, ◌-◌}
 use native.Mathlib.Omega.{arith}
-use lib.ListN.{take, drop}
-use Rattle.format.specs.Bytes.{lacks}
 use Rattle.fields.proofs.Laws.{lacks-end, lacks-step, look-slash, look-part}
 use Rattle.fields.proofs.look_from.Goals as goal
 

@@ -1,11 +1,9 @@
 -- The proof that `look_from` meets its contract. The loop keeps how many bytes it has passed, and that none of them is a slash.
 use mathlib.Core.Bool.{true}
-use mathlib.Core.Path.{◌≡◌, refl, ◌∙◌}
+use mathlib.Core.Path.{◌≡◌}
 use Prim.Native.Nat.{◌+◌, ◌-◌, ◌≤◌}
-use native.Mathlib.Omega.{arith}
 use lib.ListN.{take, drop}
 use Rattle.format.specs.Bytes.{lacks}
-use Rattle.fields.proofs.Laws.{lacks-end, lacks-step, look-slash, look-part}
 use Rattle.fields.proofs.look_from.Given as goal
 
 abbrev pub invariant-loop-left : goal.invariant-loop-left

@@ -1,16 +1,13 @@
-use mathlib.Core.Logic.{⊎_elim}
 use mathlib.Core.Bool.{true, false}
 use mathlib.Core.Path.{◌≡◌, refl, sym, ◌∙◌}
-use mathlib.Core.List.{[]}
 use Prim.Native.Nat.{◌≤◌, ◌-◌, zero-le}
 use native.Mathlib.Omega.{arith}
 use native.Mathlib.Nat.{sub_self}
-use borrow.Author.Rules.{rules}
 use lib.ListN.{length, take, drop}
 use Rattle.format.specs.Names.{ok_component}
 use Rattle.format_laws.proofs.Lists.{part-more}
 use Rattle.format_laws.proofs.Names.{ok_name-over}
-use Rattle.fields.proofs.Laws.{ok_rest, ok_rest-end, ok_rest-nul, ok_rest-slash, ok_rest-other, ok_name-in}
+use Rattle.fields.proofs.Laws.{ok_rest-end, ok_rest-nul, ok_rest-slash, ok_rest-other, ok_name-in}
 use Rattle.fields.proofs.name_ok.Goals as goal
 use Rattle.fields.proofs.name_ok.Goals.{then-s-e-eq47+then-component_ok, else-s-e-eq47}
 
@@ -36,13 +33,13 @@ loop-e-preserved c =
     let s = c.args.s.now in
     let e = c.loop-e.e in
     elim c.if-s-e-eq47.branch [
-      then-s-e-eq47+then-component_ok w ↦
-        let good : ok_component (take (e - c.loop-e.at) (drop c.loop-e.at s)) ≡ true = sym w.component_ok.ensures ∙ w.if-component_ok.true in (
-          omega arith,
-          omega arith,
-          rw (w.at-is, sub_self) (c.loop-e.invariant.2 ∙ rw (ok_rest-slash _ s e c.loop-e-test.true w.if-s-e-eq47.true, good)),
-        )
-    | else-s-e-eq47 w ↦ (
+      | then-s-e-eq47+then-component_ok w ↦
+          let good : ok_component (take (e - c.loop-e.at) (drop c.loop-e.at s)) ≡ true = sym w.component_ok.ensures ∙ w.if-component_ok.true in (
+            omega arith,
+            omega arith,
+            rw (w.at-is, sub_self) (c.loop-e.invariant.2 ∙ rw (ok_rest-slash _ s e c.loop-e-test.true w.if-s-e-eq47.true, good)),
+          )
+      | else-s-e-eq47 w ↦ (
         omega arith,
         omega arith,
         rw (w.at-is, part-more s c.loop-e.at e c.loop-e.invariant.0 c.loop-e-test.true)

@@ -1,17 +1,9 @@
 -- The proof that `name_ok` meets its contract. The loop keeps whether the rest of the name is sound, given what was read of its component.
-use mathlib.Core.Logic.{⊎_elim}
-use mathlib.Core.Bool.{true, false}
-use mathlib.Core.Path.{◌≡◌, refl, sym, ◌∙◌}
+use mathlib.Core.Path.{◌≡◌}
 use mathlib.Core.List.{[]}
-use Prim.Native.Nat.{◌≤◌, ◌-◌, zero-le}
-use native.Mathlib.Omega.{arith}
-use native.Mathlib.Nat.{sub_self}
-use borrow.Author.Rules.{rules}
+use Prim.Native.Nat.{◌≤◌, ◌-◌}
 use lib.ListN.{length, take, drop}
-use Rattle.format.specs.Names.{ok_component}
-use Rattle.format_laws.proofs.Lists.{part-more}
-use Rattle.format_laws.proofs.Names.{ok_name-over}
-use Rattle.fields.proofs.Laws.{ok_rest, ok_rest-end, ok_rest-nul, ok_rest-slash, ok_rest-other, ok_name-in}
+use Rattle.fields.proofs.Laws.{ok_rest}
 use Rattle.fields.proofs.name_ok.Given as goal
 
 abbrev pub invariant-loop-e : goal.invariant-loop-e

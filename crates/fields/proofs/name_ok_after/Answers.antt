@@ -4,7 +4,6 @@ use Prim.Native.Nat.{◌-◌}
 use native.Mathlib.Omega.{arith}
 use lib.ListN.{length, take, drop, length-drop}
 use lib.Seq.{take_all}
-use borrow.Author.Rules.{rules}
 use Rattle.format.specs.Names.{ok_name}
 use Rattle.format_laws.proofs.Names.{ok_name-over}
 use Rattle.fields.proofs.name_ok_after.Goals as goal

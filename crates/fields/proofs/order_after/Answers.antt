@@ -3,7 +3,6 @@ use mathlib.Core.Path.{sym, ◌∙◌}
 use Prim.Native.Nat.{◌<◌}
 use native.Mathlib.Omega.{arith}
 use lib.ListN.{get_or}
-use borrow.Author.Rules.{rules}
 use Rattle.format_laws.proofs.Names.{compare-rest, common-ends}
 use Rattle.fields.proofs.Laws.{compare-short, compare-long, compare-end, compare-below, compare-above}
 use Rattle.fields.proofs.order_after.Goals as goal

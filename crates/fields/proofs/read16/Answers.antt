@@ -1,6 +1,5 @@
 -- The proof that `read16` meets its contract.
 use native.Mathlib.Omega.{arith}
-use borrow.Author.Rules.{rules}
 use Rattle.format.specs.Bytes.{be16}
 use Rattle.fields.proofs.read16.Goals as goal
 

@@ -1,6 +1,5 @@
 -- The proof that `read32` meets its contract.
 use native.Mathlib.Omega.{arith}
-use borrow.Author.Rules.{rules}
 use Rattle.format.specs.Bytes.{be32}
 use Rattle.fields.proofs.read32.Goals as goal
 

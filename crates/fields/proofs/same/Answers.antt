@@ -1,8 +1,6 @@
-use mathlib.Core.Path.{◌≡◌, refl, sym, ◌∙◌}
-use Prim.Native.Nat.{◌≤◌, ◌-◌, zero-le}
+use mathlib.Core.Path.{refl, sym, ◌∙◌}
+use Prim.Native.Nat.{zero-le}
 use native.Mathlib.Omega.{arith}
-use lib.ListN.{length, drop}
-use Rattle.format.specs.Bytes.{eq_list}
 use Rattle.fields.proofs.Laws.{eq_list-step, eq_list-differ, eq_list-short, eq_list-tail}
 use Rattle.fields.proofs.same.Goals as goal
 

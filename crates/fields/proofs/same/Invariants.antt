@@ -1,10 +1,8 @@
 -- The proof that `same` meets its contract. The loop keeps whether the rests are equal.
-use mathlib.Core.Path.{◌≡◌, refl, sym, ◌∙◌}
-use Prim.Native.Nat.{◌≤◌, ◌-◌, zero-le}
-use native.Mathlib.Omega.{arith}
+use mathlib.Core.Path.{◌≡◌}
+use Prim.Native.Nat.{◌≤◌, ◌-◌}
 use lib.ListN.{length, drop}
 use Rattle.format.specs.Bytes.{eq_list}
-use Rattle.fields.proofs.Laws.{eq_list-step, eq_list-differ, eq_list-short, eq_list-tail}
 use Rattle.fields.proofs.same.Given as goal
 
 abbrev pub invariant-loop-i : goal.invariant-loop-i

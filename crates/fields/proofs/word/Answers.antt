@@ -1,6 +1,5 @@
 -- The proof that `word` meets its contract.
 use native.Mathlib.Omega.{arith}
-use borrow.Author.Rules.{rules}
 use Rattle.fields.proofs.Laws.{little-four}
 use Rattle.fields.proofs.word.Goals as goal
 

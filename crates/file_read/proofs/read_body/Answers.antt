@@ -3,17 +3,15 @@ use mathlib.Core.Path.{sym, ◌∙◌}
 use native.Mathlib.Omega.{arith}
 use Rattle.fields.proofs.Workspace.{frame_then}
 use Rattle.file_read.proofs.Bodies.{body-no-entries, body_refused, body-accepted}
-use borrow.Author.Rules.{rules}
 use Rattle.file_read.proofs.read_body.Goals as goal
 
 pub read_extensions-read-requires : goal.read_extensions-read-requires
-read_extensions-read-requires c =
-    (
-      rw c.in-Good.is at c.run_entries-run.ensures.inside,
-      record { least = c.requires.0.least; most = c.requires.0.most; room = omega (arith, c.requires.0.room, c.run_entries-run.ensures.frame) },
-      omega arith,
-      omega arith,
-    )
+read_extensions-read-requires c = (
+  rw c.in-Good.is at c.run_entries-run.ensures.inside,
+  record { least = c.requires.0.least; most = c.requires.0.most; room = omega (arith, c.requires.0.room, c.run_entries-run.ensures.frame) },
+  omega arith,
+  omega arith,
+)
 
 pub returns-in-Bad : goal.returns-in-Bad
 returns-in-Bad c =

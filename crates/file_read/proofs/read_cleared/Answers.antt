@@ -3,7 +3,6 @@ use mathlib.Core.Path.{sym}
 use Rattle.kinds.specs.Kinds.{read_kind}
 use Rattle.answers.proofs.Laws.{cleared-small}
 use Rattle.file_read.proofs.Room.{cleared_by, in-room, no_room}
-use borrow.Author.Rules.{rules}
 use Rattle.file_read.proofs.read_cleared.Goals as goal
 
 pub returns-then-work-lt-LONGEST : goal.returns-then-work-lt-LONGEST

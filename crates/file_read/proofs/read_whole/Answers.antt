@@ -6,10 +6,8 @@ use Rattle.fields.proofs.Workspace.{frame_same}
 use Rattle.format.specs.Reader.{read_file}
 use Rattle.kinds.specs.Kinds.{width_of, hash_of, read_kind}
 use Rattle.kinds.proofs.Laws.{width-most, known-file, unknown-file}
-use borrow.Author.Tests.{not-true, not-false}
 use Rattle.file_read.specs.Header.{Opened}
 use Rattle.file_read.proofs.Room.{body-room}
-use borrow.Author.Rules.{rules}
 use Rattle.file_read.proofs.read_whole.Goals as goal
 use Rattle.file_read.proofs.read_whole.Goals.{After-is_known, Else-not-is_known, In-Good}
 

@@ -4,7 +4,6 @@ use native.Mathlib.Omega.{arith}
 use native.Mathlib.Nat.{sub-zero}
 use lib.ListN.{length}
 use lib.Seq.{length-take-le}
-use borrow.Author.Rules.{rules}
 use Rattle.file_write.proofs.append_checksum.Goals as goal
 
 pub slice_bounds-digest_of-end-2 : goal.slice_bounds-digest_of-end-2

@@ -1,7 +1,6 @@
 -- The proof that `measure` meets its contract.
 use mathlib.Core.Path.{◌∙◌}
 use native.Mathlib.Omega.{arith}
-use borrow.Author.Rules.{rules}
 use Rattle.file_write.proofs.measure.Goals as goal
 
 pub returns : goal.returns

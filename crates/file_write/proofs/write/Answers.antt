@@ -12,7 +12,6 @@ use Rattle.kinds.proofs.Laws.{length-hash}
 use Rattle.entries.specs.Record.{entry_with}
 use Rattle.file_write.specs.Results.{Measured}
 use Rattle.file_write.proofs.Files.{file-worded, file-long-refused, file-small-refused, same_size, file-done}
-use borrow.Author.Rules.{rules}
 use Rattle.file_write.proofs.write.Goals as goal
 use Rattle.file_write.proofs.write.Goals.{After-measure-sized, After-put_body-written, Else-is_barred, Start}
 

@@ -1,11 +1,7 @@
 -- `hash::absorb` meets its contract. The loop's invariant: s is the state after i blocks. Assumes nothing.
-use mathlib.Core.Path.{◌≡◌, refl, ◌∙◌}
-use Prim.Native.Nat.{◌-◌, ◌/◌, ◌≤◌}
-use native.Mathlib.Omega.{arith}
-use lib.ListN.{length}
-use Rattle.hash_words.proofs.Blocks.{absorb-next}
+use mathlib.Core.Path.{◌≡◌}
+use Prim.Native.Nat.{◌-◌, ◌≤◌}
 use Rattle.hash.specs.Sha1.{absorb}
-use Rattle.hash.proofs.Blocks.{absorbs}
 use Rattle.hash.proofs.absorb.Given as goal
 
 abbrev pub invariant-loop-i : goal.invariant-loop-i

@@ -1,6 +1,5 @@
 -- `hash::block` meets its contract: what each five rounds ensure is what the next ask, from the block itself as the window. Assumes nothing.
 use mathlib.Core.Path.{refl, ap, ◌∙◌}
-use borrow.Author.Rules.{rules}
 use Rattle.hash_words.proofs.Words.{length-words}
 use Rattle.hash_words.specs.Words.{words}
 use Rattle.hash.specs.Sha1.{rounds, block, chain}

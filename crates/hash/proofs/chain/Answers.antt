@@ -1,5 +1,4 @@
 -- `hash::chain` meets its contract, field by field. Assumes nothing.
-use borrow.Author.Rules.{rules}
 use Rattle.hash.specs.Sha1.{chain}
 use Rattle.hash.proofs.chain.Goals as goal
 

@@ -1,5 +1,4 @@
 -- `hash::digest` meets its contract: the five stores fill the array. Assumes nothing.
-use borrow.Author.Rules.{rules}
 use Rattle.hash_words.specs.Words.{bytes4}
 use Rattle.hash.specs.Sha1.{digest}
 use Rattle.hash.proofs.digest.Goals as goal

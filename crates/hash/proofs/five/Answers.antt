@@ -1,5 +1,4 @@
 -- `hash::five` meets its contract: what each round ensures is what the next asks. Assumes nothing.
-use borrow.Author.Rules.{rules}
 use Rattle.hash.proofs.Schedule.{plus}
 use Rattle.hash.proofs.five.Goals as goal
 

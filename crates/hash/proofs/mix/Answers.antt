@@ -1,6 +1,5 @@
 -- `hash::mix` meets its contract, quarter by quarter. Assumes nothing.
 use mathlib.Core.Path.{◌∙◌}
-use borrow.Author.Rules.{rules}
 use Rattle.hash.specs.Sha1.{f}
 use Rattle.hash.proofs.Quarters.{in-first, in-second, in-third, in-fourth}
 use Rattle.hash.proofs.mix.Goals as goal

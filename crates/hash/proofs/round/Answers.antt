@@ -1,5 +1,4 @@
 -- `hash::round` meets its contract: a step with the word of the schedule. Assumes nothing.
-use borrow.Author.Rules.{rules}
 use Rattle.hash.proofs.Schedule.{turned}
 use Rattle.hash.proofs.round.Goals as goal
 

@@ -1,6 +1,5 @@
 -- `hash::sha1` meets its contract. Assumes nothing.
 use mathlib.Core.Path.{◌∙◌}
-use borrow.Author.Rules.{rules}
 use Rattle.hash.proofs.Blocks.{finish-whole}
 use Rattle.hash.proofs.sha1.Goals as goal
 

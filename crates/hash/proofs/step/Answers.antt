@@ -1,5 +1,4 @@
 -- `hash::step` meets its contract, field by field. Assumes nothing.
-use borrow.Author.Rules.{rules}
 use Rattle.hash.specs.Sha1.{round}
 use Rattle.hash.proofs.step.Goals as goal
 

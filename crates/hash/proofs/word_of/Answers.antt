@@ -1,6 +1,5 @@
 -- `hash::word_of` meets its contract: before round 16 the word is in the window, from then on it is made of four words there. Assumes nothing.
 use native.Mathlib.Omega.{arith}
-use borrow.Author.Rules.{rules}
 use Rattle.hash_words.proofs.Schedule.{word_held}
 use Rattle.hash.proofs.Schedule.{word_made}
 use Rattle.hash.proofs.word_of.Goals as goal

@@ -1,5 +1,4 @@
-use Rattle.std.proofs.Common.{◌≡◌, ◌-◌, ◌≤◌, take, refl, ◌∙◌, arith, take_all}
-use lib.Seq.{sets}
+use Rattle.std.proofs.Common.{refl, ◌∙◌, arith, take_all}
 use Rattle.hash_words.proofs.Copying.{sets-next}
 use Rattle.hash_words.proofs.fill.Goals as goal
 

@@ -1,7 +1,6 @@
 -- `hash_words::fill` meets its contract. The loop's invariant: the first i bytes are stored. Assumes nothing.
-use Rattle.std.proofs.Common.{◌≡◌, ◌-◌, ◌≤◌, take, refl, ◌∙◌, arith, take_all}
+use Rattle.std.proofs.Common.{◌≡◌, ◌-◌, ◌≤◌, take}
 use lib.Seq.{sets}
-use Rattle.hash_words.proofs.Copying.{sets-next}
 use Rattle.hash_words.proofs.fill.Given as goal
 
 abbrev pub invariant-loop-i : goal.invariant-loop-i

@@ -1,4 +1,4 @@
-use Rattle.std.proofs.Common.{◌≡◌, ◌-◌, ◌≤◌, ◌++◌, take, drop, replicate, sym, refl, ◌∙◌, append-nil, arith}
+use Rattle.std.proofs.Common.{◌≡◌, replicate, sym, refl, ◌∙◌, append-nil, arith}
 use Rattle.hash_words.specs.Words.{words}
 use Rattle.hash_words.proofs.Copying.{copy-next, copy_done}
 use Rattle.hash_words.proofs.Words.{length-words, get_d_words}

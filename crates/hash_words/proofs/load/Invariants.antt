@@ -1,8 +1,6 @@
 -- `hash_words::load` meets its contract. The loop's invariant: the first i words are the block's. Assumes nothing.
-use Rattle.std.proofs.Common.{◌≡◌, ◌-◌, ◌≤◌, ◌++◌, take, drop, replicate, sym, refl, ◌∙◌, append-nil, arith}
+use Rattle.std.proofs.Common.{◌≡◌, ◌-◌, ◌≤◌, ◌++◌, take, drop, replicate}
 use Rattle.hash_words.specs.Words.{words}
-use Rattle.hash_words.proofs.Copying.{copy-next, copy_done}
-use Rattle.hash_words.proofs.Words.{length-words, get_d_words}
 use Rattle.hash_words.proofs.load.Given as goal
 
 abbrev pub invariant-loop-i : goal.invariant-loop-i

@@ -1,5 +1,5 @@
 -- `hash_words::put_length` meets its contract: the two words of the bit count are one run of eight bytes. Assumes nothing.
-use Rattle.std.proofs.Common.{◌*◌, rules}
+use Rattle.std.proofs.Common.{◌*◌}
 use Rattle.hash_words.proofs.Padding.{put-words}
 use Rattle.hash_words.proofs.put_length.Goals as goal
 

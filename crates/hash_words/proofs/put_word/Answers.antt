@@ -1,6 +1,6 @@
 -- `hash_words::put_word` meets its contract: its four stores are the run of the word's four bytes. Assumes nothing.
 use native.Mathlib.Numerals.{towards_suc}
-use Rattle.std.proofs.Common.{arith, length-set, rules}
+use Rattle.std.proofs.Common.{arith, length-set}
 use Rattle.hash_words.specs.Words.{bytes4}
 use Rattle.hash_words.proofs.put_word.Goals as goal
 

@@ -1,4 +1,4 @@
-use Rattle.std.proofs.Common.{◌≡◌, ℕ, ◌+◌, ◌-◌, ◌*◌, ◌/◌, ◌%◌, ◌≤◌, ◌++◌, length, take, drop, replicate, sym, refl, ◌∙◌, arith, length-drop, length-set, get_or-drop}
+use Rattle.std.proofs.Common.{◌≡◌, ℕ, ◌+◌, ◌-◌, ◌*◌, ◌/◌, ◌%◌, ◌≤◌, length, drop, replicate, sym, refl, ◌∙◌, arith, length-drop, length-set, get_or-drop}
 use Rattle.hash_words.proofs.Copying.{copy-next, copy_done}
 use Rattle.hash_words.proofs.Padding.{tail-right}
 use Rattle.hash_words.proofs.tail.Goals as goal

@@ -1,7 +1,5 @@
 -- `hash_words::tail` meets its contract. The loop's invariant: the first i bytes are the message's, the others zero. Assumes nothing.
-use Rattle.std.proofs.Common.{◌≡◌, ℕ, ◌+◌, ◌-◌, ◌*◌, ◌/◌, ◌%◌, ◌≤◌, ◌++◌, length, take, drop, replicate, sym, refl, ◌∙◌, ⊎_elim, arith, length-drop, length-set, get_or-drop}
-use Rattle.hash_words.proofs.Copying.{copy-next, copy_done}
-use Rattle.hash_words.proofs.Padding.{tail-right}
+use Rattle.std.proofs.Common.{◌≡◌, ◌-◌, ◌≤◌, ◌++◌, length, take, drop, replicate}
 use Rattle.hash_words.proofs.tail.Given as goal
 
 abbrev pub invariant-loop-i : goal.invariant-loop-i

@@ -6,7 +6,6 @@ use Rattle.answers.specs.Answers.{in_room}
 use Rattle.file_read.specs.Contents.{Contains}
 use Rattle.index.proofs.Views.{check-is}
 use Rattle.index.proofs.Summaries.{check-says}
-use borrow.Author.Rules.{rules}
 use Rattle.index.proofs.check.Goals as goal
 use Rattle.index.proofs.check.Goals.{In-Good}
 

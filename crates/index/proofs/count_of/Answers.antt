@@ -1,5 +1,4 @@
 -- The proof that `count_of` meets its contract.
-use borrow.Author.Rules.{rules}
 use Rattle.index.proofs.count_of.Goals as goal
 
 pub returns-then-there : goal.returns-then-there

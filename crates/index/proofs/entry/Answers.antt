@@ -11,7 +11,6 @@ use Rattle.answers.proofs.Laws.{item-none}
 use Rattle.index.proofs.Views.{pick-none, entry_is, entry-refused}
 use Rattle.index.proofs.Places.{name-place}
 use Rattle.index.proofs.Entries.{shown-again}
-use borrow.Author.Rules.{rules}
 use Rattle.index.proofs.entry.Goals as goal
 use Rattle.index.proofs.entry.Goals.{In-Good}
 

@@ -1,5 +1,4 @@
 -- The proof that `node_object` meets its contract.
-use borrow.Author.Rules.{rules}
 use Rattle.index.proofs.node_object.Goals as goal
 
 pub object_at-requires : goal.object_at-requires

@@ -11,7 +11,6 @@ use Rattle.entries_run.specs.Steps.{EntryPlaced}
 use Rattle.file_read.proofs.Room.{cleared_by, file-long}
 use Rattle.index.proofs.Views.{pick-none, entry-refused}
 use Rattle.index.proofs.Entries.{shown-file, shown-work}
-use borrow.Author.Rules.{rules}
 use Rattle.index.proofs.show_entry.Goals as goal
 use Rattle.index.proofs.show_entry.Goals.{After-slice_known-2-1, After-work-1, In-Good}
 

@@ -7,7 +7,6 @@ use lib.ListN.{length}
 use Rattle.extensions.specs.Heads.{part}
 use Rattle.index.proofs.Views.{node-refused}
 use Rattle.index.proofs.Nodes.{Within, item-here, within, no-node-there, node-there, node-parts, places, node-shows}
-use borrow.Author.Rules.{rules}
 use Rattle.index.proofs.show_node.Goals as goal
 use Rattle.index.proofs.show_node.Goals.{Else-tree-k, In-Good}
 

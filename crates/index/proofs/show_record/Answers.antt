@@ -2,7 +2,6 @@
 use native.Mathlib.Omega.{arith}
 use Rattle.index.proofs.Views.{undo-refused}
 use Rattle.index.proofs.Records.{Within, record-here, within, no-record-there, undo-shows}
-use borrow.Author.Rules.{rules}
 use Rattle.index.proofs.show_record.Goals as goal
 use Rattle.index.proofs.show_record.Goals.{Else-undo-k}
 

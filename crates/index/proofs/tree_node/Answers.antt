@@ -6,7 +6,6 @@ use Rattle.answers.specs.Answers.{in_room}
 use Rattle.file_read.specs.Contents.{Contains}
 use Rattle.index.proofs.Views.{node-is, node-refused}
 use Rattle.index.proofs.Places.{node-place}
-use borrow.Author.Rules.{rules}
 use Rattle.index.proofs.tree_node.Goals as goal
 use Rattle.index.proofs.tree_node.Goals.{In-Good}
 

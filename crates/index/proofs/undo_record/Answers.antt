@@ -7,7 +7,6 @@ use Rattle.answers.specs.Answers.{in_room}
 use Rattle.file_read.specs.Contents.{Contains}
 use Rattle.index.proofs.Views.{undo_is, undo-refused}
 use Rattle.index.proofs.Places.{undo-place}
-use borrow.Author.Rules.{rules}
 use Rattle.index.proofs.undo_record.Goals as goal
 use Rattle.index.proofs.undo_record.Goals.{In-Good}
 

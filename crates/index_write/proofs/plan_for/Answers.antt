@@ -1,7 +1,6 @@
 -- The proof that `plan_for` meets its contract.
 use Rattle.fields.proofs.Workspace.{frame_same}
 use Rattle.index_write.proofs.Plans.{plan-keep}
-use borrow.Author.Rules.{rules}
 use Rattle.index_write.proofs.plan_for.Goals as goal
 
 pub returns-in-Rewrite : goal.returns-in-Rewrite

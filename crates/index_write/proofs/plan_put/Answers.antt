@@ -7,7 +7,6 @@ use lib.Seq.{length-take-le}
 use Rattle.fields.proofs.Workspace.{frame_same}
 use Rattle.index_write.proofs.Files.{long-in, room_in, entries-in}
 use Rattle.index_write.proofs.Plans.{plan-unsound, plan-mixed, plan-put}
-use borrow.Author.Rules.{rules}
 use Rattle.index_write.proofs.plan_put.Goals as goal
 
 pub returns-then-refusal-gt0 : goal.returns-then-refusal-gt0

@@ -6,7 +6,6 @@ use lib.ListN.{length}
 use lib.Seq.{length-take-le}
 use Rattle.index_write.proofs.Files.{long-in, room_in, entries-in}
 use Rattle.index_write.proofs.Plans.{plan-absent, plan-remove}
-use borrow.Author.Rules.{rules}
 use Rattle.index_write.proofs.plan_remove.Goals as goal
 
 pub overflow_sub-n : goal.overflow_sub-n

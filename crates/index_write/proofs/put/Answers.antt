@@ -7,7 +7,6 @@ use Rattle.kinds.proofs.Laws.{width-most}
 use Rattle.entries.specs.Record.{entry_with}
 use Rattle.answers.specs.Writing.{put_answer}
 use Rattle.demands.proofs.Written.{put_in}
-use borrow.Author.Rules.{rules}
 use Rattle.index_write.proofs.put.Goals as goal
 
 pub returns : goal.returns

@@ -2,7 +2,6 @@
 use mathlib.Core.Path.{sym, ◌∙◌}
 use borrow.Author.Tests.{lt-ltb, le-ltb}
 use Rattle.index_write.specs.Calls.{record_number}
-use borrow.Author.Rules.{rules}
 use Rattle.index_write.proofs.record_number.Goals as goal
 
 pub returns-then-name_ok : goal.returns-then-name_ok

@@ -2,7 +2,6 @@
 use native.Mathlib.Omega.{arith}
 use Rattle.answers.specs.Writing.{remove_answer}
 use Rattle.demands.proofs.Written.{removed}
-use borrow.Author.Rules.{rules}
 use Rattle.index_write.proofs.remove.Goals as goal
 
 pub save-requires : goal.save-requires

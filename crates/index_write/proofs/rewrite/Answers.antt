@@ -2,7 +2,6 @@
 use native.Mathlib.Omega.{arith}
 use Rattle.answers.specs.Writing.{rewrite_answer}
 use Rattle.demands.proofs.Written.{rewritten}
-use borrow.Author.Rules.{rules}
 use Rattle.index_write.proofs.rewrite.Goals as goal
 
 pub save-requires : goal.save-requires

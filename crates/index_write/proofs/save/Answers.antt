@@ -4,7 +4,6 @@ use Rattle.kinds.specs.Kinds.{width_of, read_kind}
 use Rattle.answers.specs.Answers.{in_room}
 use Rattle.file_read.specs.Contents.{Contains}
 use Rattle.index_write.proofs.Answers.{call-refused, call-opened, call-answered}
-use borrow.Author.Rules.{rules}
 use Rattle.index_write.proofs.save.Goals as goal
 use Rattle.index_write.proofs.save.Goals.{In-Good}
 

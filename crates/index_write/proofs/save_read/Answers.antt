@@ -5,7 +5,6 @@ use Rattle.answers.proofs.Laws.{cleared-same}
 use Rattle.file_read.proofs.Room.{cleared_by}
 use Rattle.index_write.proofs.Answers.{writes-bad, writes_as}
 use Rattle.index_write.proofs.Plans.{request-refused}
-use borrow.Author.Rules.{rules}
 use Rattle.index_write.proofs.save_read.Goals as goal
 
 pub returns-in-Refused : goal.returns-in-Refused

@@ -1,7 +1,6 @@
 -- The proof that `typed` meets its contract.
 use mathlib.Core.List.{[], ◌∷◌}
 use Rattle.index_write.proofs.Answers.{fit_append}
-use borrow.Author.Rules.{rules}
 use Rattle.index_write.proofs.typed.Goals as goal
 
 pub returns : goal.returns

@@ -7,7 +7,6 @@ use lib.Seq.{length-take-le}
 use Rattle.format.specs.Bytes.{Bytes}
 use Rattle.index_write.proofs.Files.{long-in}
 use Rattle.index_write.proofs.Answers.{edit-ready, edit-writes}
-use borrow.Author.Rules.{rules}
 use Rattle.index_write.proofs.write_edited.Goals as goal
 use Rattle.index_write.proofs.write_edited.Goals.{After-shared_slice_known-1, Start}
 

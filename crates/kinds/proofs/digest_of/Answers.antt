@@ -5,7 +5,6 @@ use lib.Seq.{take_all}
 use Rattle.sha256.specs.Sha256.{sha256}
 use Rattle.sha256.proofs.Bytes.{length-sha256}
 use Rattle.kinds.proofs.Laws.{width-sha256, width-other, hash-sha256, hash-other}
-use borrow.Author.Rules.{rules}
 use Rattle.kinds.proofs.digest_of.Goals as goal
 
 pub returns-then-kind-ne-SHA256 : goal.returns-then-kind-ne-SHA256

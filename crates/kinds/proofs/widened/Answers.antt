@@ -4,7 +4,6 @@ use mathlib.Core.Path.{◌≡◌}
 use lib.ListN.{length}
 use native.Mathlib.Omega.{arith}
 use lib.Seq.{take_at}
-use borrow.Author.Rules.{rules}
 use Rattle.kinds.proofs.widened.Goals as goal
 
 pub returns : goal.returns

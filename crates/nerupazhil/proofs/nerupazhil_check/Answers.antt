@@ -1,7 +1,6 @@
 -- The proof that `nerupazhil_check` meets its contract.
 use mathlib.Core.Path.{ap, ◌∙◌}
 use Rattle.replies.specs.Arrays.{check_reply}
-use borrow.Author.Rules.{rules}
 use Rattle.nerupazhil.proofs.nerupazhil_check.Goals as goal
 
 pub returns : goal.returns

@@ -1,7 +1,6 @@
 -- The proof that `nerupazhil_entry` meets its contract.
 use Rattle.nerupazhil.proofs.Laws.{entry-replies}
 use Rattle.kinds.proofs.Laws.{width-most}
-use borrow.Author.Rules.{rules}
 use Rattle.nerupazhil.proofs.nerupazhil_entry.Goals as goal
 
 pub returns : goal.returns

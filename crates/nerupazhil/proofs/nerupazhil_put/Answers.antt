@@ -1,6 +1,5 @@
 -- The proof that `nerupazhil_put` meets its contract.
 use Rattle.nerupazhil.proofs.Laws.{write-replies}
-use borrow.Author.Rules.{rules}
 use Rattle.nerupazhil.proofs.nerupazhil_put.Goals as goal
 
 pub returns : goal.returns

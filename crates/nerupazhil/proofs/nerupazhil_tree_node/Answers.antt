@@ -1,7 +1,6 @@
 -- The proof that `nerupazhil_tree_node` meets its contract.
 use Rattle.nerupazhil.proofs.Laws.{node-replies}
 use Rattle.kinds.proofs.Laws.{width-most}
-use borrow.Author.Rules.{rules}
 use Rattle.nerupazhil.proofs.nerupazhil_tree_node.Goals as goal
 
 pub returns : goal.returns

@@ -1,7 +1,6 @@
 -- The proof that `nerupazhil_undo_record` meets its contract.
 use Rattle.nerupazhil.proofs.Laws.{undo-replies}
 use Rattle.kinds.proofs.Laws.{width-most}
-use borrow.Author.Rules.{rules}
 use Rattle.nerupazhil.proofs.nerupazhil_undo_record.Goals as goal
 
 pub returns : goal.returns

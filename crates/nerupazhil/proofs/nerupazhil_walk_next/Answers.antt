@@ -3,7 +3,6 @@ use mathlib.Core.Path.{ap, ◌∙◌}
 use Rattle.replies.specs.Arrays.{step_reply}
 use Rattle.nerupazhil.proofs.Laws.{step-replies}
 use Rattle.kinds.proofs.Laws.{width-most}
-use borrow.Author.Rules.{rules}
 use Rattle.nerupazhil.proofs.nerupazhil_walk_next.Goals as goal
 
 pub returns : goal.returns

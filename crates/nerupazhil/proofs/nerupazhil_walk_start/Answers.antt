@@ -1,7 +1,6 @@
 -- The proof that `nerupazhil_walk_start` meets its contract.
 use mathlib.Core.Path.{ap, ◌∙◌}
 use Rattle.replies.specs.Arrays.{start_reply}
-use borrow.Author.Rules.{rules}
 use Rattle.nerupazhil.proofs.nerupazhil_walk_start.Goals as goal
 
 pub returns : goal.returns

@@ -1,5 +1,4 @@
 -- The proof that `put_16` meets its contract.
-use borrow.Author.Rules.{rules}
 use Rattle.format.specs.Bytes.{put16}
 use Rattle.output.proofs.Laws.{wrote_then}
 use Rattle.output.proofs.put_16.Goals as goal

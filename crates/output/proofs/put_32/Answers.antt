@@ -1,6 +1,5 @@
 -- The proof that `put_32` meets its contract.
 use native.Mathlib.Omega.{arith}
-use borrow.Author.Rules.{rules}
 use Rattle.format.specs.Bytes.{put16, put32}
 use Rattle.output.proofs.Laws.{wrote_then}
 use Rattle.output.proofs.put_32.Goals as goal

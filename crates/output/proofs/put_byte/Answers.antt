@@ -1,7 +1,6 @@
 -- The proof that `put_byte` meets its contract.
 use mathlib.Core.Path.{refl}
 use native.Mathlib.Omega.{arith}
-use borrow.Author.Rules.{rules}
 use Rattle.output.proofs.Laws.{wrote-past, wrote-byte}
 use Rattle.output.proofs.put_byte.Goals as goal
 

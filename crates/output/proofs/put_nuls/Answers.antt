@@ -1,9 +1,7 @@
 use mathlib.Core.Path.{◌≡◌}
-use Prim.Native.Nat.{◌+◌, ◌-◌, ◌≤◌}
+use Prim.Native.Nat.{◌+◌, ◌-◌}
 use native.Mathlib.Nat.{sub_self}
 use native.Mathlib.Omega.{arith}
-use lib.ListN.{replicate}
-use Rattle.output.specs.Output.{Wrote}
 use Rattle.output.proofs.Laws.{wrote_nothing, wrote-nul}
 use Rattle.output.proofs.put_nuls.Goals as goal
 

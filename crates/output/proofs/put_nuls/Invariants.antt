@@ -1,11 +1,8 @@
 -- The proof that `put_nuls` meets its contract. What is left to write falls.
 use mathlib.Core.Path.{◌≡◌}
 use Prim.Native.Nat.{◌+◌, ◌-◌, ◌≤◌}
-use native.Mathlib.Nat.{sub_self}
-use native.Mathlib.Omega.{arith}
 use lib.ListN.{replicate}
 use Rattle.output.specs.Output.{Wrote}
-use Rattle.output.proofs.Laws.{wrote_nothing, wrote-nul}
 use Rattle.output.proofs.put_nuls.Given as goal
 
 abbrev pub invariant-loop-left : goal.invariant-loop-left

@@ -1,5 +1,4 @@
 -- The proof that `check_reply` meets its contract.
-use borrow.Author.Rules.{rules}
 use Rattle.replies.proofs.check_reply.Goals as goal
 
 pub returns-in-Refused : goal.returns-in-Refused

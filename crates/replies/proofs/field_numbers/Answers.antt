@@ -1,5 +1,4 @@
 -- The proof that `field_numbers` meets its contract.
-use borrow.Author.Rules.{rules}
 use Rattle.replies.proofs.field_numbers.Goals as goal
 
 pub returns : goal.returns

@@ -2,7 +2,6 @@
 use mathlib.Core.List.{[], ◌∷◌}
 use Rattle.format.specs.Layout.{bit}
 use Rattle.replies.proofs.Laws.{shown-then}
-use borrow.Author.Rules.{rules}
 use Rattle.replies.proofs.node_reply.Goals as goal
 
 pub returns : goal.returns

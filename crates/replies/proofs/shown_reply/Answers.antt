@@ -1,5 +1,4 @@
 -- The proof that `shown_reply` meets its contract.
-use borrow.Author.Rules.{rules}
 use Rattle.replies.proofs.shown_reply.Goals as goal
 
 pub returns-in-Refused : goal.returns-in-Refused

@@ -1,7 +1,6 @@
 -- The proof that `undo_reply` meets its contract.
 use mathlib.Core.List.{[], ◌∷◌}
 use Rattle.replies.proofs.Laws.{shown-then}
-use borrow.Author.Rules.{rules}
 use Rattle.replies.proofs.undo_reply.Goals as goal
 
 pub returns : goal.returns

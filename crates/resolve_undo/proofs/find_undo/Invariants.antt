@@ -1,12 +1,9 @@
 -- The proof that `find_undo` meets its contract. The loop keeps where the record begins.
-use mathlib.Core.Path.{◌≡◌, sym, ◌∙◌}
+use mathlib.Core.Path.{◌≡◌}
 use mathlib.Core.List.{[]}
-use Prim.Native.Nat.{◌+◌, ◌≤◌, zero-le}
-use native.Mathlib.Omega.{arith}
+use Prim.Native.Nat.{◌+◌, ◌≤◌}
 use lib.ListN.{length, take, drop}
-use borrow.Author.Rules.{rules}
 use Rattle.format.specs.Places.{undo_start}
-use Rattle.resolve_undo.proofs.Records.{within, place-more, place_end, place-bad}
 use Rattle.resolve_undo.proofs.find_undo.Given as goal
 
 abbrev pub invariant-loop-left : goal.invariant-loop-left

@@ -1,6 +1,5 @@
 -- The proof that `mode_in` meets its contract.
 use mathlib.Core.Path.{sym, ◌∙◌}
-use borrow.Author.Rules.{rules}
 use Rattle.format.specs.Layout.{mode_text}
 use Rattle.format.specs.Reader.{mode_in}
 use Rattle.resolve_undo.proofs.mode_in.Goals as goal

@@ -1,6 +1,5 @@
 -- The proof that `path_ok` meets its contract.
 use mathlib.Core.Path.{sym, ◌∙◌}
-use borrow.Author.Rules.{rules}
 use Rattle.resolve_undo.proofs.path_ok.Goals as goal
 
 pub returns-then-name_ok : goal.returns-then-name_ok

@@ -3,7 +3,6 @@ use mathlib.Core.Path.{sym, ◌∙◌}
 use Prim.Native.Nat.{◌<◌}
 use native.Mathlib.Omega.{arith}
 use lib.ListN.{length}
-use borrow.Author.Rules.{rules}
 use Rattle.resolve_undo.proofs.Laws.{mode-none, mode-bad, mode-good}
 use Rattle.resolve_undo.proofs.read_mode.Goals as goal
 

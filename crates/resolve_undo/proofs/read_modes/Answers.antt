@@ -1,6 +1,5 @@
 -- The proof that `read_modes` meets its contract: each mode is read, and what is read after it is what is answered.
 use native.Mathlib.Omega.{arith}
-use borrow.Author.Rules.{rules}
 use Rattle.format.specs.Reader.{read_stages}
 use Rattle.resolve_undo.specs.declared.RecordRead.{RecordRead}
 use Rattle.resolve_undo.specs.Answers.{with_mode, read_modes, RestRead}

@@ -2,7 +2,6 @@
 use mathlib.Core.Path.{◌≡◌, sym}
 use Prim.Native.Nat.{◌+◌}
 use native.Mathlib.Omega.{arith}
-use borrow.Author.Rules.{rules}
 use Rattle.resolve_undo.specs.Answers.{object_length}
 use Rattle.resolve_undo.proofs.Laws.{stages-none, stages-cut, stages-some}
 use Rattle.resolve_undo.proofs.read_stages.Goals as goal

@@ -4,7 +4,6 @@ use mathlib.Core.Bool.{◌&&◌}
 use Prim.Native.Nat.{◌+◌, ◌-◌, ◌<◌}
 use native.Mathlib.Omega.{arith}
 use lib.ListN.{length, take, drop}
-use borrow.Author.Rules.{rules}
 use Rattle.format.specs.Names.{ok_name, compare, is_below}
 use Rattle.format_laws.proofs.Lists.{part_length}
 use Rattle.resolve_undo.proofs.Laws.{record-within, undo-none, undo-path, undo-rest}

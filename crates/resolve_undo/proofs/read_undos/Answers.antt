@@ -1,13 +1,8 @@
-use mathlib.Core.Path.{◌≡◌, sym, ◌∙◌}
-use mathlib.Core.List.{[]}
-use Prim.Native.Nat.{ℕ, ◌+◌, ◌≤◌, ◌-◌, zero-le}
+use mathlib.Core.Path.{sym, ◌∙◌}
+use Prim.Native.Nat.{zero-le}
 use native.Mathlib.Omega.{arith}
-use lib.ListN.{length, take, drop}
-use borrow.Author.Rules.{rules}
-use Rattle.format.specs.Reader.{read_undos}
-use Rattle.resolve_undo.specs.Answers.{records_read}
 use Rattle.resolve_undo.proofs.Laws.{record-bounds}
-use Rattle.resolve_undo.proofs.Records.{answer_from, from_start, from_end, from-bad, from-good, within}
+use Rattle.resolve_undo.proofs.Records.{from_start, from_end, from-bad, from-good, within}
 use Rattle.resolve_undo.proofs.read_undos.Goals as goal
 
 pub loop-at-init : goal.loop-at-init

@@ -1,14 +1,11 @@
 -- The proof that `read_undos` meets its contract. The loop keeps the answer that what is left of the data gives.
-use mathlib.Core.Path.{◌≡◌, sym, ◌∙◌}
+use mathlib.Core.Path.{◌≡◌}
 use mathlib.Core.List.{[]}
-use Prim.Native.Nat.{ℕ, ◌+◌, ◌≤◌, ◌-◌, zero-le}
-use native.Mathlib.Omega.{arith}
+use Prim.Native.Nat.{ℕ, ◌+◌, ◌≤◌, ◌-◌}
 use lib.ListN.{length, take, drop}
-use borrow.Author.Rules.{rules}
 use Rattle.format.specs.Reader.{read_undos}
 use Rattle.resolve_undo.specs.Answers.{records_read}
-use Rattle.resolve_undo.proofs.Laws.{record-bounds}
-use Rattle.resolve_undo.proofs.Records.{answer_from, from_start, from_end, from-bad, from-good, within}
+use Rattle.resolve_undo.proofs.Records.{answer_from}
 use Rattle.resolve_undo.proofs.read_undos.Given as goal
 
 abbrev pub invariant-loop-at : goal.invariant-loop-at

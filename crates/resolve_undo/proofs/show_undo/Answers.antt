@@ -3,7 +3,6 @@ use mathlib.Core.Path.{sym, ◌∙◌}
 use Prim.Native.Nat.{◌+◌, ◌≤◌, zero-le}
 use native.Mathlib.Omega.{arith}
 use lib.ListN.{length}
-use borrow.Author.Rules.{rules}
 use Rattle.resolve_undo.specs.Answers.{object_length}
 use Rattle.resolve_undo.proofs.Laws.{record-bounds}
 use Rattle.resolve_undo.proofs.Records.{within}
@@ -43,18 +42,16 @@ pub object-requires-in-Good-2 : goal.object-requires-in-Good-2
 object-requires-in-Good-2 c = let e = ends (goal.at.object-requires-in-Good-2 c).In-Good in omega arith
 
 pub returns-in-Bad : goal.returns-in-Bad
-returns-in-Bad c =
-    (
-      λ p. c.no_record-in-Bad.ensures ∙ sym (shown-bad _ _ _ _ c.read_undo-g.ensures c.in-Bad.is p),
-      rw c.no_record-in-Bad.ensures zero-le,
-    )
+returns-in-Bad c = (
+  λ p. c.no_record-in-Bad.ensures ∙ sym (shown-bad _ _ _ _ c.read_undo-g.ensures c.in-Bad.is p),
+  rw c.no_record-in-Bad.ensures zero-le,
+)
 
 pub returns-in-Good : goal.returns-in-Good
-returns-in-Good c =
-    (
-      λ p.
-          rw (c.object-in-Good-2.ensures, c.object-in-Good.ensures, c.object.ensures)
-          (sym
-          (shown-good _ _ _ _ c.read_undo-g.ensures c.requires.0 _ c.in-Good.is _ _ c.object_length.ensures.0 c.object_length-in-Good.ensures.0 p)),
-      (within _ _ _ _ _ c.read_undo-g.ensures _ c.in-Good.is c.requires.0 c.if-d-place.false).2,
-    )
+returns-in-Good c = (
+  λ p.
+      rw (c.object-in-Good-2.ensures, c.object-in-Good.ensures, c.object.ensures)
+      (sym
+      (shown-good _ _ _ _ c.read_undo-g.ensures c.requires.0 _ c.in-Good.is _ _ c.object_length.ensures.0 c.object_length-in-Good.ensures.0 p)),
+  (within _ _ _ _ _ c.read_undo-g.ensures _ c.in-Good.is c.requires.0 c.if-d-place.false).2,
+)

@@ -1,11 +1,7 @@
 -- `sha256::absorb` meets its contract. The loop's invariant: s is the state after i blocks. Assumes nothing.
-use mathlib.Core.Path.{◌≡◌, refl, ◌∙◌}
-use Prim.Native.Nat.{◌-◌, ◌/◌, ◌≤◌}
-use native.Mathlib.Omega.{arith}
-use lib.ListN.{length}
-use Rattle.hash_words.proofs.Blocks.{absorb-next}
+use mathlib.Core.Path.{◌≡◌}
+use Prim.Native.Nat.{◌-◌, ◌≤◌}
 use Rattle.sha256.specs.Sha256.{absorb}
-use Rattle.sha256.proofs.Blocks.{absorbs}
 use Rattle.sha256.proofs.absorb.Given as goal
 
 abbrev pub invariant-loop-i : goal.invariant-loop-i

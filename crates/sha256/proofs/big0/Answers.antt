@@ -1,5 +1,4 @@
 -- `sha256::big0` meets its contract. Assumes nothing.
-use borrow.Author.Rules.{rules}
 use Rattle.sha256.specs.Sha256.{big0}
 use Rattle.sha256.proofs.big0.Goals as goal
 

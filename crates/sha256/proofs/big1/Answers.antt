@@ -1,5 +1,4 @@
 -- `sha256::big1` meets its contract. Assumes nothing.
-use borrow.Author.Rules.{rules}
 use Rattle.sha256.specs.Sha256.{big1}
 use Rattle.sha256.proofs.big1.Goals as goal
 

@@ -1,6 +1,5 @@
 -- `sha256::block` meets its contract: the rounds begin with the block itself as the window. Assumes nothing.
 use mathlib.Core.Path.{refl, ap, ◌∙◌}
-use borrow.Author.Rules.{rules}
 use Rattle.hash_words.proofs.Words.{length-words}
 use Rattle.hash_words.specs.Words.{words}
 use Rattle.sha256.specs.Sha256.{rounds, block, chain}

@@ -1,5 +1,4 @@
 -- `sha256::chain` meets its contract, field by field. Assumes nothing.
-use borrow.Author.Rules.{rules}
 use Rattle.sha256.specs.Sha256.{chain}
 use Rattle.sha256.proofs.chain.Goals as goal
 

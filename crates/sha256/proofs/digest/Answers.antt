@@ -1,5 +1,4 @@
 -- `sha256::digest` meets its contract: the eight stores fill the array. Assumes nothing.
-use borrow.Author.Rules.{rules}
 use Rattle.hash_words.specs.Words.{bytes4}
 use Rattle.sha256.specs.Sha256.{digest}
 use Rattle.sha256.proofs.digest.Goals as goal

@@ -1,5 +1,4 @@
 -- `sha256::finish` meets its contract: the ending is the first 64 bytes of the tail, or all 128. Assumes nothing.
-use mathlib.Core.Logic.{⊎_elim}
 use mathlib.Core.Path.{◌≡◌, ap, ◌∙◌}
 use Prim.Native.Nat.{◌≤◌}
 use native.Mathlib.Omega.{arith}

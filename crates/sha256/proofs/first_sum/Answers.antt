@@ -1,5 +1,4 @@
 -- `sha256::first_sum` meets its contract. Assumes nothing.
-use borrow.Author.Rules.{rules}
 use Rattle.sha256.specs.Sha256.{T1}
 use Rattle.sha256.proofs.first_sum.Goals as goal
 

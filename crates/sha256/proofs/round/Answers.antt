@@ -1,5 +1,4 @@
 -- `sha256::round` meets its contract: a step with the word of the schedule. Assumes nothing.
-use borrow.Author.Rules.{rules}
 use Rattle.sha256.proofs.Schedule.{turned}
 use Rattle.sha256.proofs.round.Goals as goal
 

@@ -1,5 +1,4 @@
 -- `sha256::second_sum` meets its contract. Assumes nothing.
-use borrow.Author.Rules.{rules}
 use Rattle.sha256.specs.Sha256.{T2}
 use Rattle.sha256.proofs.second_sum.Goals as goal
 

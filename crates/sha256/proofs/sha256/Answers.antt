@@ -1,6 +1,5 @@
 -- `sha256::sha256` meets its contract. Assumes nothing.
 use mathlib.Core.Path.{◌∙◌}
-use borrow.Author.Rules.{rules}
 use Rattle.sha256.proofs.Blocks.{finish-whole}
 use Rattle.sha256.proofs.sha256.Goals as goal
 

@@ -1,5 +1,4 @@
 -- `sha256::small0` meets its contract. Assumes nothing.
-use borrow.Author.Rules.{rules}
 use Rattle.sha256.specs.Sha256.{small0}
 use Rattle.sha256.proofs.small0.Goals as goal
 

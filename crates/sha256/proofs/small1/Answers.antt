@@ -1,5 +1,4 @@
 -- `sha256::small1` meets its contract. Assumes nothing.
-use borrow.Author.Rules.{rules}
 use Rattle.sha256.specs.Sha256.{small1}
 use Rattle.sha256.proofs.small1.Goals as goal
 

@@ -1,5 +1,4 @@
 -- `sha256::step` meets its contract, field by field. Assumes nothing.
-use borrow.Author.Rules.{rules}
 use Rattle.sha256.specs.Sha256.{round}
 use Rattle.sha256.proofs.step.Goals as goal
 

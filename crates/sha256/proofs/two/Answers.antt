@@ -1,5 +1,4 @@
 -- `sha256::two` meets its contract: what the first round ensures is what the second asks. Assumes nothing.
-use borrow.Author.Rules.{rules}
 use Rattle.sha256.proofs.Schedule.{plus}
 use Rattle.sha256.proofs.two.Goals as goal
 

@@ -1,10 +1,9 @@
-use borrow.Author.Rules.{rules}
 use Rattle.tree_table.proofs.Slots.{set-zero}
 use borrow.Author.Count.{below_more}
 use lib.Seq.{get_or-set_other}
-use lib.ListN.{length, get_or, set, length-set}
+use lib.ListN.{get_or, set, length-set}
 use native.Mathlib.Omega.{arith}
-use Prim.Native.Nat.{ℕ, ◌+◌, ◌-◌, ◌≤◌, ◌<◌}
+use Prim.Native.Nat.{ℕ, ◌+◌}
 use mathlib.Core.Path.{◌≡◌, refl, ◌∙◌}
 use Rattle.tree_table.proofs.clear.Goals as goal
 

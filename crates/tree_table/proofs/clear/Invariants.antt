@@ -1,11 +1,6 @@
-use borrow.Author.Rules.{rules}
-use Rattle.tree_table.proofs.Slots.{set-zero}
-use borrow.Author.Count.{below_more}
-use lib.Seq.{get_or-set_other}
-use lib.ListN.{length, get_or, set, length-set}
-use native.Mathlib.Omega.{arith}
+use lib.ListN.{length, get_or}
 use Prim.Native.Nat.{ℕ, ◌+◌, ◌-◌, ◌≤◌, ◌<◌}
-use mathlib.Core.Path.{◌≡◌, refl, ◌∙◌}
+use mathlib.Core.Path.{◌≡◌}
 use Rattle.tree_table.proofs.clear.Given as goal
 
 abbrev pub invariant-loop-i : goal.invariant-loop-i

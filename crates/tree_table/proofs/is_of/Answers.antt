@@ -1,7 +1,6 @@
 -- The proof that `is_of` meets its contract.
 use mathlib.Core.Path.{sym, ◌∙◌}
 use borrow.Author.Tests.{eq-eqb, ne_eqb}
-use borrow.Author.Rules.{rules}
 use Rattle.tree_table.specs.Keys.{is_of}
 use Rattle.tree_table.proofs.is_of.Goals as goal
 

@@ -1,11 +1,9 @@
-use borrow.Author.Rules.{rules}
 use Rattle.tree_table.proofs.Slots.{key-end, key-odd, key_more}
-use Rattle.tree_table.specs.Keys.{key_from, key_in}
-use lib.ListN.{length, drop}
+use Rattle.tree_table.specs.Keys.{key_in}
 use native.Mathlib.Omega.{arith}
 use native.Mathlib.Nat.{mul-le-mul}
-use Prim.Native.Nat.{ℕ, ◌*◌, ◌-◌, ◌≤◌, ◌<◌}
-use mathlib.Core.Path.{◌≡◌, sym, ◌∙◌}
+use Prim.Native.Nat.{ℕ, ◌*◌, ◌≤◌, ◌<◌}
+use mathlib.Core.Path.{sym, ◌∙◌}
 use Rattle.tree_table.proofs.key_of.Goals as goal
 
 few : (m h : ℕ) → m < 1073741824 → h < 4294967296 → h * m ≤ 4294967295 * 1073741823

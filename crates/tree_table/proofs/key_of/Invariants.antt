@@ -1,11 +1,7 @@
-use borrow.Author.Rules.{rules}
-use Rattle.tree_table.proofs.Slots.{key-end, key-odd, key_more}
 use Rattle.tree_table.specs.Keys.{key_from, key_in}
 use lib.ListN.{length, drop}
-use native.Mathlib.Omega.{arith}
-use native.Mathlib.Nat.{mul-le-mul}
-use Prim.Native.Nat.{ℕ, ◌*◌, ◌-◌, ◌≤◌, ◌<◌}
-use mathlib.Core.Path.{◌≡◌, sym, ◌∙◌}
+use Prim.Native.Nat.{◌-◌, ◌≤◌, ◌<◌}
+use mathlib.Core.Path.{◌≡◌}
 use Rattle.tree_table.proofs.key_of.Given as goal
 
 abbrev pub invariant-loop-i : goal.invariant-loop-i

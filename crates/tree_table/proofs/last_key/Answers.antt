@@ -2,7 +2,6 @@ use Rattle.tree_table.specs.Keys.{last_key}
 use native.Mathlib.Omega.{arith}
 use native.Mathlib.Nat.{mul-le-mul}
 use Prim.Native.Nat.{◌*◌, ◌%◌, ◌≤◌}
-use borrow.Author.Rules.{rules}
 use Rattle.tree_table.proofs.last_key.Goals as goal
 
 pub step_key-requires : goal.step_key-requires

@@ -1,6 +1,5 @@
 -- The proof that `make_seed` meets its contract.
 use Rattle.tree_table.proofs.Slots.{seed-set, seed-same}
-use borrow.Author.Rules.{rules}
 use Rattle.tree_table.proofs.make_seed.Goals as goal
 
 pub returns-then-t-eq0 : goal.returns-then-t-eq0

@@ -2,7 +2,6 @@
 use native.Mathlib.Omega.{arith}
 use Rattle.tree_table.specs.Keys.{next_slot}
 use borrow.Author.Tests.{lt-ltb, le-ltb}
-use borrow.Author.Rules.{rules}
 use Rattle.tree_table.proofs.next_slot.Goals as goal
 
 pub returns-then-i-step : goal.returns-then-i-step

@@ -1,10 +1,9 @@
-use borrow.Author.Rules.{rules}
 use Rattle.tree_table.proofs.Slots.{probe-end, probe-here, probe-empty, probe-on, slot_is}
-use Rattle.tree_table.specs.Keys.{probe, next_slot}
+use Rattle.tree_table.specs.Keys.{next_slot}
 use native.Mathlib.Omega.{arith}
 use native.Mathlib.Nat.{mod-lt}
-use Prim.Native.Nat.{ℕ, ◌-◌, ◌%◌, ◌<◌}
-use mathlib.Core.Path.{◌≡◌, refl, ap, ◌∙◌}
+use Prim.Native.Nat.{ℕ}
+use mathlib.Core.Path.{refl, ap, ◌∙◌}
 use Rattle.tree_table.proofs.slot_of.Goals as goal
 
 pub loop-left-init : goal.loop-left-init

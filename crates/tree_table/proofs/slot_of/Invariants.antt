@@ -1,10 +1,6 @@
-use borrow.Author.Rules.{rules}
-use Rattle.tree_table.proofs.Slots.{probe-end, probe-here, probe-empty, probe-on, slot_is}
-use Rattle.tree_table.specs.Keys.{probe, next_slot}
-use native.Mathlib.Omega.{arith}
-use native.Mathlib.Nat.{mod-lt}
-use Prim.Native.Nat.{ℕ, ◌-◌, ◌%◌, ◌<◌}
-use mathlib.Core.Path.{◌≡◌, refl, ap, ◌∙◌}
+use Rattle.tree_table.specs.Keys.{probe}
+use Prim.Native.Nat.{◌-◌, ◌%◌, ◌<◌}
+use mathlib.Core.Path.{◌≡◌}
 use Rattle.tree_table.proofs.slot_of.Given as goal
 
 abbrev pub invariant-loop-left : goal.invariant-loop-left

@@ -1,7 +1,6 @@
 use native.Mathlib.Omega.{arith}
 use Rattle.tree_table.specs.Keys.{fold, step_key}
 use mathlib.Core.Path.{refl}
-use borrow.Author.Rules.{rules}
 use Rattle.tree_table.proofs.step_key.Goals as goal
 
 pub returns : goal.returns

@@ -2,7 +2,6 @@
 use mathlib.Core.Path.{refl}
 use native.Mathlib.Omega.{arith}
 use Rattle.tree_table.specs.Keys.{step_of}
-use borrow.Author.Rules.{rules}
 use Rattle.tree_table.proofs.step_of.Goals as goal
 
 pub returns : goal.returns

@@ -1,7 +1,6 @@
 -- The proof that `is_under` meets its contract.
 use mathlib.Core.Path.{sym}
 use native.Mathlib.Omega.{arith}
-use borrow.Author.Rules.{rules}
 use lib.ListN.{length-take, length-drop}
 use Rattle.tree_write.proofs.Names.{name-differs, name-ends, name-goes-on}
 use Rattle.tree_write.proofs.is_under.Goals as goal

@@ -1,7 +1,6 @@
 -- The proof that `put_invalid` meets its contract: four parts, one after another.
 use Prim.Native.Nat.{◌+◌, ◌≤◌}
 use native.Mathlib.Omega.{arith}
-use borrow.Author.Rules.{rules}
 use lib.ListN.{length, length-take, length-drop}
 use Rattle.tree_write.proofs.Nodes.{NodeCut, cut-here, nul-in, space-in, invalid-written}
 use Rattle.tree_write.proofs.put_invalid.Goals as goal

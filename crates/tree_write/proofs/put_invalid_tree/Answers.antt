@@ -1,7 +1,6 @@
 -- The proof that `put_invalid_tree` meets its contract: the root, and then its subtrees.
 use mathlib.Core.Path.{sym, ◌∙◌}
 use native.Mathlib.Omega.{arith}
-use borrow.Author.Rules.{rules}
 use Rattle.tree_nodes.proofs.Nodes.{node-is}
 use Rattle.tree_write.specs.Written.{NodeHere}
 use Rattle.tree_write.proofs.Wholes.{whole-none, whole-invalid}

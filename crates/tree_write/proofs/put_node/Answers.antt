@@ -1,6 +1,5 @@
 -- The proof that `put_node` meets its contract: a valid node is copied, an invalid one is written as one made invalid.
 use native.Mathlib.Omega.{arith}
-use borrow.Author.Rules.{rules}
 use Rattle.tree_write.proofs.Nodes.{NodeCut, cut-here, valid-written, invalid-kept}
 use Rattle.tree_write.proofs.put_node.Goals as goal
 use Rattle.tree_write.proofs.put_node.Goals.{Start}

@@ -1,14 +1,6 @@
-use mathlib.Core.Path.{◌≡◌, refl, ◌∙◌}
-use Prim.Native.Nat.{ℕ, ◌+◌, ◌*◌, ◌-◌, ◌≤◌}
+use mathlib.Core.Path.{refl, ◌∙◌}
 use native.Mathlib.Omega.{arith}
-use lib.ListN.{length, drop}
-use Rattle.format.specs.Records.{Forest}
-use Rattle.format.specs.Writer.{write_forest}
-use Rattle.format.specs.Requests.{invalid_path}
-use Rattle.tree_counts.specs.Counts.{SoundForest}
-use Rattle.tree_nodes.specs.Flat.{Reads}
-use Rattle.tree_write.specs.Steps.{StepBounds}
-use Rattle.tree_write.proofs.Steps.{path-start, path-end, Going, going_start, going_on}
+use Rattle.tree_write.proofs.Steps.{path-start, path-end, going_start, going_on}
 use Rattle.tree_write.proofs.put_path.Goals as goal
 
 pub loop-way-init : goal.loop-way-init

@@ -1,7 +1,6 @@
 -- The proof that `put_path` meets its contract. The loop keeps what is still to write.
-use mathlib.Core.Path.{◌≡◌, refl, ◌∙◌}
+use mathlib.Core.Path.{◌≡◌}
 use Prim.Native.Nat.{ℕ, ◌+◌, ◌*◌, ◌-◌, ◌≤◌}
-use native.Mathlib.Omega.{arith}
 use lib.ListN.{length, drop}
 use Rattle.format.specs.Records.{Forest}
 use Rattle.format.specs.Writer.{write_forest}
@@ -9,7 +8,7 @@ use Rattle.format.specs.Requests.{invalid_path}
 use Rattle.tree_counts.specs.Counts.{SoundForest}
 use Rattle.tree_nodes.specs.Flat.{Reads}
 use Rattle.tree_write.specs.Steps.{StepBounds}
-use Rattle.tree_write.proofs.Steps.{path-start, path-end, Going, going_start, going_on}
+use Rattle.tree_write.proofs.Steps.{Going}
 use Rattle.tree_write.proofs.put_path.Given as goal
 
 abbrev pub invariant-loop-way : goal.invariant-loop-way

@@ -1,6 +1,5 @@
 -- The proof that `put_tree` meets its contract.
 use native.Mathlib.Omega.{arith}
-use borrow.Author.Rules.{rules}
 use Rattle.tree_write.proofs.Wholes.{whole-copied}
 use Rattle.tree_write.proofs.put_tree.Goals as goal
 

@@ -1,15 +1,9 @@
-use mathlib.Core.Path.{◌≡◌, refl, sym, ◌∙◌}
-use Prim.Native.Nat.{ℕ, ◌+◌, ◌-◌, ◌≤◌}
+use mathlib.Core.Path.{refl, sym, ◌∙◌}
 use native.Mathlib.Omega.{arith}
-use borrow.Author.Rules.{rules}
-use lib.ListN.{length, drop}
-use Rattle.format.specs.Records.{Forest}
-use Rattle.format.specs.Writer.{write_forest}
-use Rattle.tree_nodes.specs.Flat.{trees_length, Reads}
 use Rattle.tree_nodes.proofs.Nodes.{node-is}
-use Rattle.tree_nodes.proofs.Flat.{FlatPass, flat_start, flat-more, flat-less, trees-end, trees-more, trees-stop}
+use Rattle.tree_nodes.proofs.Flat.{flat_start, flat-more, flat-less, trees-end, trees-more, trees-stop}
 use Rattle.tree_write.specs.Written.{NodeHere}
-use Rattle.tree_write.proofs.Trees.{TreesToWrite, left-start, left_end, left-stop, left-on}
+use Rattle.tree_write.proofs.Trees.{left-start, left_end, left-stop, left-on}
 use Rattle.tree_write.proofs.put_trees.Goals as goal
 use Rattle.tree_write.proofs.put_trees.Goals.{In-Good}
 

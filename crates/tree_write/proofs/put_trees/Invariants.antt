@@ -1,16 +1,12 @@
 -- The proof that `put_trees` meets its contract. The loop keeps the trees that are still to write as one list of siblings.
-use mathlib.Core.Path.{◌≡◌, refl, sym, ◌∙◌}
+use mathlib.Core.Path.{◌≡◌}
 use Prim.Native.Nat.{ℕ, ◌+◌, ◌-◌, ◌≤◌}
-use native.Mathlib.Omega.{arith}
-use borrow.Author.Rules.{rules}
 use lib.ListN.{length, drop}
 use Rattle.format.specs.Records.{Forest}
 use Rattle.format.specs.Writer.{write_forest}
 use Rattle.tree_nodes.specs.Flat.{trees_length, Reads}
-use Rattle.tree_nodes.proofs.Nodes.{node-is}
-use Rattle.tree_nodes.proofs.Flat.{FlatPass, flat_start, flat-more, flat-less, trees-end, trees-more, trees-stop}
-use Rattle.tree_write.specs.Written.{NodeHere}
-use Rattle.tree_write.proofs.Trees.{TreesToWrite, left-start, left_end, left-stop, left-on}
+use Rattle.tree_nodes.proofs.Flat.{FlatPass}
+use Rattle.tree_write.proofs.Trees.{TreesToWrite}
 use Rattle.tree_write.proofs.put_trees.Given as goal
 
 abbrev pub invariant-loop-pending : goal.invariant-loop-pending

@@ -2,7 +2,6 @@
 use mathlib.Core.Path.{refl, sym, ◌∙◌}
 use Prim.Native.Nat.{◌+◌, ◌-◌, ◌≤◌}
 use native.Mathlib.Omega.{arith}
-use borrow.Author.Rules.{rules}
 use lib.ListN.{length}
 use Rattle.tree_nodes.proofs.Nodes.{NodeIs, node-is}
 use Rattle.tree_write.specs.Written.{NodeHere}
@@ -18,7 +17,7 @@ node_of : (c : In-Good) → NodeIs c.args.w c.args.d.now c.args.way.place c.in-G
 node_of c = node-is _ _ c.requires.0.room.inside _ (here_of c).read
 
 -- the name goes on after the node's name and a "/"
-after-of : (c : Then-is_under) → 
+after-of : (c : Then-is_under) →
     c.args.way.from + (c.in-Good.node.nul - c.args.way.place) + 1 ≤ length c.args.name.now
 after-of c =
     let is : NodeIs c.args.w c.args.d.now c.args.way.place c.in-Good.node = node-is _ _ c.requires.0.room.inside _ (sym c.in-Good.is ∙ c.read_node-read.ensures) in
@@ -52,7 +51,6 @@ overflow_add-result-then-is_under-2 c =
 
 pub returns-then-is_under : goal.returns-then-is_under
 returns-then-is_under c =
-    
     let is = node_of (goal.at.returns-then-is_under c).In-Good in
     let named = is.named in
     let ended = is.ended in
@@ -84,7 +82,6 @@ returns-in-Bad c =
 
 pub returns-else-is_under : goal.returns-else-is_under
 returns-else-is_under c =
-    
     let t = c.put_trees-passed.ensures in
     let within = t.within in
     let short = t.short in

@@ -1,6 +1,5 @@
 -- The proof that `name_at` meets its contract.
 use mathlib.Core.Path.{◌∙◌}
-use borrow.Author.Rules.{rules}
 use Rattle.walk.proofs.Seeing.{shown-name}
 use Rattle.walk.proofs.name_at.Goals as goal
 

@@ -5,7 +5,6 @@ use Prim.Native.Nat.{◌-◌}
 use native.Mathlib.Omega.{arith}
 use lib.ListN.{length}
 use lib.Seq.{length-take-le}
-use borrow.Author.Rules.{rules}
 use Rattle.walk.specs.Walks.{walkable}
 use Rattle.walk.proofs.Seeing.{none_left, not-walkable, past-body, at_place}
 use Rattle.walk.proofs.Steps.{walkable-long, walkable-old}

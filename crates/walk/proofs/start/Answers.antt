@@ -5,7 +5,6 @@ use Rattle.kinds.specs.Kinds.{width_of, read_kind}
 use Rattle.answers.specs.Answers.{in_room}
 use Rattle.file_read.specs.Contents.{Contains}
 use Rattle.walk.proofs.Starts.{start_is, starts-four, starts-ready}
-use borrow.Author.Rules.{rules}
 use Rattle.walk.proofs.start.Goals as goal
 use Rattle.walk.proofs.start.Goals.{In-Good}
 

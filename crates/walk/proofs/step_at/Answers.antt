@@ -4,7 +4,6 @@ use Prim.Native.Nat.{ℕ}
 use native.Mathlib.Omega.{arith}
 use lib.Seq.{length-take-le}
 use borrow.Author.Rules.{rules}
-use borrow.Author.Tests.{not-true, not-false}
 use Rattle.format.specs.Places.{body_in}
 use Rattle.walk.specs.declared.Sight.TheVariants.{Found}
 use Rattle.walk.specs.Walks.{walk_read, step_read}
@@ -67,8 +66,7 @@ returns-in-Nothing c =
     (step-refused _ _ _ _ _ none _ _ _ c.refused_entry-in-Nothing.ensures, place-stays _ _ _ _ _ none _ c.fewer-less.ensures)
 
 pub returns-in-Found : goal.returns-in-Found
-returns-in-Found c =
-    (
-      rw (← c.width_of-w.ensures.0) (step-shows _ _ _ _ _ (read (goal.at.returns-in-Found c).After-width_of-w) _ _ _ (seen (goal.at.returns-in-Found c).In-Found) _ c.fields_at.ensures),
-      place-moves _ _ _ _ _ (read (goal.at.returns-in-Found c).After-width_of-w) _ _ _ (seen (goal.at.returns-in-Found c).In-Found) _ _ refl c.fewer-less.ensures,
-    )
+returns-in-Found c = (
+  rw (← c.width_of-w.ensures.0) (step-shows _ _ _ _ _ (read (goal.at.returns-in-Found c).After-width_of-w) _ _ _ (seen (goal.at.returns-in-Found c).In-Found) _ c.fields_at.ensures),
+  place-moves _ _ _ _ _ (read (goal.at.returns-in-Found c).After-width_of-w) _ _ _ (seen (goal.at.returns-in-Found c).In-Found) _ _ refl c.fewer-less.ensures,
+)

@@ -2,7 +2,6 @@
 use mathlib.Core.Path.{sym, ◌∙◌}
 use native.Mathlib.Omega.{arith}
 use lib.Seq.{length-take-le}
-use borrow.Author.Rules.{rules}
 use Rattle.walk.proofs.Seeing.{not-long, not-signed, version-two, version-three}
 use Rattle.walk.proofs.walkable.Goals as goal
 

@@ -1,10 +1,5 @@
 use Rattle.cache_tree.proofs.Apart.{apart-end, apart-not, apart_next}
-use Rattle.cache_tree.specs.Chunks.{apart}
-use Rattle.tree_nodes.specs.Flat.{names_of}
-use lib.ListN.{length, drop}
-use native.Mathlib.Omega.{arith}
-use Prim.Native.Nat.{◌≤◌}
-use mathlib.Core.Path.{◌≡◌, refl, sym, ◌∙◌}
+use mathlib.Core.Path.{refl, sym, ◌∙◌}
 use Rattle.cache_tree.proofs.differ.against.Goals as goal
 
 pub loop-left-init : goal.loop-left-init

@@ -1,11 +1,9 @@
 -- The proof that `against` meets its contract.
-use Rattle.cache_tree.proofs.Apart.{apart-end, apart-not, apart_next}
 use Rattle.cache_tree.specs.Chunks.{apart}
 use Rattle.tree_nodes.specs.Flat.{names_of}
 use lib.ListN.{length, drop}
-use native.Mathlib.Omega.{arith}
 use Prim.Native.Nat.{◌≤◌}
-use mathlib.Core.Path.{◌≡◌, refl, sym, ◌∙◌}
+use mathlib.Core.Path.{◌≡◌}
 use Rattle.cache_tree.proofs.differ.against.Given as goal
 
 abbrev pub invariant-loop-left : goal.invariant-loop-left

@@ -1,11 +1,7 @@
-use borrow.Author.Rules.{rules}
 use Rattle.cache_tree.proofs.Apart.{chunk-equal, chunk-known, chunk-apart}
 use Rattle.cache_tree.proofs.Siblings.{differ-none}
-use Rattle.tree_nodes.specs.Flat.{names_of, names_differ}
-use lib.ListN.{length, drop}
 use native.Mathlib.Omega.{arith}
-use Prim.Native.Nat.{◌≤◌}
-use mathlib.Core.Path.{◌≡◌, refl, sym, ◌∙◌}
+use mathlib.Core.Path.{refl, sym, ◌∙◌}
 use Rattle.cache_tree.proofs.differ.differ.Goals as goal
 
 pub loop-left-init : goal.loop-left-init

@@ -1,11 +1,8 @@
 use Rattle.cache_tree.proofs.Apart.{after-start, differ-start, held_start, fill-equal, fill-differ, fill-rest, fill-held, put-length, filled-equal, filled_next}
-use Rattle.cache_tree.specs.Chunks.{all_held, rest_after}
-use Rattle.tree_nodes.specs.Flat.{names_of, names_differ}
-use lib.ListN.{length, drop}
+use lib.ListN.{length}
 use native.Mathlib.Omega.{arith}
-use Prim.Native.Nat.{◌-◌, ◌≤◌}
-use mathlib.Core.Bool.{true}
-use mathlib.Core.Path.{◌≡◌, refl, sym, ◌∙◌}
+use Prim.Native.Nat.{◌≤◌}
+use mathlib.Core.Path.{refl, sym, ◌∙◌}
 use Rattle.cache_tree.proofs.differ.fill.Goals as goal
 
 pub loop-n-init : goal.loop-n-init

@@ -1,8 +1,4 @@
-use mathlib.Core.Path.{◌≡◌, refl, sym, ◌∙◌}
-use Prim.Native.Nat.{◌≤◌}
-use native.Mathlib.Omega.{arith}
-use lib.ListN.{length, drop}
-use Rattle.tree_nodes.specs.Flat.{name_of, names_of, has_name}
+use mathlib.Core.Path.{refl, sym, ◌∙◌}
 use Rattle.cache_tree.proofs.Siblings.{has-none, has_first, has-later}
 use Rattle.cache_tree.proofs.differ.has_name.Goals as goal
 

@@ -1,10 +1,8 @@
 -- The proof that `has_name` meets its contract. The loop keeps the answer for all the names.
-use mathlib.Core.Path.{◌≡◌, refl, sym, ◌∙◌}
+use mathlib.Core.Path.{◌≡◌}
 use Prim.Native.Nat.{◌≤◌}
-use native.Mathlib.Omega.{arith}
 use lib.ListN.{length, drop}
 use Rattle.tree_nodes.specs.Flat.{name_of, names_of, has_name}
-use Rattle.cache_tree.proofs.Siblings.{has-none, has_first, has-later}
 use Rattle.cache_tree.proofs.differ.has_name.Given as goal
 
 abbrev pub invariant-loop-left : goal.invariant-loop-left

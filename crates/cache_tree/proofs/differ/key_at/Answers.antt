@@ -1,8 +1,6 @@
 -- The proof that `key_at` meets its contract.
 use mathlib.Core.Path.{ap, ◌∙◌}
-use native.Mathlib.Omega.{arith}
 use Rattle.tree_table.specs.Keys.{key_in}
-use borrow.Author.Rules.{rules}
 use Rattle.cache_tree.proofs.differ.key_at.Goals as goal
 
 pub returns : goal.returns

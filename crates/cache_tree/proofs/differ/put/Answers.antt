@@ -1,6 +1,5 @@
 use Rattle.cache_tree.proofs.Apart.{put-new, put-none, free_other}
 use mathlib.Core.Path.{sym}
-use borrow.Author.Rules.{rules}
 use Rattle.cache_tree.proofs.differ.put.Goals as goal
 
 pub returns-then-t-slot-eq0 : goal.returns-then-t-slot-eq0

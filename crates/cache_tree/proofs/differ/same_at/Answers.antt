@@ -1,6 +1,5 @@
 -- The proof that `same_at` meets its contract.
 use mathlib.Core.Path.{ap₂, ◌∙◌}
-use borrow.Author.Rules.{rules}
 use Rattle.format.specs.Bytes.{eq_list}
 use Rattle.tree_nodes.proofs.Trees.{name_is}
 use Rattle.cache_tree.proofs.differ.same_at.Goals as goal

@@ -1,11 +1,8 @@
 use mathlib.Core.Bool.{true, false}
-use mathlib.Core.Path.{◌≡◌, sym, ap, ◌∙◌}
-use Prim.Native.Nat.{ℕ, ◌≤◌, ◌<◌}
+use mathlib.Core.Path.{sym, ap, ◌∙◌}
 use native.Mathlib.Omega.{arith}
-use borrow.Author.Rules.{rules}
-use lib.ListN.{length, drop}
+use lib.ListN.{drop}
 use Rattle.format.specs.Layout.{distinct}
-use Rattle.format.specs.Reader.{read_forest}
 use Rattle.tree_nodes.proofs.Nodes.{NodeIs, node-is}
 use Rattle.cache_tree.specs.Answers.{read_one, distinct_below, rooted}
 use Rattle.cache_tree.proofs.Lists.{plus_none, forest-sized, subtree-sized, ListIs, list-is, list-few, loop-more, one-length, list-bad, list_all, list-differs, list-equal, one_none, one-no-node, one-no-name, one-rooted}
@@ -26,7 +23,7 @@ read_list-returns-in_default t c =
 pub read_list-overflow_add-nodes : goal.read_list-overflow_add-nodes
 read_list-overflow_add-nodes t c =
     let one : ListIs distinct_below c.args.d.now c.loop-left.place (read_one c.args.w c.args.levels (drop c.loop-left.place c.args.d.now)) c.in-Good.next c.in-Good.n =
-        list-is distinct_below _ _ _ _ c.loop-left.invariant.1 _ (subtree-sized _ _ _) (sym c.in-Good.is ∙ c.read_subtree-read.ensures.0) in
+    list-is distinct_below _ _ _ _ c.loop-left.invariant.1 _ (subtree-sized _ _ _) (sym c.in-Good.is ∙ c.read_subtree-read.ensures.0) in
     let few = one.few in
     let within = one.within in
     omega arith
@@ -34,7 +31,7 @@ read_list-overflow_add-nodes t c =
 pub read_list-loop-left-preserved : goal.read_list-loop-left-preserved
 read_list-loop-left-preserved t c =
     let one : ListIs distinct_below c.args.d.now c.loop-left.place (read_one c.args.w c.args.levels (drop c.loop-left.place c.args.d.now)) c.in-Good.next c.in-Good.n =
-        list-is distinct_below _ _ _ _ c.loop-left.invariant.1 _ (subtree-sized _ _ _) (sym c.in-Good.is ∙ c.read_subtree-read.ensures.0) in
+    list-is distinct_below _ _ _ _ c.loop-left.invariant.1 _ (subtree-sized _ _ _) (sym c.in-Good.is ∙ c.read_subtree-read.ensures.0) in
     let few = one.few in
     let some = c.loop-left-test.true in
     let more = one-length _ _ _ _ _ _ one in (
@@ -106,11 +103,10 @@ read_subtree-with_root-requires t c =
 
 pub read_subtree-returns-then-name_ok : goal.read_subtree-returns-then-name_ok
 read_subtree-returns-then-name_ok t c =
-    let n : NodeIs c.args.w c.args.d.now c.args.at c.in-Good.node = node-is _ _ c.requires.0 _ (sym c.in-Good.is ∙ c.read_node-read.ensures) in
-    (
+    let n : NodeIs c.args.w c.args.d.now c.args.at c.in-Good.node = node-is _ _ c.requires.0 _ (sym c.in-Good.is ∙ c.read_node-read.ensures) in (
       c.with_root.ensures
-      ∙ ap rooted c.read_list-listed.ensures.0
-      ∙ sym (one-rooted _ _ _ _ c.if-levels-eq0.false _ n (sym c.if-name_ok.true ∙ c.name_ok.ensures)),
+          ∙ ap rooted c.read_list-listed.ensures.0
+          ∙ sym (one-rooted _ _ _ _ c.if-levels-eq0.false _ n (sym c.if-name_ok.true ∙ c.name_ok.ensures)),
       c.read_list-listed.ensures.1,
     )
 

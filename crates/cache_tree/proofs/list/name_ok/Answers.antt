@@ -1,6 +1,5 @@
 -- The proof that `name_ok` meets its contract.
 use mathlib.Core.Path.{sym}
-use borrow.Author.Rules.{rules}
 use Rattle.cache_tree.proofs.Names.{no_name, some-name}
 use Rattle.cache_tree.proofs.list.name_ok.Goals as goal
 

@@ -1,7 +1,6 @@
 -- The proof that `with_root` meets its contract.
 use mathlib.Core.Path.{◌≡◌, sym, ap}
 use native.Mathlib.Omega.{arith}
-use borrow.Author.Rules.{rules}
 use Rattle.cache_tree.specs.Answers.{rooted, nodes_in}
 use Rattle.cache_tree.proofs.list.with_root.Goals as goal
 

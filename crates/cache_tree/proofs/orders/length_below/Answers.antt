@@ -1,7 +1,6 @@
 use Rattle.cache_tree.proofs.Below.{length-less, length_more, length-equal, length-other}
 use native.Mathlib.Omega.{arith}
 use mathlib.Core.Path.{sym}
-use borrow.Author.Rules.{rules}
 use Rattle.cache_tree.proofs.orders.length_below.Goals as goal
 
 pub returns-then-s-t : goal.returns-then-s-t

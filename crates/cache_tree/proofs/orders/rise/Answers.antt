@@ -3,7 +3,6 @@ use Rattle.tree_nodes.proofs.Trees.{name_is}
 use Rattle.cache_tree.specs.Orders.{slash_below, length_below}
 use mathlib.Core.Bool.{true, false}
 use mathlib.Core.Path.{ap₂, ◌∙◌}
-use borrow.Author.Rules.{rules}
 use Rattle.cache_tree.proofs.orders.rise.Goals as goal
 
 pub returns-then-a-b : goal.returns-then-a-b

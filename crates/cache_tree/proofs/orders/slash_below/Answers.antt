@@ -1,6 +1,5 @@
 use Rattle.cache_tree.proofs.Below.{slash-same, slash-long, slash-short, slash-other}
 use mathlib.Core.Path.{sym}
-use borrow.Author.Rules.{rules}
 use Rattle.cache_tree.proofs.orders.slash_below.Goals as goal
 
 pub returns-then-t-n : goal.returns-then-t-n

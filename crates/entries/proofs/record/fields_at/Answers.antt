@@ -1,7 +1,6 @@
 -- The proof that `fields_at` meets its contract.
 use Rattle.entries.proofs.Fields.{fields_read}
 use native.Mathlib.Omega.{arith}
-use borrow.Author.Rules.{rules}
 use Rattle.entries.proofs.record.fields_at.Goals as goal
 
 pub returns : goal.returns

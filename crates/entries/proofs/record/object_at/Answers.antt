@@ -1,7 +1,6 @@
 -- The proof that `object_at` meets its contract.
 use mathlib.Core.Path.{refl, ◌∙◌}
 use Prim.Native.Nat.{◌+◌}
-use borrow.Author.Rules.{rules}
 use Rattle.format_laws.proofs.Lists.{copied-over}
 use Rattle.entries.proofs.record.object_at.Goals as goal
 

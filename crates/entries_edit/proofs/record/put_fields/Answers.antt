@@ -4,7 +4,6 @@ use native.Mathlib.Omega.{arith}
 use native.Mathlib.Nat.{sub-zero}
 use lib.ListN.{length, take}
 use lib.Seq.{length-take-le}
-use borrow.Author.Rules.{rules}
 use Rattle.entries_edit.proofs.Records.{fields-wrote}
 use Rattle.entries_edit.proofs.record.put_fields.Goals as goal
 

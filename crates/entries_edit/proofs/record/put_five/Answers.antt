@@ -1,6 +1,5 @@
 -- The proof that `put_five` meets its contract.
 use native.Mathlib.Omega.{arith}
-use borrow.Author.Rules.{rules}
 use Rattle.entries_edit.proofs.Records.{after-32, five-wrote}
 use Rattle.entries_edit.proofs.record.put_five.Goals as goal
 

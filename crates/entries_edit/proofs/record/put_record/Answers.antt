@@ -1,6 +1,5 @@
 -- The proof that `put_record` meets its contract.
 use native.Mathlib.Omega.{arith}
-use borrow.Author.Rules.{rules}
 use Rattle.format_laws.proofs.Numbers.{bit_below}
 use Rattle.entries_edit.proofs.Records.{record-wrote}
 use Rattle.entries_edit.proofs.record.put_record.Goals as goal

@@ -1,5 +1,4 @@
 -- The proof that `common_at` meets its contract.
-use borrow.Author.Rules.{rules}
 use Rattle.entries_edit.proofs.rest.common_at.Goals as goal
 
 pub returns : goal.returns

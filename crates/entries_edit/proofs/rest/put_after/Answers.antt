@@ -1,7 +1,6 @@
 -- The proof that `put_after` meets its contract.
 use Prim.Native.Nat.{◌<◌}
 use native.Mathlib.Omega.{arith}
-use borrow.Author.Rules.{rules}
 use Rattle.entries_edit.proofs.Rests.{after_none, after_kept, after-written}
 use Rattle.entries_run.proofs.Steps.{readable-again, readable-never, readable-next}
 use Rattle.entries_write.proofs.Stepping.{step-found, step_room}

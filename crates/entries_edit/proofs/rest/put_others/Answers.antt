@@ -1,6 +1,5 @@
 -- The proof that `put_others` meets its contract.
 use native.Mathlib.Omega.{arith}
-use borrow.Author.Rules.{rules}
 use Rattle.entries_edit.proofs.rest.put_others.Goals as goal
 
 pub put_replaced-requires : goal.put_replaced-requires

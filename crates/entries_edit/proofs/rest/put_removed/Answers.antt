@@ -1,6 +1,5 @@
 -- The proof that `put_removed` meets its contract.
 use native.Mathlib.Omega.{arith}
-use borrow.Author.Rules.{rules}
 use Rattle.entries_edit.proofs.Rests.{removed-written}
 use Rattle.entries_run.proofs.Steps.{readable-again, readable-never, readable-next}
 use Rattle.entries_write.proofs.Stepping.{step-found, step_room, step-common}

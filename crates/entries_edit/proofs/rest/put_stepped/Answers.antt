@@ -1,6 +1,5 @@
 -- The proof that `put_stepped` meets its contract.
 use native.Mathlib.Omega.{arith}
-use borrow.Author.Rules.{rules}
 use Rattle.entries_edit.proofs.Rests.{step-written}
 use Rattle.entries_edit.proofs.rest.put_stepped.Goals as goal
 

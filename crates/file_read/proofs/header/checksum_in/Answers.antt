@@ -5,7 +5,6 @@ use Prim.Native.Nat.{◌-◌}
 use native.Mathlib.Omega.{arith}
 use lib.ListN.{length, take, drop}
 use lib.Seq.{length-take-le}
-use borrow.Author.Rules.{rules}
 use Rattle.format.specs.Bytes.{eq_list, zeros}
 use Rattle.kinds.specs.Kinds.{hash_of}
 use Rattle.answers.specs.Answers.{checksum_as}

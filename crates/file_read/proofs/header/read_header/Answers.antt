@@ -5,8 +5,6 @@ use Prim.Native.Nat.{◌-◌}
 use native.Mathlib.Omega.{arith}
 use lib.ListN.{length, take}
 use lib.Seq.{length-take-le}
-use borrow.Author.Rules.{rules}
-use borrow.Author.Tests.{not-true, not-false}
 use Rattle.format.specs.Bytes.{eq_list}
 use Rattle.format.specs.Checksum.{checksum_in}
 use Rattle.format.specs.Layout.{DIRC}

@@ -1,6 +1,5 @@
 -- The proof that `count_after` meets its contract.
 use native.Mathlib.Omega.{arith}
-use borrow.Author.Rules.{rules}
 use Rattle.file_write.proofs.body.count_after.Goals as goal
 
 pub overflow_sub-result : goal.overflow_sub-result

@@ -5,7 +5,6 @@ use Rattle.format.specs.Requests.{any_word}
 use Rattle.entries.specs.Record.{entry_with}
 use Rattle.file_write.proofs.Extensions.{header-length}
 use Rattle.file_write.proofs.Bodies.{count_is, changed-entries, body-wrote}
-use borrow.Author.Rules.{rules}
 use Rattle.file_write.proofs.body.put_body.Goals as goal
 use Rattle.file_write.proofs.body.put_body.Goals.{After-out-1, After-put_header-start, After-slice_known-3-1}
 

@@ -4,7 +4,6 @@ use Rattle.file_write.proofs.Extensions.{Within, tree-within, tree-grown, tree-w
 use native.Mathlib.Omega.{arith}
 use mathlib.Core.Path.{refl, ◌∙◌}
 use Prim.Native.Nat.{◌+◌, ◌≤◌}
-use borrow.Author.Rules.{rules}
 use Rattle.file_write.proofs.body.put_cache_tree.Goals as goal
 use Rattle.file_write.proofs.body.put_cache_tree.Goals.{After-out-1, After-put_tree-after, After-put_tree-arg-1, Then-tree}
 

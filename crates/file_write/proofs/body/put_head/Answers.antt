@@ -1,6 +1,5 @@
 -- The proof that `put_head` meets its contract.
 use Rattle.output.proofs.Laws.{wrote_then}
-use borrow.Author.Rules.{rules}
 use Rattle.file_write.proofs.body.put_head.Goals as goal
 
 pub returns : goal.returns

@@ -2,7 +2,6 @@
 use Rattle.file_write.proofs.Extensions.{header-wrote}
 use native.Mathlib.Omega.{arith}
 use Rattle.format_laws.proofs.Numbers.{length-put32}
-use borrow.Author.Rules.{rules}
 use Rattle.file_write.proofs.body.put_header.Goals as goal
 
 pub put_32-requires : goal.put_32-requires

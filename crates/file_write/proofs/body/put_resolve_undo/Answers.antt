@@ -5,7 +5,6 @@ use native.Mathlib.Omega.{arith}
 use mathlib.Core.Path.{◌≡◌, refl, ◌∙◌}
 use Prim.Native.Nat.{◌+◌}
 use Rattle.format.specs.Layout.{REUC}
-use borrow.Author.Rules.{rules}
 use Rattle.file_write.proofs.body.put_resolve_undo.Goals as goal
 use Rattle.file_write.proofs.body.put_resolve_undo.Goals.{After-put_head-arg-1, After-put_head-content, Then-undo}
 

@@ -1,6 +1,5 @@
 -- `hash::buffered::finalize` meets its contract: the bytes that are kept end the message. Assumes nothing.
 use mathlib.Core.Path.{ap, ◌∙◌}
-use borrow.Author.Rules.{rules}
 use Rattle.hash_words.proofs.Buffers.{buffered-ended}
 use Rattle.hash.specs.Sha1.{H0, digest, finish, sha1}
 use Rattle.hash.proofs.Blocks.{absorbs}

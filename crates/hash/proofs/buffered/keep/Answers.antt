@@ -1,5 +1,4 @@
 -- `hash::buffered::keep` meets its contract: the slice is behind the bytes that are kept. Assumes nothing.
-use borrow.Author.Rules.{rules}
 use Rattle.hash_words.proofs.Buffers.{buffered-kept}
 use Rattle.hash.specs.Sha1.{H0}
 use Rattle.hash.proofs.Blocks.{absorbs}

@@ -1,6 +1,5 @@
 -- `hash::buffered::new` meets its contract: the empty message has no byte. Assumes nothing.
 use mathlib.Core.Path.{refl}
-use borrow.Author.Rules.{rules}
 use Rattle.hash_words.proofs.Buffers.{buffered-none}
 use Rattle.hash.specs.Sha1.{H0}
 use Rattle.hash.proofs.Blocks.{absorbs}

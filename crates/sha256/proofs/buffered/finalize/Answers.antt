@@ -1,6 +1,5 @@
 -- `sha256::buffered::finalize` meets its contract: the bytes that are kept end the message. Assumes nothing.
 use mathlib.Core.Path.{ap, ◌∙◌}
-use borrow.Author.Rules.{rules}
 use Rattle.hash_words.proofs.Buffers.{buffered-ended}
 use Rattle.sha256.specs.Sha256.{H0, digest, finish, sha256}
 use Rattle.sha256.proofs.Blocks.{absorbs}

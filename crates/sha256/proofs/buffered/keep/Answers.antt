@@ -1,5 +1,4 @@
 -- `sha256::buffered::keep` meets its contract: the slice is behind the bytes that are kept. Assumes nothing.
-use borrow.Author.Rules.{rules}
 use Rattle.hash_words.proofs.Buffers.{buffered-kept}
 use Rattle.sha256.specs.Sha256.{H0}
 use Rattle.sha256.proofs.Blocks.{absorbs}

@@ -1,6 +1,5 @@
 -- `sha256::buffered::new` meets its contract: the empty message has no byte. Assumes nothing.
 use mathlib.Core.Path.{refl}
-use borrow.Author.Rules.{rules}
 use Rattle.hash_words.proofs.Buffers.{buffered-none}
 use Rattle.sha256.specs.Sha256.{H0}
 use Rattle.sha256.proofs.Blocks.{absorbs}

@@ -3,7 +3,6 @@ use mathlib.Core.Path.{◌≡◌, ◌∙◌}
 use Prim.Native.Nat.{ℕ, ◌-◌, ◌*◌, ◌/◌, ◌%◌}
 use native.Mathlib.Omega.{arith}
 use lib.ListN.{length}
-use borrow.Author.Rules.{rules}
 use Rattle.hash_words.proofs.Buffers.{buffered-whole}
 use Rattle.hash_words.proofs.Copying.{rest_of}
 use Rattle.sha256.specs.Sha256.{H0}

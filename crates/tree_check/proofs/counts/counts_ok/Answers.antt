@@ -5,7 +5,6 @@ use native.Mathlib.Omega.{arith}
 use Rattle.fields.proofs.Workspace.{frame_same}
 use Rattle.tree_nodes.proofs.Nodes.{node-is}
 use Rattle.tree_check.proofs.Wholes.{answer-none, answer-inconsistent, answer-consistent}
-use borrow.Author.Rules.{rules}
 use Rattle.tree_check.proofs.counts.counts_ok.Goals as goal
 
 pub survey_trees-found-requires : goal.survey_trees-found-requires

@@ -5,7 +5,6 @@ use native.Mathlib.Omega.{arith}
 use Rattle.format.specs.Bytes.{Bytes}
 use Rattle.fields.proofs.Workspace.{frame_then}
 use Rattle.tree_check.proofs.Wholes.{fits-first, ahead-first, root_none, root-some}
-use borrow.Author.Rules.{rules}
 use Rattle.tree_check.proofs.counts.walk_root.Goals as goal
 
 pub advance-front-requires : goal.advance-front-requires

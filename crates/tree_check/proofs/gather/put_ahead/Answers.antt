@@ -1,13 +1,10 @@
-use mathlib.Core.Path.{◌≡◌, refl, sym, ◌∙◌}
+use mathlib.Core.Path.{refl, sym, ◌∙◌}
 use mathlib.Core.List.{List}
-use Prim.Native.Nat.{ℕ, ◌+◌, ◌≤◌}
+use Prim.Native.Nat.{ℕ}
 use native.Mathlib.Omega.{arith}
-use lib.ListN.{length}
-use Rattle.entries_directory.specs.Ahead.{FrontFits}
 use Rattle.entries_directory.proofs.Ahead.{stays-long}
 use Rattle.tree_search.specs.declared.table.Region.{Region}
 use Rattle.tree_check.specs.Keys.{KeysPut}
-use borrow.Author.Rules.{rules}
 use Rattle.tree_check.proofs.gather.put_ahead.Goals as goal
 
 -- keys were put, and then one more

@@ -1,14 +1,9 @@
 -- The proof that `put_ahead` meets its contract. The loop keeps that the first name ahead begins with the q bytes.
-use mathlib.Core.Path.{◌≡◌, refl, sym, ◌∙◌}
-use mathlib.Core.List.{List}
-use Prim.Native.Nat.{ℕ, ◌+◌, ◌≤◌}
-use native.Mathlib.Omega.{arith}
+use mathlib.Core.Path.{◌≡◌}
+use Prim.Native.Nat.{◌+◌, ◌≤◌}
 use lib.ListN.{length}
 use Rattle.entries_directory.specs.Ahead.{FrontFits}
-use Rattle.entries_directory.proofs.Ahead.{stays-long}
-use Rattle.tree_search.specs.declared.table.Region.{Region}
 use Rattle.tree_check.specs.Keys.{KeysPut}
-use borrow.Author.Rules.{rules}
 use Rattle.tree_check.proofs.gather.put_ahead.Given as goal
 
 abbrev pub invariant-loop-left : goal.invariant-loop-left

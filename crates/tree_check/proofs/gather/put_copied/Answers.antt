@@ -4,7 +4,6 @@ use Prim.Native.Nat.{◌≤◌}
 use native.Mathlib.Omega.{arith}
 use lib.ListN.{length}
 use lib.Seq.{length-take-le}
-use borrow.Author.Rules.{rules}
 use Rattle.tree_check.proofs.gather.put_copied.Goals as goal
 
 pub slice_bounds-copy_to-end-2 : goal.slice_bounds-copy_to-end-2

@@ -1,7 +1,6 @@
 -- The proof that `put_first` meets its contract.
 use native.Mathlib.Omega.{arith}
 use Rattle.entries_directory.proofs.First.{fits-length}
-use borrow.Author.Rules.{rules}
 use Rattle.tree_check.proofs.gather.put_first.Goals as goal
 
 pub put_component-requires : goal.put_component-requires

@@ -1,5 +1,4 @@
 -- The proof that `find_by_table` meets its contract.
-use borrow.Author.Rules.{rules}
 use Rattle.tree_check.proofs.look.find_by_table.Goals as goal
 
 pub put_places-requires : goal.put_places-requires

@@ -1,5 +1,4 @@
 -- The proof that `look_of` meets its contract.
-use borrow.Author.Rules.{rules}
 use Rattle.tree_check.proofs.look.look_of.Goals as goal
 
 pub returns-in-Missing : goal.returns-in-Missing

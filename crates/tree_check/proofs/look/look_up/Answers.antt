@@ -1,6 +1,5 @@
 -- The proof that `look_up` meets its contract.
 use native.Mathlib.Omega.{arith}
-use borrow.Author.Rules.{rules}
 use Rattle.entries_directory.proofs.First.{fits-length}
 use Rattle.tree_check.proofs.Components.{ahead-file, ahead-child}
 use Rattle.tree_check.proofs.look.look_up.Goals as goal

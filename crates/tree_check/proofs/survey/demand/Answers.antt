@@ -1,6 +1,5 @@
 -- The proof that `demand` meets its contract.
 use native.Mathlib.Omega.{arith}
-use borrow.Author.Rules.{rules}
 use Rattle.tree_check.proofs.survey.demand.Goals as goal
 
 pub returns-then-strict-eq0 : goal.returns-then-strict-eq0

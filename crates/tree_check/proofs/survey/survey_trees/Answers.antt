@@ -1,13 +1,8 @@
 use mathlib.Core.Path.{sym, ◌∙◌}
-use Prim.Native.Nat.{ℕ, ◌-◌, ◌≤◌}
 use native.Mathlib.Omega.{arith}
-use borrow.Author.Rules.{rules}
-use lib.ListN.{length, drop}
-use Rattle.format.specs.Records.{Forest}
-use Rattle.tree_nodes.specs.Flat.{Reads}
 use Rattle.tree_nodes.proofs.Nodes.{node-is}
-use Rattle.tree_nodes.proofs.Flat.{FlatPass, flat_start, flat-more, flat-less}
-use Rattle.tree_check.proofs.Surveys.{Surveying, survey-start, survey-end, survey-stop, survey-inconsistent, survey-on}
+use Rattle.tree_nodes.proofs.Flat.{flat_start, flat-more, flat-less}
+use Rattle.tree_check.proofs.Surveys.{survey-start, survey-end, survey-stop, survey-inconsistent, survey-on}
 use Rattle.tree_check.proofs.survey.survey_trees.Goals as goal
 
 pub loop-pending-init : goal.loop-pending-init

@@ -1,14 +1,10 @@
 -- The proof that `survey_trees` meets its contract. The loop keeps the trees that are still to pass as one list of siblings.
-use mathlib.Core.Path.{sym, ◌∙◌}
 use Prim.Native.Nat.{ℕ, ◌-◌, ◌≤◌}
-use native.Mathlib.Omega.{arith}
-use borrow.Author.Rules.{rules}
 use lib.ListN.{length, drop}
 use Rattle.format.specs.Records.{Forest}
 use Rattle.tree_nodes.specs.Flat.{Reads}
-use Rattle.tree_nodes.proofs.Nodes.{node-is}
-use Rattle.tree_nodes.proofs.Flat.{FlatPass, flat_start, flat-more, flat-less}
-use Rattle.tree_check.proofs.Surveys.{Surveying, survey-start, survey-end, survey-stop, survey-inconsistent, survey-on}
+use Rattle.tree_nodes.proofs.Flat.{FlatPass}
+use Rattle.tree_check.proofs.Surveys.{Surveying}
 use Rattle.tree_check.proofs.survey.survey_trees.Given as goal
 
 abbrev pub invariant-loop-pending : goal.invariant-loop-pending

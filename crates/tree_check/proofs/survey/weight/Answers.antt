@@ -1,7 +1,6 @@
 -- The proof that `weight` meets its contract.
 use native.Mathlib.Omega.{arith}
 use borrow.Author.Tests.{le-leb, lt-leb}
-use borrow.Author.Rules.{rules}
 use Rattle.tree_check.proofs.survey.weight.Goals as goal
 
 pub returns-then-count-ge1 : goal.returns-then-count-ge1

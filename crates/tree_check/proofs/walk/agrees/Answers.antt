@@ -1,5 +1,4 @@
 -- The proof that `agrees` meets its contract.
-use borrow.Author.Rules.{rules}
 use Rattle.tree_check.proofs.walk.agrees.Goals as goal
 
 pub returns-then-dir : goal.returns-then-dir

@@ -1,5 +1,4 @@
 -- The proof that `is_in` meets its contract.
-use borrow.Author.Rules.{rules}
 use borrow.Author.Tests.{eq-eqb, ne_eqb}
 use Rattle.tree_check.proofs.walk.is_in.Goals as goal
 

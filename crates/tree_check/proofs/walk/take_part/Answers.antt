@@ -3,7 +3,6 @@ use mathlib.Core.Path.{refl, sym, ◌∙◌}
 use native.Mathlib.Omega.{arith}
 use Rattle.tree_nodes.proofs.Nodes.{node-is}
 use Rattle.tree_check.proofs.Parts.{part-files, part-missing, part-lost}
-use borrow.Author.Rules.{rules}
 use Rattle.tree_check.proofs.walk.take_part.Goals as goal
 
 pub read_node-read-requires : goal.read_node-read-requires

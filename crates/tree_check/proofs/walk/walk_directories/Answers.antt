@@ -1,27 +1,17 @@
-use mathlib.Core.Path.{◌≡◌, refl, sym, ap, ◌∙◌}
-use mathlib.Core.List.{List, ◌∷◌}
-use Prim.Native.Nat.{ℕ}
+use mathlib.Core.Path.{refl, sym, ap, ◌∙◌}
 use native.Mathlib.Omega.{arith}
-use lib.ListN.{length, drop}
-use Rattle.format.specs.Records.{Forest}
-use Rattle.format.specs.Reading.{good}
-use Rattle.format.specs.Reader.{read_forest}
-use Rattle.tree_counts.specs.Counts.{SoundForest}
-use Rattle.entries_directory.specs.Ahead.{Ahead}
-use Rattle.tree_search.specs.Table.{Known}
-use Rattle.tree_check.proofs.Turns.{turns, turns-passed}
-use Rattle.tree_check.proofs.Walks.{Walk, walk_start, walk-passed, walk-full, walk-entered, walk-left, walk_end}
-use Rattle.tree_check.proofs.Loops.{Looping, loop-start, loop-ready, loop-passed, less-entered, loop-entered, above_before, less-left, loop-left}
-use borrow.Author.Rules.{rules}
+use lib.ListN.{length}
+use Rattle.tree_check.proofs.Turns.{turns-passed}
+use Rattle.tree_check.proofs.Walks.{walk_start, walk-passed, walk-full, walk-entered, walk-left, walk_end}
+use Rattle.tree_check.proofs.Loops.{loop-start, loop-ready, loop-passed, less-entered, loop-entered, above_before, less-left, loop-left}
 use Rattle.tree_check.proofs.walk.walk_directories.Goals as goal
 
 pub loop-work-init : goal.loop-work-init
-loop-work-init c =
-    (
-      c.requires.1,
-      loop-start _ _ _ _ _ _ c.requires.0 c.requires.3 refl,
-      λ f n sound reads x xs ahead. walk_start _ _ _ _ _ _ _ _ c.requires.2 c.requires.3 f n sound reads x xs ahead,
-    )
+loop-work-init c = (
+  c.requires.1,
+  loop-start _ _ _ _ _ _ c.requires.0 c.requires.3 refl,
+  λ f n sound reads x xs ahead. walk_start _ _ _ _ _ _ _ _ c.requires.2 c.requires.3 f n sound reads x xs ahead,
+)
 
 pub take_part-part-requires : goal.take_part-part-requires
 take_part-part-requires c =

@@ -1,20 +1,18 @@
 -- The proof that `walk_directories` meets its contract. The loop keeps bounds, whatever the entries and the tree are; and, where they were read, what was
 -- passed in the directory of each level, with the sums up to there.
-use mathlib.Core.Path.{◌≡◌, refl, sym, ap, ◌∙◌}
+use mathlib.Core.Path.{◌≡◌}
 use mathlib.Core.List.{List, ◌∷◌}
 use Prim.Native.Nat.{ℕ}
-use native.Mathlib.Omega.{arith}
-use lib.ListN.{length, drop}
+use lib.ListN.{drop}
 use Rattle.format.specs.Records.{Forest}
 use Rattle.format.specs.Reading.{good}
 use Rattle.format.specs.Reader.{read_forest}
 use Rattle.tree_counts.specs.Counts.{SoundForest}
 use Rattle.entries_directory.specs.Ahead.{Ahead}
 use Rattle.tree_search.specs.Table.{Known}
-use Rattle.tree_check.proofs.Turns.{turns, turns-passed}
-use Rattle.tree_check.proofs.Walks.{Walk, walk_start, walk-passed, walk-full, walk-entered, walk-left, walk_end}
-use Rattle.tree_check.proofs.Loops.{Looping, loop-start, loop-ready, loop-passed, less-entered, loop-entered, above_before, less-left, loop-left}
-use borrow.Author.Rules.{rules}
+use Rattle.tree_check.proofs.Turns.{turns}
+use Rattle.tree_check.proofs.Walks.{Walk}
+use Rattle.tree_check.proofs.Loops.{Looping}
 use Rattle.tree_check.proofs.walk.walk_directories.Given as goal
 
 abbrev pub invariant-loop-work : goal.invariant-loop-work

@@ -2,7 +2,6 @@
 use mathlib.Core.Path.{sym, ap, ◌∙◌}
 use Prim.Native.Nat.{◌≤◌}
 use native.Mathlib.Omega.{arith}
-use borrow.Author.Rules.{rules}
 use borrow.Author.Tests.{le-leb}
 use Rattle.tree_nodes.proofs.Nodes.{minus_to, plain_to, count-empty, count-minus, count-plain}
 use Rattle.tree_nodes.proofs.node.count_in.Goals as goal

@@ -1,7 +1,6 @@
 -- The proof that `read_count` meets its contract.
 use native.Mathlib.Omega.{arith}
 use mathlib.Core.Path.{sym, ◌∙◌}
-use borrow.Author.Rules.{rules}
 use Rattle.tree_nodes.proofs.Nodes.{count_none, count-some}
 use Rattle.tree_nodes.proofs.node.read_count.Goals as goal
 

@@ -2,7 +2,6 @@
 use mathlib.Core.Path.{sym, ◌∙◌}
 use Prim.Native.Nat.{◌+◌}
 use native.Mathlib.Omega.{arith}
-use borrow.Author.Rules.{rules}
 use Rattle.tree_nodes.proofs.Nodes.{CountIs, SubtreesIs, count_is, subtrees-is, node-none, node-no-count, node-no-subtrees, node-short, node-good}
 use Rattle.tree_nodes.proofs.node.read_node.Goals as goal
 use Rattle.tree_nodes.proofs.node.read_node.Goals.{In-Good, In-Good-listed}

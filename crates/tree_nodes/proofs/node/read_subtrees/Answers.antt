@@ -2,7 +2,6 @@
 use native.Mathlib.Omega.{arith}
 use mathlib.Core.Path.{sym, ap, ◌∙◌}
 use Prim.Native.Nat.{◌+◌}
-use borrow.Author.Rules.{rules}
 use Rattle.tree_nodes.proofs.Nodes.{subtrees_to, subtrees-none, subtrees-some}
 use Rattle.tree_nodes.proofs.node.read_subtrees.Goals as goal
 

@@ -1,9 +1,5 @@
 use native.Mathlib.Omega.{arith}
-use mathlib.Core.Path.{◌≡◌, sym, ◌∙◌}
-use Prim.Native.Nat.{◌≤◌, ◌-◌}
-use lib.ListN.{length, drop}
-use borrow.Author.Rules.{rules}
-use Rattle.tree_nodes.specs.Answers.{number_in, number_from}
+use mathlib.Core.Path.{sym, ◌∙◌}
 use Rattle.tree_nodes.proofs.Numbers.{number-none, number-zero, number-zeros, number_digits, over, from_end, from_low, from-high, from_step}
 use Rattle.tree_nodes.proofs.number.read_number.Goals as goal
 

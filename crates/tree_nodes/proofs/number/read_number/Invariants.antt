@@ -1,11 +1,8 @@
 -- The proof that `read_number` meets its contract. The loop keeps the number that the whole text says.
-use native.Mathlib.Omega.{arith}
-use mathlib.Core.Path.{◌≡◌, sym, ◌∙◌}
+use mathlib.Core.Path.{◌≡◌}
 use Prim.Native.Nat.{◌≤◌, ◌-◌}
 use lib.ListN.{length, drop}
-use borrow.Author.Rules.{rules}
 use Rattle.tree_nodes.specs.Answers.{number_in, number_from}
-use Rattle.tree_nodes.proofs.Numbers.{number-none, number-zero, number-zeros, number_digits, over, from_end, from_low, from-high, from_step}
 use Rattle.tree_nodes.proofs.number.read_number.Given as goal
 
 abbrev pub invariant-loop-i : goal.invariant-loop-i

@@ -1,11 +1,7 @@
-use mathlib.Core.Path.{◌≡◌, refl, sym, ◌∙◌}
-use Prim.Native.Nat.{◌+◌, ◌-◌}
+use mathlib.Core.Path.{refl, sym, ◌∙◌}
 use native.Mathlib.Omega.{arith}
-use borrow.Author.Rules.{rules}
-use lib.ListN.{length, drop}
-use Rattle.tree_nodes.specs.Flat.{trees_length}
 use Rattle.tree_nodes.proofs.Nodes.{NodeIs, node-is}
-use Rattle.tree_nodes.proofs.Flat.{FlatPass, flat_start, flat-more, flat-less, trees-end, trees-more, trees-stop}
+use Rattle.tree_nodes.proofs.Flat.{flat_start, flat-more, flat-less, trees-end, trees-more, trees-stop}
 use Rattle.tree_nodes.proofs.passes.after_trees.Goals as goal
 use Rattle.tree_nodes.proofs.passes.after_trees.Goals.{After-struct_known-1}
 

@@ -1,12 +1,9 @@
 -- The proof that `after_trees` meets its contract. The loop keeps the place after the trees.
-use mathlib.Core.Path.{◌≡◌, refl, sym, ◌∙◌}
+use mathlib.Core.Path.{◌≡◌}
 use Prim.Native.Nat.{◌+◌, ◌-◌}
-use native.Mathlib.Omega.{arith}
-use borrow.Author.Rules.{rules}
 use lib.ListN.{length, drop}
 use Rattle.tree_nodes.specs.Flat.{trees_length}
-use Rattle.tree_nodes.proofs.Nodes.{NodeIs, node-is}
-use Rattle.tree_nodes.proofs.Flat.{FlatPass, flat_start, flat-more, flat-less, trees-end, trees-more, trees-stop}
+use Rattle.tree_nodes.proofs.Flat.{FlatPass}
 use Rattle.tree_nodes.proofs.passes.after_trees.Given as goal
 
 abbrev pub invariant-loop-pending : goal.invariant-loop-pending

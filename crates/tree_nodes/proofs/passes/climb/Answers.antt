@@ -1,7 +1,5 @@
-use mathlib.Core.Path.{◌≡◌, refl, sym, ◌∙◌}
-use Prim.Native.Nat.{suc, ◌<◌}
+use mathlib.Core.Path.{refl, sym, ◌∙◌}
 use native.Mathlib.Omega.{arith}
-use Rattle.tree_nodes.specs.Levels.{stack_of, climbed}
 use Rattle.tree_nodes.proofs.Levels.{climb-stays, climb-root, climb-more}
 use Rattle.tree_nodes.proofs.passes.climb.Goals as goal
 

@@ -1,9 +1,7 @@
 -- The proof that `climb` meets its contract. The loop keeps where the climb ends.
-use mathlib.Core.Path.{◌≡◌, refl, sym, ◌∙◌}
+use mathlib.Core.Path.{◌≡◌}
 use Prim.Native.Nat.{suc, ◌<◌}
-use native.Mathlib.Omega.{arith}
 use Rattle.tree_nodes.specs.Levels.{stack_of, climbed}
-use Rattle.tree_nodes.proofs.Levels.{climb-stays, climb-root, climb-more}
 use Rattle.tree_nodes.proofs.passes.climb.Given as goal
 
 abbrev pub invariant-loop-at : goal.invariant-loop-at

@@ -1,7 +1,6 @@
 -- The proof that `enter` meets its contract.
 use native.Mathlib.Omega.{arith}
 use lib.ListN.{length-set}
-use borrow.Author.Rules.{rules}
 use Rattle.tree_nodes.proofs.Levels.{passed-leaf, passed-node}
 use Rattle.tree_nodes.proofs.passes.enter.Goals as goal
 

@@ -1,13 +1,9 @@
-use mathlib.Core.Path.{◌≡◌, refl, sym, ◌∙◌}
-use Prim.Native.Nat.{suc, ◌+◌, ◌≤◌, ◌<◌}
+use mathlib.Core.Path.{refl, sym, ◌∙◌}
 use native.Mathlib.Omega.{arith}
-use lib.ListN.{length, drop}
-use borrow.Author.Rules.{rules}
-use Rattle.format.specs.Places.{node_start}
 use Rattle.tree_nodes.proofs.Nodes.{node-is}
 use Rattle.tree_nodes.specs.Levels.{stack_of}
 use Rattle.tree_nodes.proofs.Flat.{place_end, place-more, place-stop}
-use Rattle.tree_nodes.proofs.Levels.{Passing, passing-start, passing-more, passing-stop, passing-end}
+use Rattle.tree_nodes.proofs.Levels.{passing-start, passing-more, passing-stop, passing-end}
 use Rattle.tree_nodes.proofs.passes.find_node.Goals as goal
 
 pub loop-left-init : goal.loop-left-init

@@ -1,15 +1,11 @@
 -- The proof that `find_node` meets its contract. The loop keeps where the node begins, and that the array says what is still to come of any
 -- tree that the data may be.
-use mathlib.Core.Path.{◌≡◌, refl, sym, ◌∙◌}
+use mathlib.Core.Path.{◌≡◌}
 use Prim.Native.Nat.{suc, ◌+◌, ◌≤◌, ◌<◌}
-use native.Mathlib.Omega.{arith}
 use lib.ListN.{length, drop}
-use borrow.Author.Rules.{rules}
 use Rattle.format.specs.Places.{node_start}
-use Rattle.tree_nodes.proofs.Nodes.{node-is}
 use Rattle.tree_nodes.specs.Levels.{stack_of}
-use Rattle.tree_nodes.proofs.Flat.{place_end, place-more, place-stop}
-use Rattle.tree_nodes.proofs.Levels.{Passing, passing-start, passing-more, passing-stop, passing-end}
+use Rattle.tree_nodes.proofs.Levels.{Passing}
 use Rattle.tree_nodes.proofs.passes.find_node.Given as goal
 
 abbrev pub invariant-loop-left : goal.invariant-loop-left

@@ -3,7 +3,6 @@ use mathlib.Core.Path.{◌≡◌, sym, ap, ◌∙◌}
 use Prim.Native.Nat.{ℕ, ◌+◌, ◌-◌}
 use native.Mathlib.Omega.{arith}
 use lib.ListN.{drop}
-use borrow.Author.Rules.{rules}
 use Rattle.tree_nodes.specs.Flat.{trees_length}
 use Rattle.tree_nodes.proofs.Nodes.{NodeIs, node-is}
 use Rattle.tree_nodes.proofs.Trees.{name_is, node-name-is}

@@ -1,10 +1,7 @@
 use mathlib.Core.Path.{sym, ◌∙◌}
-use Prim.Native.Nat.{◌-◌}
 use native.Mathlib.Omega.{arith}
-use lib.ListN.{length}
 use Rattle.tree_nodes.proofs.Nodes.{node-is}
-use Rattle.tree_nodes.proofs.Flat.{FlatPass, flat_start, flat-more, flat-less}
-use borrow.Author.Rules.{rules}
+use Rattle.tree_nodes.proofs.Flat.{flat_start, flat-more, flat-less}
 use Rattle.tree_search.proofs.child.is_longer.Goals as goal
 
 pub loop-pending-init : goal.loop-pending-init

@@ -1,11 +1,7 @@
 -- The proof that `is_longer` meets its contract.
-use mathlib.Core.Path.{sym, ◌∙◌}
 use Prim.Native.Nat.{◌-◌}
-use native.Mathlib.Omega.{arith}
 use lib.ListN.{length}
-use Rattle.tree_nodes.proofs.Nodes.{node-is}
-use Rattle.tree_nodes.proofs.Flat.{FlatPass, flat_start, flat-more, flat-less}
-use borrow.Author.Rules.{rules}
+use Rattle.tree_nodes.proofs.Flat.{FlatPass}
 use Rattle.tree_search.proofs.child.is_longer.Given as goal
 
 abbrev pub invariant-loop-pending : goal.invariant-loop-pending

@@ -1,6 +1,5 @@
 -- The proof that `is_named` meets its contract.
 use mathlib.Core.Path.{ap, ◌∙◌}
-use borrow.Author.Rules.{rules}
 use Rattle.format.specs.Bytes.{eq_list}
 use Rattle.tree_nodes.proofs.Trees.{name_is}
 use Rattle.tree_search.proofs.child.is_named.Goals as goal

@@ -1,6 +1,5 @@
 use mathlib.Core.Path.{sym, ◌∙◌}
-use borrow.Author.Rules.{rules}
-use Rattle.tree_search.proofs.Telling.{Scanning, scan-start, scan-on, scan-here, scan-end}
+use Rattle.tree_search.proofs.Telling.{scan-start, scan-on, scan-here, scan-end}
 use Rattle.tree_search.proofs.child.scan.Goals as goal
 
 pub loop-left-init : goal.loop-left-init

@@ -1,7 +1,5 @@
 -- The proof that `scan` meets its contract. The loop keeps that the name is none of those passed, and that the last siblings are from the place on.
-use mathlib.Core.Path.{sym, ◌∙◌}
-use borrow.Author.Rules.{rules}
-use Rattle.tree_search.proofs.Telling.{Scanning, scan-start, scan-on, scan-here, scan-end}
+use Rattle.tree_search.proofs.Telling.{Scanning}
 use Rattle.tree_search.proofs.child.scan.Given as goal
 
 abbrev pub invariant-loop-left : goal.invariant-loop-left

@@ -1,11 +1,7 @@
 -- The proof that `find_ahead` meets its contract. The loop keeps that a cursor from which it began has gone on to the place.
 use Prim.Native.Nat.{ℕ, ◌≤◌}
-use native.Mathlib.Omega.{arith}
 use lib.ListN.{length}
-use borrow.Author.Rules.{rules}
 use Rattle.tree_search.specs.Siblings.{Cursor}
-use Rattle.tree_search.proofs.Telling.{cursor-next, cursor-here}
-use Rattle.tree_search.proofs.Rows.{moved-past}
 use Rattle.tree_search.proofs.cursors.find_ahead.Given as goal
 
 abbrev pub invariant-loop-left : goal.invariant-loop-left

@@ -1,7 +1,6 @@
 -- The proof that `find_by_cursor` meets its contract.
 use Rattle.tree_search.proofs.Telling.{told-unknown}
 use Rattle.tree_search.proofs.Rows.{cursor-at, cursor-set}
-use borrow.Author.Rules.{rules}
 use Rattle.tree_search.proofs.cursors.find_by_cursor.Goals as goal
 
 pub returns-then-count-eq0 : goal.returns-then-count-eq0

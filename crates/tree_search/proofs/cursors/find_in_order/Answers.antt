@@ -1,7 +1,6 @@
 -- The proof that `find_in_order` meets its contract.
 use native.Mathlib.Omega.{arith}
 use Rattle.tree_search.proofs.Telling.{scan-start, scan-end}
-use borrow.Author.Rules.{rules}
 use Rattle.tree_search.proofs.cursors.find_in_order.Goals as goal
 
 pub returns-then-k-eq0 : goal.returns-then-k-eq0

@@ -1,7 +1,6 @@
 -- The proof that `find_in_row` meets its contract.
 use native.Mathlib.Omega.{arith}
 use Rattle.tree_search.proofs.Rows.{row-own}
-use borrow.Author.Rules.{rules}
 use Rattle.tree_search.proofs.cursors.find_in_row.Goals as goal
 
 pub find_by_cursor-told-requires : goal.find_by_cursor-told-requires

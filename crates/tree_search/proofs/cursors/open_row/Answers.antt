@@ -2,7 +2,6 @@
 use mathlib.Core.Path.{◌≡◌, sym, ◌∙◌}
 use Prim.Native.Nat.{◌+◌, ◌*◌}
 use native.Mathlib.Omega.{arith}
-use borrow.Author.Rules.{rules}
 use Rattle.tree_search.proofs.Rows.{row-is-of, row_new, mark_set}
 use Rattle.tree_search.proofs.cursors.open_row.Goals as goal
 

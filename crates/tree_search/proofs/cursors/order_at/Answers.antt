@@ -2,7 +2,6 @@
 use mathlib.Core.Path.{◌≡◌, sym, ◌∙◌}
 use Prim.Native.Nat.{ℕ}
 use native.Mathlib.Omega.{arith}
-use borrow.Author.Rules.{rules}
 use Rattle.format_laws.proofs.Lists.{eq-eq_list}
 use Rattle.tree_nodes.proofs.Trees.{name_is}
 use Rattle.tree_search.proofs.cursors.order_at.Goals as goal

@@ -5,8 +5,6 @@ use Prim.Native.Nat.{ℕ, ◌≤◌}
 use native.Mathlib.Omega.{arith}
 use lib.ListN.{length}
 use lib.Seq.{take_all}
-use borrow.Author.Tests.{leb-true}
-use borrow.Author.Rules.{rules}
 use Rattle.format.specs.Names.{common}
 use Rattle.format_laws.proofs.Names.{common-take}
 use Rattle.tree_search.proofs.cursors.order_of.Goals as goal

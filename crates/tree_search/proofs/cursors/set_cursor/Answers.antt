@@ -1,6 +1,5 @@
 -- The proof that `set_cursor` meets its contract.
 use Rattle.tree_search.proofs.Rows.{cursor-set}
-use borrow.Author.Rules.{rules}
 use Rattle.tree_search.proofs.cursors.set_cursor.Goals as goal
 
 pub returns-then-t-i-eq0 : goal.returns-then-t-i-eq0

@@ -1,9 +1,6 @@
 use native.Mathlib.Omega.{arith}
-use Rattle.tree_search.specs.Siblings.{Cursor}
-use Rattle.tree_search.specs.Rows.{RowOf}
 use Rattle.tree_search.proofs.Telling.{cursor-all, cursor-next}
 use Rattle.tree_search.proofs.Rows.{mark_set}
-use borrow.Author.Rules.{rules}
 use Rattle.tree_search.proofs.cursors.set_cursors.Goals as goal
 
 pub loop-left-init : goal.loop-left-init

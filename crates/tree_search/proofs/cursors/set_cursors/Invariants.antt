@@ -1,10 +1,6 @@
 -- The proof that `set_cursors` meets its contract. The loop keeps that a cursor over the siblings has gone on to the place, and the row.
-use native.Mathlib.Omega.{arith}
 use Rattle.tree_search.specs.Siblings.{Cursor}
 use Rattle.tree_search.specs.Rows.{RowOf}
-use Rattle.tree_search.proofs.Telling.{cursor-all, cursor-next}
-use Rattle.tree_search.proofs.Rows.{mark_set}
-use borrow.Author.Rules.{rules}
 use Rattle.tree_search.proofs.cursors.set_cursors.Given as goal
 
 abbrev pub invariant-loop-left : goal.invariant-loop-left

@@ -1,6 +1,5 @@
 -- The proof that `begin` meets its contract.
 use Rattle.tree_search.proofs.Tables.{begun}
-use borrow.Author.Rules.{rules}
 use Rattle.tree_search.proofs.table.begin.Goals as goal
 
 pub returns : goal.returns

@@ -3,9 +3,7 @@ use mathlib.Core.Path.{sym, ◌∙◌}
 use Prim.Native.Nat.{◌+◌, ◌-◌}
 use lib.ListN.{get_or}
 use native.Mathlib.Omega.{arith}
-use borrow.Author.Tests.{not-false}
 use Rattle.tree_search.proofs.Lookup.{Tells, slot-tells, tells_none, tells-here, tells-other}
-use borrow.Author.Rules.{rules}
 use Rattle.tree_search.proofs.table.find_in_table.Goals as goal
 use Rattle.tree_search.proofs.table.find_in_table.Goals.{Else-t-i}
 

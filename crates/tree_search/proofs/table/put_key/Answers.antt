@@ -1,7 +1,6 @@
 -- The proof that `put_key` meets its contract.
 use native.Mathlib.Omega.{arith}
 use Rattle.tree_search.proofs.Tables.{set-cell, vacant-stays, known-stays}
-use borrow.Author.Rules.{rules}
 use Rattle.tree_search.proofs.table.put_key.Goals as goal
 
 pub returns : goal.returns

@@ -1,7 +1,6 @@
 -- The proof that `put_place` meets its contract.
 use Rattle.tree_search.proofs.Places.{place-not, place-first, place-more}
 use mathlib.Core.Path.{sym}
-use borrow.Author.Rules.{rules}
 use Rattle.tree_search.proofs.table.put_place.Goals as goal
 
 pub returns-then-t-i : goal.returns-then-t-i

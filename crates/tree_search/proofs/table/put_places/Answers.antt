@@ -1,5 +1,4 @@
-use Rattle.tree_search.proofs.Tables.{Filling, filling-start, filling-on, filling-end}
-use borrow.Author.Rules.{rules}
+use Rattle.tree_search.proofs.Tables.{filling-start, filling-on, filling-end}
 use Rattle.tree_search.proofs.table.put_places.Goals as goal
 
 pub loop-left-init : goal.loop-left-init

@@ -1,6 +1,5 @@
 -- The proof that `put_places` meets its contract. The loop keeps that all siblings but the last are put down.
-use Rattle.tree_search.proofs.Tables.{Filling, filling-start, filling-on, filling-end}
-use borrow.Author.Rules.{rules}
+use Rattle.tree_search.proofs.Tables.{Filling}
 use Rattle.tree_search.proofs.table.put_places.Given as goal
 
 abbrev pub invariant-loop-left : goal.invariant-loop-left

@@ -1,6 +1,5 @@
 -- The proof that `reset` meets its contract.
 use mathlib.Core.Path.{◌∙◌}
-use borrow.Author.Rules.{rules}
 use Rattle.tree_search.proofs.Tables.{reset-known, reset-vacant}
 use Rattle.tree_search.proofs.table.reset.Goals as goal
 

@@ -1,6 +1,5 @@
 -- The proof that `seed_tables` meets its contract.
 use Rattle.tree_search.proofs.Tables.{seed-known}
-use borrow.Author.Rules.{rules}
 use Rattle.tree_search.proofs.table.seed_tables.Goals as goal
 
 pub returns : goal.returns
