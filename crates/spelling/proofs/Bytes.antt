@@ -31,13 +31,13 @@ be32s-drop k s a (suc n) =
     let next : k + (a + 4) ≡ k + a + 4 = omega arith in
     rw (be32-drop k s a, be32s-drop k s (a + 4) n, next) refl
 
-pub get_d-be32s : (s : List ℕ) (a n i : ℕ) → i < n → get_or (be32s s a n) i 0 ≡ be32 s (a + 4 * i)
+pub get_or-be32s : (s : List ℕ) (a n i : ℕ) → i < n → get_or (be32s s a n) i 0 ≡ be32 s (a + 4 * i)
 unfolding be32s
-get_d-be32s s a zero i h = absurd (omega arith)
-get_d-be32s s a (suc n) zero h = let here : a + 4 * 0 ≡ a = omega arith in rw here refl
-get_d-be32s s a (suc n) (suc i) h =
+get_or-be32s s a zero i h = absurd (omega arith)
+get_or-be32s s a (suc n) zero h = let here : a + 4 * 0 ≡ a = omega arith in rw here refl
+get_or-be32s s a (suc n) (suc i) h =
     let next : a + 4 + 4 * i ≡ a + 4 * suc i = omega arith in
-    rw (get_d-be32s s (a + 4) n i (omega arith), next) refl
+    rw (get_or-be32s s (a + 4) n i (omega arith), next) refl
 
 -- what is put is read back
 pub be32s-put32s : (ns r : List ℕ) → fit32 ns ≡ true → be32s (put32s ns ++ r) 0 (length ns) ≡ ns

@@ -17,7 +17,7 @@ use Rattle.format.specs.Reader.{is_set, ok_word, entry_of, read_name, read_tail,
 use Rattle.format_laws.proofs.Tests.{and-inv, cond-inv}
 use Rattle.format_laws.proofs.Numbers.{bytes_drop, length-put16, be16-here, be16-below, put16-be16}
 use Rattle.format_laws.proofs.Readings.{good-inv, need-inv, shift-inv, bind_inv, need-good, shift-good, bind-good}
-use Rattle.spelling.proofs.Bytes.{length-put32s, length-be32s, get_d-be32s, be32s-put32s, fit32-be32s, put32s-be32s}
+use Rattle.spelling.proofs.Bytes.{length-put32s, length-be32s, get_or-be32s, be32s-put32s, fit32-be32s, put32s-be32s}
 use Rattle.spelling.proofs.Names.{read_name_lem, name-read}
 use Rattle.spelling.proofs.Flags.{flags-read, read_flags, word_read, read_word}
 
@@ -176,7 +176,7 @@ front w ns o x r ten fit wide small =
       long =
           rw (length-append (put32s ns) (o ++ (put16 x ++ r)), length-append o (put16 x ++ r), length-append (put16 x) r) (omega (arith, length-put16 x));
       numbers = numbers;
-      mode = sym (get_d-be32s s 0 10 6 (omega arith)) ∙ ap (λ (l : List ℕ). get_or l 6 0) numbers;
+      mode = sym (get_or-be32s s 0 10 6 (omega arith)) ∙ ap (λ (l : List ℕ). get_or l 6 0) numbers;
       object = rw after (take_at o (put16 x ++ r) w wide);
       flags = be16-here s (40 + w) x r next small;
       end = rw (parts, ← (drop-drop 2 (40 + w) s), next) (drop_at (put16 x) r 2 (length-put16 x));
@@ -331,7 +331,7 @@ passes-spelled w v k p s e m b h =
     let is : IsEntry w v k (entry_of w s x y h.name) (take (f + h.taken) s) = record {
       ten = length-be32s s 0 10;
       fit = fit32-be32s s 0 10 b;
-      mode = rw (get_d-be32s s 0 10 6 (omega arith)) h.mode;
+      mode = rw (get_or-be32s s 0 10 6 (omega arith)) h.mode;
       object = length-take-le w (drop 40 s) (rw (length-drop 40 s) (omega arith));
       stage = omega arith;
       name = ok;

@@ -24,7 +24,7 @@ use Rattle.format_laws.proofs.Readings.{good-inv, need-inv, bind_inv}
 use Rattle.spelling.proofs.Names.{name-read}
 use Rattle.spelling.proofs.Flags.{read_word}
 use Rattle.spelling.proofs.Entries.{word_in, Passes, fixed-size, read-passes, read-entry, entry_read}
-use Rattle.spelling.proofs.ZeroedNames.{by_place, zeroed-length, zeroed-drop, zeroed-past, zeroed-take, get_d-zeros, zeroed-before, zeroed-from, zeroed-bytes, Cut, name-zeroed}
+use Rattle.spelling.proofs.ZeroedNames.{by_place, zeroed-length, zeroed-drop, zeroed-past, zeroed-take, get_or-zeros, zeroed-before, zeroed-from, zeroed-bytes, Cut, name-zeroed}
 
 -- ---- the parts of an entry
 
@@ -178,7 +178,7 @@ entry-same w v k p s t e m b same q =
 -- in zeros there is none
 zeros-mode : (n : ℕ) → ok_mode (be32 (replicate n 0) 24) ≡ false
 unfolding ok_mode be32 be16
-zeros-mode n = simp get_d-zeros
+zeros-mode n = simp get_or-zeros
 
 pub zeros-none : (w v n : ℕ) (k : Key) (p i : ℕ) (es : List Entry) (m : ℕ) → read_entries w v n k p (replicate i 0) ≡ good es m → n ≡ 0
 unfolding read_entries read_entry

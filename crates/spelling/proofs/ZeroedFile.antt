@@ -19,7 +19,7 @@ use Rattle.format_laws.proofs.Tests.{and-inv}
 use Rattle.format_laws.proofs.Numbers.{bytes_take, bytes_drop}
 use Rattle.spelling.proofs.Entries.{entry-long, read-entries}
 use Rattle.spelling.proofs.File.{headed-version, headed-count, headed-rest, headed-length, body-first}
-use Rattle.spelling.proofs.ZeroedNames.{by_place, zeroed-length, zeroed-drop, zeroed-past, zeroed-part, zeroed-before, zeroed-from, get_d-zeros}
+use Rattle.spelling.proofs.ZeroedNames.{by_place, zeroed-length, zeroed-drop, zeroed-past, zeroed-part, zeroed-before, zeroed-from, get_or-zeros}
 use Rattle.spelling.proofs.Zeroed.{be16-same, zeros-none, none_read, Kept, kept_end, entries-zeroed}
 
 -- ---- no extension is all zeros, and no entry is without bytes
@@ -38,7 +38,7 @@ extensions-zeros : {w : ℕ} {ns : List (List ℕ)} {xs : List Extension} {a : L
 extensions-zeros extensions_end i e = sym (length-replicate i 0) ∙ sym (ap length e)
 extensions-zeros {w = w} {ns = ns} (extensions_more {x = x} {a = a} {b = b} h rest) i e =
     let first : 65 ≤ get_or a 0 0 = rw h.bytes (first_of h.signature _ (says_first w ns x h.signature h.content h.says)) in
-    let none : get_or (a ++ b) 0 0 ≡ 0 = ap (λ (l : List ℕ). get_or l 0 0) e ∙ get_d-zeros i 0 in
+    let none : get_or (a ++ b) 0 0 ≡ 0 = ap (λ (l : List ℕ). get_or l 0 0) e ∙ get_or-zeros i 0 in
     absurd (omega (arith, first_of a b first))
 
 entries_none : {w v : ℕ} {k : Key} {es : List Entry} {a : List ℕ} → Entries w v k es a → length a ≡ 0 → es ≡ []

@@ -78,10 +78,10 @@ zeroed-part (suc i) zero (x ∷ s) = rw (zeroed_first x s, zeroed_first x (take 
 zeroed-part (suc i) (suc c) (x ∷ s) = rw (zeroed-cons c x s, zeroed-cons c x (take i s), zeroed-part i c s)
 
 -- the byte at i
-pub get_d-zeros : (n i : ℕ) → get_or {A = ℕ} (replicate n 0) i 0 ≡ 0
-get_d-zeros zero i = refl
-get_d-zeros (suc n) zero = refl
-get_d-zeros (suc n) (suc i) = get_d-zeros n i
+pub get_or-zeros : (n i : ℕ) → get_or {A = ℕ} (replicate n 0) i 0 ≡ 0
+get_or-zeros zero i = refl
+get_or-zeros (suc n) zero = refl
+get_or-zeros (suc n) (suc i) = get_or-zeros n i
 
 pub zeroed-before : (i c : ℕ) (s : List ℕ) → i < c → get_or (zeroed_from c s) i 0 ≡ get_or s i 0
 zeroed-before i c s h = sym (get_or-take c (zeroed_from c s) i 0 h) ∙ rw (zeroed-take c c s (omega arith)) (get_or-take c s i 0 h)
@@ -89,7 +89,7 @@ zeroed-before i c s h = sym (get_or-take c (zeroed_from c s) i 0 h) ∙ rw (zero
 pub zeroed-from : (i c : ℕ) (s : List ℕ) → c ≤ i → get_or (zeroed_from c s) i 0 ≡ 0
 zeroed-from i c s h =
     let here : i + 0 ≡ i = omega arith in
-    let first : get_or (drop i (zeroed_from c s)) 0 0 ≡ 0 = rw (zeroed-past i c s h) (get_d-zeros (length s - i) 0) in
+    let first : get_or (drop i (zeroed_from c s)) 0 0 ≡ 0 = rw (zeroed-past i c s h) (get_or-zeros (length s - i) 0) in
     rw (get_or-drop i (zeroed_from c s) 0 0, here) at first
 
 pub zeroed-bytes : (c : ℕ) (s : List ℕ) → Bytes s → Bytes (zeroed_from c s)
