@@ -5,6 +5,7 @@
 // digests from another implementation.
 
 #![tactic(auto)]
+
 mod print;
 mod with_sha1;
 mod with_sha256;

@@ -1,6 +1,5 @@
 // Writes a line: a description, two spaces, the digest as lower-case hexadecimal digits.
-use std::fmt;
-use std::io;
+use std::{fmt, io};
 
 pub fn line(rt: &impl Print, description: &str, digest: &[u8]) -> io::Result<()> {
     let digits = Digits(digest);
