@@ -2,6 +2,7 @@
 // left out, a line for each entry, then what it has of a cache tree and of resolve-undo records. A refusal prints only its number and its place.
 
 #![tactic(auto)]
+
 mod name;
 
 ghost use Rattle.std.specs.Prelude.{◌≤◌, IfOk, length};
