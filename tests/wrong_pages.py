@@ -168,7 +168,7 @@ def sources(report: Report) -> None:
 def write_logs(folder: str, said: dict) -> None:
     """A log for each crate: what is said of it, else that it is proved and rests on what the page tells."""
     for crate in assurance.crates():
-        line = {"list": "logic=proved functions=1 axioms=2", "hash_examples": "logic=proved functions=1 axioms=1"}
+        line = {"list": "logic=proved functions=1 axioms=5", "hash_examples": "logic=proved functions=1 axioms=3"}
         with open(os.path.join(folder, f"{crate}.say"), "w", encoding="utf-8") as stream:
             stream.write(said.get(crate, line.get(crate, "logic=proved functions=1")) + "\n")
 
