@@ -1,6 +1,7 @@
 // The calls for programs in other languages: every public call of the library. Only numbers and pointers cross this boundary: a slice is a pointer and a length, where a null pointer with length 0 is the empty one, and a reply is an array of numbers that the caller lends. Each call takes the kind of object names: 1 is SHA-1, 2 is SHA-256, any other is refused with 29. The first number of a reply is the refusal, 0 of a success, the second its place; all that does not apply is 0. Crate nerupazhil_c exports these calls under the same names.
 
 #![tactic(auto)]
+
 ghost use Rattle.std.specs.Prelude.{◌≡◌, length};
 ghost use Rattle.format.specs.Places.{body_in, name_place, entry_name_place, node_place, undo_place};
 ghost use Rattle.format.specs.Requests.{put_record, remove_record};
@@ -129,12 +130,7 @@ pub fn nerupazhil_remove(
 
 // ---- a walk over the entries: the caller keeps the place and how many remain
 
-pub fn nerupazhil_walk_start(
-    kind: u32,
-    file: &[u8],
-    work: &mut [u8],
-    reply: &mut [u64; 4],
-)
+pub fn nerupazhil_walk_start(kind: u32, file: &[u8], work: &mut [u8], reply: &mut [u64; 4])
     ensures { (reply.new ≡ start_reply (start_answer work.old (read_kind kind file.now))) × (work.new ≡ cleared work.old) }
 {
     *reply = replies::start_reply(walk::start(kind, file, work));

@@ -1,6 +1,7 @@
 // The static library for programs in other languages: exports the calls of crate nerupazhil, each with that call's clauses. c/include/nerupazhil.h declares them.
 
 #![tactic(auto)]
+
 ghost use Rattle.std.specs.Prelude.{◌≡◌, length};
 ghost use Rattle.format.specs.Places.{body_in, name_place, entry_name_place, node_place, undo_place};
 ghost use Rattle.format.specs.Requests.{put_record, remove_record};

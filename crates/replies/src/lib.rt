@@ -1,6 +1,7 @@
 // Answers as arrays of numbers, and the fields of an entry from arrays that a caller lends.
 
 #![tactic(auto)]
+
 ghost use Rattle.std.specs.Prelude.{◌≡◌};
 ghost use Rattle.format.specs.Layout.{bit};
 ghost use Rattle.replies.specs.Arrays.{is_present, number_of, is_left_out, check_reply, shown_reply, field_numbers, given_fields, node_reply, undo_reply, step_reply, write_reply, start_reply};
