@@ -12,7 +12,7 @@ const ARCHIVE: &str = "libnerupazhil.a";
 
 /// The archives of the repository: the architecture that each is for, its folder, and the command that writes it.
 const FOLDERS: [(&str, &str, &str); 2] = [
-    ("x86_64", "target/staticlib", "rt staticlib nerupazhil"),
+    ("x86_64", "target/staticlib", "tools/staticlib"),
     ("aarch64", "target/archives/aarch64-linux", "./archives"),
 ];
 

@@ -10,7 +10,7 @@ What the page may say, and what is looked at:
     #### [title](../FILE)           the same of each name in backticks below, in the list of definitions
     [text](FILE.md#section) "words" FILE has this section, and the section has the words
     `folder/file`                   exists, unless a run makes it
-    `rt check demands`              a command, also in a block of 'sh': its program, files and crates exist
+    `rt ci demands`                 a command, also in a block of 'sh': its program, files and crates exist
     figures                         see RULES
 
 Besides: the page has no line numbers of sources; every definition that a statement named on the page rests on is in its
@@ -19,7 +19,7 @@ named asks anything of its caller; no reader is behind the rules on files; the t
 with definitions that give it; the table of answers has each field of each type that a public call answers, and the
 table of replies each member of each struct of the header.
 
-With --log, FOLDER has what the prover said of each crate: which crates rest on axioms, how many functions were proved.
+With --log, FOLDER has what the prover said of each crate (tools/said): which crates rest on axioms, how many functions were proved.
 With --renew, figures are written anew. With --lines, nothing is tested: it prints 'path:line  name' for each statement
 that the page names.
 
@@ -45,7 +45,7 @@ HEADER = "c/include/nerupazhil.h"
 REFUSALS = [*range(1, 22), 29]
 MADE = ("target/", ".ci/log/")  # by a run
 SHELLS = ("rt", "bash", "python3")
-CALLS = ("index", "index_write", "walk", "nerupazhil")
+CALLS = ("index", "index_write", "walk", "nerupazhil", "nerupazhil_c")
 RULE_OF_FILES = ("crates/format/specs/Layout.antt", "Spells")
 WORDS = ("hash_words", 16)  # the crate that loads a block's message words, and how many may be held at a time
 READERS = ("crates/format/specs/Reading.antt", "crates/format/specs/Reader.antt")
@@ -130,14 +130,19 @@ def is_declared(one: tuple) -> bool:
     return exists(one[0]) and one[1] in declarations(one[0])
 
 
+def rows_of_crates() -> dict:
+    """The crates, and of each those that it depends on."""
+    rows = filter(None, (re.match(r"(\w+)(?: staticlib)?:([^#]*)", line) for line in lines_of("crates.txt")))
+    return {row[1]: row[2].split() for row in rows}
+
+
 def crates() -> set:
-    return {line.partition(":")[0] for line in lines_of("crates.txt") if re.match(r"^\w+:", line)}
+    return set(rows_of_crates())
 
 
 def over(crate: str) -> set:
     """The crate and those that depend on it."""
-    rows = (line.partition(":") for line in lines_of("crates.txt") if re.match(r"^\w+:", line))
-    return {name for name, _, below in rows if crate in (name, *below.split())}
+    return {name for name, below in rows_of_crates().items() if crate in (name, *below)}
 
 
 def verdicts(folder: str) -> dict:
@@ -323,7 +328,7 @@ def commands(page: Page):
         program, *rest = shlex.split(line)
         known = program in SHELLS or exists(program)
         if program == "rt":
-            good = rest == ["version"] or rest[0] == "check" and set(rest[1:]) <= crates()
+            good = rest == ["version"] or rest[:1] == ["ci"] and set(rest[1:]) <= crates()
         else:
             good = known and all(exists(word) for word in rest if not word.startswith("-"))
         yield f"command {line}", good, "its program, a file or a crate is not there"

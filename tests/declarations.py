@@ -16,14 +16,14 @@ from typing import NamedTuple
 
 ROOT = os.path.join(os.path.dirname(os.path.abspath(__file__)), "..")
 SOURCES = {
-    "Rattle": ("crates/nerupazhil/src/*.rt", "crates/kinds/src/lib.rt"),
+    "Rattle": ("crates/nerupazhil_c/src/*.rt", "crates/kinds/src/lib.rt"),
     "Rust": ("rust/src/raw.rs",),
     "C": ("c/include/nerupazhil.h",),
 }
 
 CALL = r"(?P<name>nerupazhil_\w+)\((?P<rows>[^)]*)\)"
 FUNCTION = {
-    "Rattle": rf'#\[no_mangle\]\npub extern "C" fn {CALL}(?: -> (?P<result>\w+))?\n',
+    "Rattle": rf'#\[unsafe\(no_mangle\)\]\npub extern "C" fn {CALL}(?: -> (?P<result>\w+))?\n',
     "Rust": rf"\n    pub fn {CALL}(?: -> (?P<result>\w+))?;",
     "C": rf"\n(?P<result>\w[\w ]*?) {CALL};",
 }

@@ -4,7 +4,8 @@ Reads antt (`*.antt`) and Rattle (`*.rt`) files of the repository as text. A dec
 the next one. It cites every name in it that its file declares or imports; a variable that is spelled like a definition
 counts as that definition, so what is said to be cited is never too little.
 
-A definition is a pair of its file and its name; what comes from the kit is a pair of None and the kit's module.
+A definition is a pair of its file and its name; what comes from the kit is a pair of None and the kit's module. A library
+of the kit and a crate of the repository are named in one way: what crates/ has is the repository's.
 """
 
 import functools
@@ -21,8 +22,8 @@ MODULE = re.compile(r"^( *)module\s+_\s.*\bwhere$")
 ITEM = re.compile(r"^(?:pub )?(?:extern \"C\" )?(?:fn|struct|enum|const) ([A-Za-z_0-9]+)")
 FUNCTION = re.compile(r"^(?:pub )?(?:extern \"C\" )?fn ")
 IMPORT = re.compile(r"^(?:ghost )?use (\S+?)(?:\.\{(.*)\}| as (\S+?))?;?$")
-PROVED_MODULE = re.compile(r"^Rattle·([a-z0-9_]+)(?:·specs|·proofs)?\.(specs|proofs)\.(.+)$")
-RATTLE_ITEM = re.compile(r"^([a-z0-9_]+)::(?:[a-z0-9_]+::)*([A-Za-z0-9_]+)$")
+PROVED_MODULE = re.compile(r"^Rattle\.([a-z0-9_]+)\.(specs|proofs)\.(.+)$")
+RATTLE_ITEMS = re.compile(r"^use ([a-z0-9_]+)::(?:[a-z0-9_]+::)*(?:([A-Za-z0-9_]+)|\{([^{}]*)\});", re.M)
 
 
 @functools.lru_cache(maxsize=None)
@@ -111,13 +112,18 @@ def statement(path: str, name: str) -> list:
 def place_of(module: str) -> tuple:
     """The file of a module and, for a type that Rattle declares, its name; no file for a module of the kit."""
     match = PROVED_MODULE.match(module)
-    if not match:
+    if not match or not is_crate(match[1]):
         return None, None
     crate, folder, rest = match.groups()
     if rest.startswith("declared."):
         name = next(part for part in rest.split(".")[1:] if part[0].isupper())
         return item_file(crate, name), name
     return f"crates/{crate}/{folder}/{rest.replace('.', '/')}.antt", None
+
+
+def is_crate(name: str) -> bool:
+    """Whether a library is a crate of the repository, and not one of the kit."""
+    return os.path.isdir(os.path.join(ROOT, "crates", name))
 
 
 def item_file(crate: str, name: str) -> str:
@@ -152,26 +158,33 @@ def imports(path: str) -> tuple:
     names, aliases = {}, {}
     for match in filter(None, map(IMPORT.match, lines_of(path))):
         module, listed, alias = match.groups()
-        item = RATTLE_ITEM.match(module)
-        if item:
-            crate = path.split("/")[1] if item[1] == "crate" else item[1]
-            names[item[2]] = (item_file(crate, item[2]), item[2])
-        elif alias:
+        if alias:
             aliases[alias] = module
         for part in filter(None, (listed or "").split(", ")):
             name, _, other = part.partition(" as ")
             names[other or name] = target(module, name)
+    for crate, one, several in items(path):
+        for name in filter(None, re.split(r"[\s,]+", one or several)):
+            names[name] = (item_file(crate, name), name)
     return names, aliases
+
+
+def items(path: str):
+    """What a Rattle file imports of the repository's crates: the crate, and a name or a list of names."""
+    for crate, one, several in RATTLE_ITEMS.findall("\n".join(lines_of(path)) if path.endswith(".rt") else ""):
+        crate = path.split("/")[1] if crate == "crate" else crate
+        if is_crate(crate):
+            yield crate, one, several
 
 
 # ---- what is cited
 
 
 def words(text: list) -> set:
-    """The names in some lines, operators as they are imported. A field of a record, '.name', is none."""
+    """The names in some lines, operators as they are imported. A field of a record, '.name', is none; what it is of is one."""
     found = re.split(r"[\s(){};,⌜⌝&<>\[\]]+", " ".join(text))
     found = {word.rstrip(".:") for word in found if not word.startswith(".")} - {""}
-    return found | {f"_{word}_" for word in found}
+    return found | {f"◌{word}◌" for word in found} | {word.partition(".")[0] for word in found}
 
 
 @functools.lru_cache(maxsize=None)

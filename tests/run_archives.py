@@ -43,25 +43,28 @@ attributes #1 = { nocallback nofree nounwind willreturn memory(argmem: readwrite
 """
 
 # The stand-in calls clang as the kit does, and says what rt says. A test puts other words in the place of some.
+FIRST = "--target=x86_64-unknown-linux-gnu"
 FLAGS = (
-    "--target=x86_64-unknown-linux-gnu -march=x86-64 -ffunction-sections -fdata-sections -mllvm -trap-unreachable "
-    "-mllvm -no-trap-after-noreturn --no-default-config -no-canonical-prefixes -fintegrated-cc1 -fno-crash-diagnostics "
-    "-Werror -c -x ir module.bc -o module.o -fPIC -O3"
+    "-march=x86-64 -mllvm -no-trap-after-noreturn -ffunction-sections -fdata-sections -mllvm -trap-unreachable "
+    "-mllvm -no-x86-call-frame-opt -mllvm -disable-machine-licm -mllvm -disable-postra-machine-licm "
+    "-mllvm -sink-common-insts=false --no-default-config -no-canonical-prefixes -fintegrated-cc1 "
+    "-fno-crash-diagnostics -Werror -c -x ir module.bc -o module.o -fPIC -O3"
 )
 RT = f"""\
 #!/bin/sh
 set -eu
-if [ "$1" = doc ]; then echo "$KIT/docs/START-HERE.md"; exit; fi
-root=$PWD tools=$RATTLE_HOME/on/$(uname -m)/toolchain
-mkdir -p target/staticlib work
-cp module.bc work/
+kit=${{0%/bin/rt}}
+if [ "$1" = doc ]; then echo "$kit/START-HERE.md"; exit; fi
+[ "$*" = "lib --cpu x86-64" ]
+echo 'rt: chose --jobs 2 for nerupazhil_c'
+mkdir -p out work
+cp ../../module.bc work/
 cd work
-env -i "$tools/bin/clang" {FLAGS} --sysroot="$tools"
-mv module.o nerupazhil.o
-rm -f "$root/target/staticlib/libnerupazhil.a"
-"$tools/bin/llvm-ar" rcsD "$root/target/staticlib/libnerupazhil.a" nerupazhil.o
+env -i "$kit/toolchain/bin/clang" {FIRST} --sysroot="$kit/toolchain" {FLAGS}
+mv module.o nerupazhil_c.o
+rm -f ../out/libnerupazhil_c.a
+"$kit/toolchain/bin/llvm-ar" rcsD ../out/libnerupazhil_c.a nerupazhil_c.o
 echo 'logic=proved functions=2 target=x86_64-unknown-linux-gnu sum=0'
-echo 'rt: target/staticlib/libnerupazhil.a has the functions of nerupazhil that are marked'
 """
 
 
@@ -73,24 +76,22 @@ class Done(NamedTuple):
 
 def find_kit() -> str:
     """The kit's folder."""
-    home = os.environ.get("RATTLE_HOME")
-    if home:
-        return home
     page = subprocess.run(["rt", "doc"], capture_output=True, check=True).stdout.decode().strip()
-    return os.path.dirname(os.path.dirname(page))
+    return os.path.dirname(page)
 
 
 class Room:
-    """A folder like the repository, with a stand-in for rt."""
+    """A folder like the repository, with a kit beside it that has the compiler of the real one and a stand-in for rt."""
 
     def __init__(self, folder: str, kit: str):
         self.folder, self.kit = folder, kit
-        for name in ("archives", "tools/prove"):
+        for name in ("archives", "tools/prove", "tools/staticlib"):
             os.makedirs(os.path.dirname(self.path(name)), exist_ok=True)
             shutil.copy(os.path.join(build_c.ROOT, name), self.path(name))
-        for name in ("bin", "temporary", "target/archives/old"):
+        for name in ("kit/bin", "temporary", "target/archives/old", "crates/nerupazhil_c"):
             os.makedirs(self.path(name))
-        self.store("crates.txt", "nerupazhil:\n")
+        os.symlink(os.path.join(kit, "toolchain"), self.path("kit/toolchain"))
+        self.store("crates.txt", "nerupazhil_c staticlib:\n")
         self.store("target/archives/old/libnerupazhil.a", "of an earlier run")
 
     def path(self, name: str) -> str:
@@ -103,13 +104,12 @@ class Room:
 
     def run(self, *targets: str, module: str = MODULE, rt: str = RT, **variables: str) -> Done:
         """Runs the command with a module and a stand-in."""
-        clang = os.path.join(self.kit, "on", os.uname().machine, "toolchain", "bin", "clang")
+        clang = os.path.join(self.kit, "toolchain", "bin", "clang")
         source, path = self.store("module.ll", module), self.path("module.bc")
         build_c.run(clang, "--target=x86_64-unknown-linux-gnu", "-c", "-emit-llvm", "-x", "ir", source, "-o", path)
-        os.chmod(self.store("bin/rt", rt), 0o755)
-        environment = {name: value for name, value in os.environ.items() if name != "RATTLE_HOME"}
-        environment["PATH"] = self.path("bin") + os.pathsep + environment["PATH"]
-        environment.update(KIT=self.kit, TMPDIR=self.path("temporary"), **variables)
+        os.chmod(self.store("kit/bin/rt", rt), 0o755)
+        path = self.path("kit/bin") + os.pathsep + os.environ["PATH"]
+        environment = {**os.environ, "PATH": path, "TMPDIR": self.path("temporary"), **variables}
         command = [shutil.which("bash"), self.path("archives"), *targets]
         done = subprocess.run(command, capture_output=True, env=environment, timeout=SECONDS, check=False, cwd="/")
         return Done(done.returncode, done.stdout.decode(), done.stderr.decode().splitlines())
@@ -192,12 +192,13 @@ def wrong_ways():
     once = RT[RT.index("env -i") : RT.index("mv module.o")]
     yield "called twice", changed(once, once + once, RT), another
     yield "not called", changed(once, ": >module.o\n", RT), another
+    yield "another processor for the archive", changed("-march=x86-64 ", "-march=x86-64-v2 ", RT), another
     renamed = changed("-x ir module.bc", "-x ir other.bc", changed("bc work/", "bc work/other.bc", RT))
     yield "another file", renamed, another
-    spoiled = changed("echo 'logic=proved", "echo >>$root/target/staticlib/libnerupazhil.a\necho 'logic=proved", RT)
+    spoiled = changed("echo 'logic=proved", "echo >>../out/libnerupazhil_c.a\necho 'logic=proved", RT)
     yield "another archive", spoiled, "the module compiled here for x86-64 is not what rt has made of it"
     yield "nothing of a proof", changed("logic=proved", "logic=", RT), "rt does not say that nerupazhil is proved"
-    yield "not proved", changed("set -eu", "if [ $1 = staticlib ]; then exit 1; fi", RT), "nerupazhil is not proved"
+    yield "not proved", changed("set -eu", "if [ $1 = lib ]; then exit 1; fi", RT), "nerupazhil_c is not proved"
 
 
 def failures(report: Report, kit: str) -> None:
@@ -218,16 +219,17 @@ def missing(report: Report, room: Room) -> None:
     """Commands and parts of the kit that are not there: status 2, and an older archive stays."""
     tools = room.path("tools-alone")
     os.mkdir(tools)
-    needed = ("dirname", "uname", "mktemp", "rm")
+    needed = ("dirname", "mktemp", "rm")
     for name in needed:
         os.symlink(shutil.which(name), os.path.join(tools, name))
     done = room.run(PATH=tools)
     report.same("no rt", Done(2, "", ["archives: the command rt is missing"]), done)
-    done = room.run(PATH=room.path("bin") + os.pathsep + tools)
+    done = room.run(PATH=room.path("kit/bin") + os.pathsep + tools)
     report.same("no nm", Done(2, "", ["archives: the command nm is missing"]), done)
-    done = room.run(RATTLE_HOME=tools)
-    clang = os.path.join(tools, "on", os.uname().machine, "toolchain", "bin", "clang")
-    report.same("no clang", Done(2, "", [f"archives: the kit at {tools} has no {clang}"]), done)
+    kit = room.path("kit")
+    os.remove(os.path.join(kit, "toolchain"))
+    clang = os.path.join(kit, "toolchain", "bin", "clang")
+    report.same("no clang", Done(2, "", [f"archives: the kit at {kit} has no {clang}"]), room.run())
     report.same("an older archive", ["old"], room.made())
 
 

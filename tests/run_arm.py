@@ -73,8 +73,8 @@ def load(path: str) -> bytes:
 
 
 def exported() -> list:
-    """The functions that the crate nerupazhil exports."""
-    text = load(os.path.join(ROOT, "crates", "nerupazhil", "src", "lib.rt")).decode()
+    """The functions that the crate nerupazhil_c exports."""
+    text = load(os.path.join(ROOT, "crates", "nerupazhil_c", "src", "lib.rt")).decode()
     return sorted(re.findall(r'^pub extern "C" fn (\w+)', text, re.MULTILINE))
 
 

@@ -30,28 +30,32 @@ ground:
 walls: ground   # the walls
 shed: ground
 roof: walls ground io
-list: roof io libc
+list: roof io
+list_c staticlib: list
 """
 
-# The stand-in says what the real one says, and begins a proof as that does. 'shown' waits until a line is on standard
-# error, and ends with status 7 where it does not come.
+# The stand-in says what the real one says: it names a crate when its proof begins, and not one that is unchanged. Under
+# 'rt run' its words are on standard error, and 3 is the program's standard output. 'shown' waits until a line is on
+# standard error, and ends with status 7 where it does not come.
 RT = """\
 #!/bin/sh
+exec 3>&1
+[ "$1" != run ] || exec >&2
 say() { echo "rt: $*"; }
-unchanged() { for name; do say "$name proved (unchanged since it was last proved)"; done; }
-begin() { echo words of the prover >"target/log/$1.say"; }
+begin() { say "chose --jobs 2 for $1"; echo "fn $1::f: proved"; }
+prove() { begin "$1"; echo 'logic=proved functions=1'; }
 shown() {
     for _ in $(seq 300); do
-        if grep -qxF "$1" standard-error; then return; fi
+        if grep -qxF "$1" ../../standard-error; then return; fi
         sleep 0.1
     done
     exit 7
 }
 """
-UNCHANGED = "unchanged ground walls roof list; say ok, 4 crates proved"
+UNCHANGED = "say 'nothing has changed since the last proved build, by out/list.stamp, so nothing is checked now'"
 QUIET = ["run: proving list and what it stands on: 4 crates", "run: all 4 unchanged since they were proved"]
 NAMED = ["c/examples/list.c", "rust/Cargo.toml", "rust/examples/list.rs"]
-EXAMPLE = "rt staticlib nerupazhil && cargo run --manifest-path rust/Cargo.toml --example list -- "
+EXAMPLE = "tools/staticlib && cargo run --manifest-path rust/Cargo.toml --example list -- "
 
 
 class Done(NamedTuple):
@@ -68,8 +72,8 @@ class Room:
         for name in ("run", "tools/prove"):
             os.makedirs(os.path.dirname(self.path(name)), exist_ok=True)
             shutil.copy(os.path.join(ROOT, name), self.path(name))
-        os.makedirs(self.path("target/bin"))
-        shutil.copy(program.path, self.path("target/bin/list"))
+        os.makedirs(self.path("crates/list/out"))
+        shutil.copy(program.path, self.path("crates/list/out/list"))
         self.store("crates.txt", CRATES.encode())
 
     def path(self, name: str) -> str:
@@ -109,37 +113,51 @@ def progress(report: Report, room: Room) -> None:
         report.same(f"{name}: standard error", [f"{program}: {line}" for line in expected], got)
         report.same(f"{name}: status and standard output", (0, b""), (done.status, done.out))
 
-    prove = ("tools/prove", "run", "check", "list")
-    rt = """begin ground; shown 'run: proving 1 of 4: ground'; say 'ground proved (12 s)'
-        begin walls; begin roof; shown 'run: proving 3 of 4: roof'; say 'walls proved (1 s)'; say 'roof proved (120 s)'
-        say 'list proved (0 s)'; say 'list ran as nobody'; say 'ok, 4 crates proved'"""
-    expected = ["proving 1 of 4: ground", "ground proved, N s", "proving 2 of 4: walls", "proving 3 of 4: roof"]
-    expected += ["walls proved, N s", "roof proved, N s", "proving 4 of 4: list", "list proved, N s"]
+    prove = ("tools/prove", "run", "list", "run")
+    rt = """say 'walls: begins with what a check kept in another folder'; begin ground
+        shown 'run: proving 1 of 4: ground'; echo 'logic=proved functions=1'
+        prove walls; prove roof; prove list
+        say 'running out/list'"""
+    expected = []
+    for place, name in enumerate(("ground", "walls", "roof", "list"), 1):
+        expected += [f"proving {place} of 4: {name}", f"{name} proved, N s"]
     same("nothing proved before", prove, rt, [*expected, "all 4 proved in N s"])
-    report.test("the seconds are those of rt", "run: roof proved, 120 s" in room.run(*prove, rt=rt).err)
+    said = ["rt: chose --jobs 2 for walls", "fn walls::f: proved", "logic=proved functions=1"]
+    report.same("what is kept of a crate", said, room.load("target/log/walls.say").decode().splitlines())
 
-    rt = """unchanged ground walls; begin roof; shown 'run: proving 3 of 4: roof'; printf 'rt: ro'; sleep 1.5
-        echo 'of proved (2 s)'; unchanged list; say 'ok, 4 crates proved'"""
-    expected = ["proving 3 of 4: roof", "roof proved, N s", "1 proved in N s, 3 unchanged since they were proved"]
-    same("some unchanged", prove, rt, expected)
+    rt = "begin roof; shown 'run: proving 3 of 4: roof'; printf 'logic=pro'; sleep 1.5; echo 'ved functions=2'; prove list"
+    expected = ["proving 3 of 4: roof", "roof proved, N s", "proving 4 of 4: list", "list proved, N s"]
+    same("some unchanged", prove, rt, [*expected, "2 proved in N s, 2 unchanged since they were proved"])
+    seconds = [int(line.split()[-2]) for line in room.run(*prove, rt=rt).err if line.startswith("run: roof proved, ")]
+    report.test("the seconds are those of the proof", len(seconds) == 1 and 1 <= seconds[0] <= 20, seconds)
 
     expected = ["all 4 unchanged since they were proved"]
     same("all unchanged", prove, UNCHANGED, expected)
     same("by its whole path", (room.path(prove[0]), *prove[1:]), UNCHANGED, expected)
+    report.same("an output of the program", (0, b""), room.run(*prove, rt="echo refused >&3; prove list")[:2])
 
-    rt = """unchanged ground walls roof; begin list; shown 'bench: proving 4 of 4: list'
-        say 'target/staticlib/liblist.a has the functions of list that are marked'"""
-    expected = ["proving 4 of 4: list", "list proved, N s", "1 proved in N s, 3 unchanged since they were proved"]
-    same("an archive", ("tools/prove", "bench", "staticlib", "list"), rt, expected)
+    os.makedirs(room.path("crates/list_c"))
+    rt = "[ \"$*\" = 'lib --cpu x86-64' ] || exit 9; prove list_c"
+    done = room.run("tools/prove", "bench", "list_c", "lib", "--cpu", "x86-64", rt=rt)
+    expected = ["proving list_c and what it stands on: 5 crates", "proving 5 of 5: list_c", "list_c proved, N s"]
+    expected += ["1 proved in N s, 4 unchanged since they were proved"]
+    got = [re.sub(r"\d+ s\b", "N s", line) for line in done.err]
+    report.same("an archive: standard error", [f"bench: {line}" for line in expected], got)
+    report.same("an archive: status and standard output", (0, b""), done[:2])
 
 
 def failures(report: Report, room: Room) -> None:
-    rt = "unchanged ground; echo why; say 'walls NOT PROVED (exit 1, 3 s)'; say FAILED: walls; exit 2"
+    rt = "prove ground; begin walls; echo why; echo 'logic=not-proved'; say FAILED: walls; exit 2"
     done = room.run("./run", VECTOR, rt=rt)
-    said = ["rt: ground proved (unchanged since it was last proved)", "why"]
-    said += ["rt: walls NOT PROVED (exit 1, 3 s)", "rt: FAILED: walls"]
-    report.same("not proved", Done(1, b"", [QUIET[0], *said, "run: list is not proved"]), done)
+    said = ["rt: chose --jobs 2 for ground", "fn ground::f: proved", "logic=proved functions=1"]
+    said += ["rt: chose --jobs 2 for walls", "fn walls::f: proved", "why", "logic=not-proved", "rt: FAILED: walls"]
+    shown = ["proving 1 of 4: ground", "ground proved, N s", "proving 2 of 4: walls"]
+    expected = [QUIET[0], *(f"run: {line}" for line in shown), *said, "run: list is not proved"]
+    err = [re.sub(r"\d+ s\b", "N s", line) for line in done.err]
+    report.same("not proved", Done(1, b"", expected), done._replace(err=err))
     report.same("not proved: the log", said, room.load("target/log/run.log").decode().splitlines())
+    unbuilt = room.run("./run", VECTOR, rt="prove list; rm ../../crates/list/out/list")
+    report.test("no program", unbuilt.status != 0 and unbuilt.out == b"", unbuilt)
 
 
 # ---- inputs

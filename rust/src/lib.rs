@@ -117,7 +117,7 @@
 //!
 //! | Processor | Folder | The command that writes the archive |
 //! |---|---|---|
-//! | x86-64 | `target/staticlib` | `rt staticlib nerupazhil` |
+//! | x86-64 | `target/staticlib` | `tools/staticlib` |
 //! | AArch64 | `target/archives/aarch64-linux` | `./archives` |
 
 #![deny(missing_docs)]

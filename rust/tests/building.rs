@@ -61,7 +61,7 @@ fn each_architecture_has_its_folder() {
 #[test]
 fn a_missing_archive_is_told_with_its_command() {
     for (there, arch, missing, command) in [
-        (AARCH64, "x86_64", X86_64, "rt staticlib nerupazhil"),
+        (AARCH64, "x86_64", X86_64, "tools/staticlib"),
         (X86_64, "aarch64", AARCH64, "./archives"),
     ] {
         let repository = Repository::new(&format!("no-{arch}-archive"), &[there]);

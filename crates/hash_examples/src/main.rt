@@ -5,13 +5,16 @@
 // digests from another implementation.
 
 #![tactic(auto)]
+
 mod print;
 mod with_sha1;
 mod with_sha256;
 
-fn main() {
-    with_sha1::whole();
-    with_sha1::pieces();
-    with_sha256::whole();
-    with_sha256::pieces();
+use std::io;
+
+fn main(rt: HostRuntime) -> io::Result<()> {
+    with_sha1::whole(&rt)?;
+    with_sha1::pieces(&rt)?;
+    with_sha256::whole(&rt)?;
+    with_sha256::pieces(&rt)
 }

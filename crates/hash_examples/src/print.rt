@@ -1,19 +1,19 @@
 // Writes a line: a description, two spaces, the digest as lower-case hexadecimal digits.
+use std::{fmt, io};
 
-pub fn line(description: &[u8], digest: &[u8]) {
-    io::write_all(1, description);
-    io::write_all(1, b"  ");
-    digits(digest);
-    io::write_all(1, b"\n");
+pub fn line(rt: &impl Print, description: &str, digest: &[u8]) -> io::Result<()> {
+    let digits = Digits(digest);
+    println!(rt; "{description}  {digits}")
 }
 
-fn digits(digest: &[u8]) {
-    let n = digest.len();
-    for i in 0..n {
-        io::print_hex(1, wide(digest[i]), 2);
+#[derive(Clone, Copy)]
+struct Digits<'a>(&'a [u8]);
+
+impl fmt::Display for Digits<'_> {
+    fn fmt<W: fmt::Write>(&self, f: &mut fmt::Formatter<W>) -> fmt::Result {
+        for b in self.0 {
+            write!(f, "{b:02x}")?;
+        }
+        Ok(())
     }
-}
-
-fn wide(x: u8) -> u64 {
-    x as u64
 }

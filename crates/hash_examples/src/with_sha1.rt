@@ -3,42 +3,49 @@ ghost use Rattle.std.specs.Prelude.{length, ◌≤◌};
 
 use crate::print::line;
 use hash::buffered::{Hasher, finalize, new, update};
+use std::io;
 
 // In one call.
-pub fn whole() {
-    line(b"SHA-1 of nothing", &hash::sha1(b""));
-    line(b"SHA-1 of abc", &hash::sha1(b"abc"));
+pub fn whole(rt: &impl Print) -> io::Result<()> {
+    line(rt, "SHA-1 of nothing", &hash::sha1(b""))?;
+    line(rt, "SHA-1 of abc", &hash::sha1(b"abc"))?;
     line(
-        b"SHA-1 of the 448-bit message",
+        rt,
+        "SHA-1 of the 448-bit message",
         &hash::sha1(b"abcdbcdecdefdefgefghfghighijhijkijkljklmklmnlmnomnopnopq"),
-    );
+    )?;
     line(
-        b"SHA-1 of the 896-bit message",
+        rt,
+        "SHA-1 of the 896-bit message",
         &hash::sha1(
             b"abcdefghbcdefghicdefghijdefghijkefghijklfghijklmghijklmnhijklmnoijklmnopjklmnopqklmnopqrlmnopqrsmnopqrstnopqrstu",
         ),
-    );
-    line(b"SHA-1 of a million times a", &million());
+    )?;
+    line(rt, "SHA-1 of a million times a", &million())
 }
 
 // In pieces.
-pub fn pieces() {
+pub fn pieces(rt: &impl Print) -> io::Result<()> {
     line(
-        b"SHA-1 of the 896-bit message in two pieces",
+        rt,
+        "SHA-1 of the 896-bit message in two pieces",
         &in_two_pieces(),
-    );
+    )?;
     line(
-        b"SHA-1 of a million times a in 125 pieces",
+        rt,
+        "SHA-1 of a million times a in 125 pieces",
         &million_in_pieces(),
-    );
+    )?;
     line(
-        b"SHA-1 of the 896-bit message in uneven slices",
+        rt,
+        "SHA-1 of the 896-bit message in uneven slices",
         &in_slices(),
-    );
+    )?;
     line(
-        b"SHA-1 of a million times a in uneven slices",
+        rt,
+        "SHA-1 of a million times a in uneven slices",
         &million_in_slices(),
-    );
+    )
 }
 
 fn million() -> [u8; 20] {

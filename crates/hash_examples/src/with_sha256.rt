@@ -3,42 +3,49 @@ ghost use Rattle.std.specs.Prelude.{length, ◌≤◌};
 
 use crate::print::line;
 use sha256::buffered::{Hasher, finalize, new, update};
+use std::io;
 
 // In one call.
-pub fn whole() {
-    line(b"SHA-256 of nothing", &sha256::sha256(b""));
-    line(b"SHA-256 of abc", &sha256::sha256(b"abc"));
+pub fn whole(rt: &impl Print) -> io::Result<()> {
+    line(rt, "SHA-256 of nothing", &sha256::sha256(b""))?;
+    line(rt, "SHA-256 of abc", &sha256::sha256(b"abc"))?;
     line(
-        b"SHA-256 of the 448-bit message",
+        rt,
+        "SHA-256 of the 448-bit message",
         &sha256::sha256(b"abcdbcdecdefdefgefghfghighijhijkijkljklmklmnlmnomnopnopq"),
-    );
+    )?;
     line(
-        b"SHA-256 of the 896-bit message",
+        rt,
+        "SHA-256 of the 896-bit message",
         &sha256::sha256(
             b"abcdefghbcdefghicdefghijdefghijkefghijklfghijklmghijklmnhijklmnoijklmnopjklmnopqklmnopqrlmnopqrsmnopqrstnopqrstu",
         ),
-    );
-    line(b"SHA-256 of a million times a", &million());
+    )?;
+    line(rt, "SHA-256 of a million times a", &million())
 }
 
 // In pieces.
-pub fn pieces() {
+pub fn pieces(rt: &impl Print) -> io::Result<()> {
     line(
-        b"SHA-256 of the 896-bit message in two pieces",
+        rt,
+        "SHA-256 of the 896-bit message in two pieces",
         &in_two_pieces(),
-    );
+    )?;
     line(
-        b"SHA-256 of a million times a in 125 pieces",
+        rt,
+        "SHA-256 of a million times a in 125 pieces",
         &million_in_pieces(),
-    );
+    )?;
     line(
-        b"SHA-256 of the 896-bit message in uneven slices",
+        rt,
+        "SHA-256 of the 896-bit message in uneven slices",
         &in_slices(),
-    );
+    )?;
     line(
-        b"SHA-256 of a million times a in uneven slices",
+        rt,
+        "SHA-256 of a million times a in uneven slices",
         &million_in_slices(),
-    );
+    )
 }
 
 fn million() -> [u8; 32] {

@@ -2,152 +2,109 @@
 // left out, a line for each entry, then what it has of a cache tree and of resolve-undo records. A refusal prints only its number and its place.
 
 #![tactic(auto)]
-use answers::{Checked, Checksum, Count};
 
-// At most 65,536 bytes are taken.
-fn main() {
-    let mut buffer = io::large_buffer();
-    let n = io::read_full(0, &mut buffer);
-    if n == 65536 {
-        let mut more = [0u8; 1];
-        if io::read_full(0, &mut more) == 1 {
-            print_refusal(2, 0);
-            return;
-        }
+mod name;
+
+ghost use Rattle.std.specs.Prelude.{◌≤◌, IfOk, length};
+
+use answers::{Checked, Checksum, Count};
+use name::{Digits, Escaped};
+use std::io;
+use std::io::{ErrorKind, Read};
+
+// How many bytes are taken at most.
+const LIMIT: usize = 65536;
+
+// Room for one byte more than is taken: it shows that there were too many.
+const ROOM: usize = 65537;
+
+fn main(rt: HostRuntime) -> io::Result<()> {
+    let mut buffer = [0u8; ROOM];
+    let n = read_full(&mut rt.reader(), &mut buffer)?;
+    if LIMIT < n {
+        return print_refusal(&rt, 2, 0);
     }
     let mut work = [0u8; 8192];
-    list(&buffer[..n], &mut work);
+    list(&rt, &buffer[..n], &mut work)
 }
 
-fn list(bytes: &[u8], work: &mut [u8; 8192]) {
+// Reads until the buffer is full or the input ends, and answers how many bytes came.
+fn read_full(input: &mut impl Read, buffer: &mut [u8]) -> io::Result<usize>
+    ensures { IfOk result (λ n. n ≤ length buffer.new) }
+{
+    let mut filled = 0;
+    for _ in 0..u64::MAX {
+        if filled == buffer.len() {
+            break;
+        }
+        match input.read(&mut buffer[filled..]) {
+            Ok(0) => break,
+            Ok(n) => filled += n,
+            Err(e) => {
+                if e.kind() != ErrorKind::Interrupted {
+                    return Err(e);
+                }
+            }
+        }
+    }
+    Ok(filled)
+}
+
+fn list(rt: &impl Print, bytes: &[u8], work: &mut [u8; 8192]) -> io::Result<()> {
     let checked = index::check(kinds::SHA1, bytes, work);
     match checked {
-        Checked::Refused(number, place) => print_refusal(number, place),
+        Checked::Refused(number, place) => print_refusal(rt, number, place),
         Checked::Accepted(summary) => {
-            print(b"version ");
-            print_number(summary.version);
-            print(b" entries ");
-            print_number(summary.entries);
-            let checksum = summary.checksum;
-            print_checksum(checksum);
-            print(b"\n");
-            list_entries(bytes, work, summary.entries);
-            let nodes = summary.nodes;
-            print_count(b"cache tree ", nodes, b" nodes\n");
-            let records = summary.records;
-            print_count(b"resolve-undo ", records, b" paths\n");
+            let version = summary.version;
+            let entries = summary.entries;
+            let checksum = words_of(summary.checksum);
+            println!(rt; "version {version} entries {entries}{checksum}")?;
+            list_entries(rt, bytes, work, entries)?;
+            print_count(rt, "cache tree", summary.nodes, "nodes")?;
+            print_count(rt, "resolve-undo", summary.records, "paths")
         }
     }
 }
 
-fn list_entries(bytes: &[u8], work: &mut [u8; 8192], count: u32) {
-    let mut k: u32 = 0;
-    while k < count {
-        list_entry(bytes, work, k);
-        k += 1;
+fn list_entries(
+    rt: &impl Print,
+    bytes: &[u8],
+    work: &mut [u8; 8192],
+    count: u32,
+) -> io::Result<()> {
+    for k in 0..count {
+        list_entry(rt, bytes, work, k)?;
     }
+    Ok(())
 }
 
-// Mode, object name, stage, tab, name.
-fn list_entry(bytes: &[u8], work: &mut [u8; 8192], k: u32) {
+// Mode, object name, stage, tab, name. A mode has six octal digits; the first 20 bytes are the name of a SHA-1 object.
+fn list_entry(rt: &impl Print, bytes: &[u8], work: &mut [u8; 8192], k: u32) -> io::Result<()> {
     let answer = index::entry(kinds::SHA1, bytes, work, k);
-    print_mode(answer.fields.mode);
-    print(b" ");
+    let mode = answer.fields.mode;
     let object = answer.fields.object;
-    print_object(&object);
-    print(b" ");
-    print_number(answer.fields.stage);
-    print(b"\t");
-    let shown = answer.shown;
-    print_name(answers::name_of(bytes, work, shown));
-    print(b"\n");
+    let object = Digits(&object[..20]);
+    let stage = answer.fields.stage;
+    let name = Escaped(answers::name_of(bytes, work, answer.shown));
+    println!(rt; "{mode:06o} {object} {stage}\t{name}")
 }
 
 // Nothing is said of a checksum that matches.
-fn print_checksum(checksum: Checksum) {
+fn words_of(checksum: Checksum) -> &'static str {
     match checksum {
-        Checksum::Matches => {}
-        Checksum::LeftOut => print(b" checksum left out"),
-        Checksum::Wrong => {}
+        Checksum::Matches => "",
+        Checksum::LeftOut => " checksum left out",
+        Checksum::Wrong => "",
     }
 }
 
-fn print_refusal(number: u32, place: usize) {
-    print(b"refused ");
-    print_number(number);
-    print(b" at ");
-    io::print_decimal(1, place as u64);
-    print(b"\n");
+fn print_refusal(rt: &impl Print, number: u32, place: usize) -> io::Result<()> {
+    println!(rt; "refused {number} at {place}")
 }
 
-fn print_count(before: &[u8], count: Count, after: &[u8]) {
-    print(before);
+fn print_count(rt: &impl Print, what: &str, count: Count, unit: &str) -> io::Result<()> {
     match count {
-        Count::Absent => print(b"none\n"),
-        Count::Present(n) => {
-            print_number(n);
-            print(after);
-        }
+        Count::Absent => println!(rt; "{what} none"),
+        Count::Present(n) => println!(rt; "{what} {n} {unit}"),
     }
-}
-
-fn print(text: &[u8]) {
-    io::write_all(1, text);
-}
-
-fn print_number(n: u32) {
-    io::print_decimal(1, n as u64);
-}
-
-// A mode has six octal digits.
-fn print_mode(mode: u32) {
-    print_octal(mode / 32768);
-    print_octal(mode / 4096);
-    print_octal(mode / 512);
-    print_octal(mode / 64);
-    print_octal(mode / 8);
-    print_octal(mode);
-}
-
-// The last octal digit of a number.
-fn print_octal(n: u32) {
-    io::print_decimal(1, (n % 8) as u64);
-}
-
-// The first 20 bytes are the name of a SHA-1 object.
-fn print_object(object: &[u8; 32]) {
-    for i in 0..20usize {
-        io::print_hex(1, wide(object[i]), 2);
-    }
-}
-
-fn wide(x: u8) -> u64 {
-    x as u64
-}
-
-// A name: bytes below 32, the backslash and bytes above 126 as a backslash and three octal digits. The others are written in runs.
-fn print_name(name: &[u8]) {
-    let mut from = 0;
-    let mut i = 0;
-    while i < name.len() {
-        let b = name[i];
-        if is_escaped(b) {
-            print(&name[from..i]);
-            print_escaped(b);
-            from = i + 1;
-        }
-        i += 1;
-    }
-    print(&name[from..]);
-}
-
-fn is_escaped(b: u8) -> bool {
-    b < 32 || b == 92 || 126 < b
-}
-
-fn print_escaped(b: u8) {
-    print(b"\\");
-    print_octal((b / 64) as u32);
-    print_octal((b / 8) as u32);
-    print_octal(b as u32);
 }

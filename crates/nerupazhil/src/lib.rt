@@ -1,4 +1,4 @@
-// The calls for programs in other languages: every public call of the library. Only numbers and pointers cross this boundary: a slice is a pointer and a length, where a null pointer with length 0 is the empty one, and a reply is an array of numbers that the caller lends. Each call takes the kind of object names: 1 is SHA-1, 2 is SHA-256, any other is refused with 29. The first number of a reply is the refusal, 0 of a success, the second its place; all that does not apply is 0.
+// The calls for programs in other languages: every public call of the library. Only numbers and pointers cross this boundary: a slice is a pointer and a length, where a null pointer with length 0 is the empty one, and a reply is an array of numbers that the caller lends. Each call takes the kind of object names: 1 is SHA-1, 2 is SHA-256, any other is refused with 29. The first number of a reply is the refusal, 0 of a success, the second its place; all that does not apply is 0. Crate nerupazhil_c exports these calls under the same names.
 
 #![tactic(auto)]
 
@@ -17,15 +17,13 @@ ghost use Rattle.nerupazhil.specs.Replies.{EntryReplies, NodeReplies, UndoReplie
 
 // ---- the calls that read
 
-#[unsafe(no_mangle)]
-pub extern "C" fn nerupazhil_check(kind: u32, file: &[u8], work: &mut [u8], reply: &mut [u64; 16])
+pub fn nerupazhil_check(kind: u32, file: &[u8], work: &mut [u8], reply: &mut [u64; 16])
     ensures { (reply.new ≡ check_reply (check_answer work.old (read_kind kind file.now))) × (work.new ≡ cleared work.old) }
 {
     *reply = replies::check_reply(index::check(kind, file, work));
 }
 
-#[unsafe(no_mangle)]
-pub extern "C" fn nerupazhil_entry(
+pub fn nerupazhil_entry(
     kind: u32,
     file: &[u8],
     work: &mut [u8],
@@ -45,8 +43,7 @@ pub extern "C" fn nerupazhil_entry(
     *object = name;
 }
 
-#[unsafe(no_mangle)]
-pub extern "C" fn nerupazhil_tree_node(
+pub fn nerupazhil_tree_node(
     kind: u32,
     file: &[u8],
     work: &mut [u8],
@@ -62,8 +59,7 @@ pub extern "C" fn nerupazhil_tree_node(
     *object = name;
 }
 
-#[unsafe(no_mangle)]
-pub extern "C" fn nerupazhil_undo_record(
+pub fn nerupazhil_undo_record(
     kind: u32,
     file: &[u8],
     work: &mut [u8],
@@ -87,8 +83,7 @@ pub extern "C" fn nerupazhil_undo_record(
 
 // ---- the calls that write
 
-#[unsafe(no_mangle)]
-pub extern "C" fn nerupazhil_rewrite(
+pub fn nerupazhil_rewrite(
     kind: u32,
     file: &[u8],
     work: &mut [u8],
@@ -101,8 +96,7 @@ pub extern "C" fn nerupazhil_rewrite(
     *reply = replies::write_reply(index_write::rewrite(kind, file, work, out, asked));
 }
 
-#[unsafe(no_mangle)]
-pub extern "C" fn nerupazhil_put(
+pub fn nerupazhil_put(
     kind: u32,
     file: &[u8],
     work: &mut [u8],
@@ -119,8 +113,7 @@ pub extern "C" fn nerupazhil_put(
     *reply = replies::write_reply(index_write::put(kind, file, work, out, asked, name, given));
 }
 
-#[unsafe(no_mangle)]
-pub extern "C" fn nerupazhil_remove(
+pub fn nerupazhil_remove(
     kind: u32,
     file: &[u8],
     work: &mut [u8],
@@ -137,20 +130,13 @@ pub extern "C" fn nerupazhil_remove(
 
 // ---- a walk over the entries: the caller keeps the place and how many remain
 
-#[unsafe(no_mangle)]
-pub extern "C" fn nerupazhil_walk_start(
-    kind: u32,
-    file: &[u8],
-    work: &mut [u8],
-    reply: &mut [u64; 4],
-)
+pub fn nerupazhil_walk_start(kind: u32, file: &[u8], work: &mut [u8], reply: &mut [u64; 4])
     ensures { (reply.new ≡ start_reply (start_answer work.old (read_kind kind file.now))) × (work.new ≡ cleared work.old) }
 {
     *reply = replies::start_reply(walk::start(kind, file, work));
 }
 
-#[unsafe(no_mangle)]
-pub extern "C" fn nerupazhil_walk_next(
+pub fn nerupazhil_walk_next(
     kind: u32,
     file: &[u8],
     at: usize,
@@ -174,16 +160,14 @@ pub extern "C" fn nerupazhil_walk_next(
 
 // ---- the hashes
 
-#[unsafe(no_mangle)]
-pub extern "C" fn nerupazhil_sha1(bytes: &[u8], out: &mut [u8; 20])
+pub fn nerupazhil_sha1(bytes: &[u8], out: &mut [u8; 20])
     ensures { out.new ≡ sha1 bytes.now }
 {
     let d = hash::sha1(bytes);
     *out = d;
 }
 
-#[unsafe(no_mangle)]
-pub extern "C" fn nerupazhil_sha256(bytes: &[u8], out: &mut [u8; 32])
+pub fn nerupazhil_sha256(bytes: &[u8], out: &mut [u8; 32])
     ensures { out.new ≡ sha256 bytes.now }
 {
     let d = sha256::sha256(bytes);
