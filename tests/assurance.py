@@ -328,7 +328,7 @@ def commands(page: Page):
         program, *rest = shlex.split(line)
         known = program in SHELLS or exists(program)
         if program == "rt":
-            good = rest == ["version"] or rest[:1] == ["ci"] and set(rest[1:]) <= crates()
+            good = rest == ["version"] or rest[:1] == ["ci"] and set(rest[1:]) <= crates() | {"--anew"}
         else:
             good = known and all(exists(word) for word in rest if not word.startswith("-"))
         yield f"command {line}", good, "its program, a file or a crate is not there"
