@@ -56,7 +56,7 @@ LINK = re.compile(r"\]\((?P<path>[^)#]+)(?P<anchor>#[^)]*)?\)")
 SECTION = re.compile(r"\]\((?P<path>[^)#]+\.md)#(?P<anchor>[^)]+)\)(?P<quotes>(?:;? \"[^\"]+\")*)")
 BLOCK = re.compile(r"^```sh\n(.*?)^```$", re.M | re.S)
 FILE = re.compile(r"^#### \[[^\]]+\]\(\.\./(?P<path>[^)]+)\)$", re.M)
-ARRAY = re.compile(r"\[(?!\w*u8;)[^\[\];]+; (\w+)\]")  # its type, or its first value; none of bytes
+ARRAY = re.compile(r"\[(?!\w*u8;|b'.';)[^\[\];]+; (\w+)\]")  # its type, or its first value; none of bytes
 AXIOMS = re.compile(r"`axioms=\d+` on the line of `(?P<crate>\w+)`")
 
 

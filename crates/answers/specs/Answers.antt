@@ -1,25 +1,22 @@
 -- What each call answers, from the file's reading and the workspace: numbers, places, values, and the workspace afterwards.
-use Rattle.std.specs.Prelude.{◌≡◌, List, [], ◌++◌, Bool, true, false, cond, ℕ, ◌+◌, ◌-◌, ◌≤◌, length, take, drop, replicate, eqb, leb, ltb}
+use Rattle.std.specs.Prelude.{◌≡◌, List, [], ◌++◌, Bool, true, false, cond, ℕ, ◌+◌, ◌-◌, ◌≤◌, length, take, drop, replicate, eqb, leb, ltb, Some, None, Result, Ok, Err}
+use Rattle.std.specs.Prelude as P
 use Rattle.std.proofs.Math.Option.{Option, none, some}
 use Rattle.std.proofs.Math.ListN.{get_elem?}
 use Rattle.format.specs.Records as F
 use Rattle.format.specs.Checksum as M
-use Rattle.format.specs.Layout.{is_valid}
 use Rattle.format.specs.Reading.{Read, bad, good}
 use Rattle.format.specs.Reader.{Contents}
-use Rattle.answers.specs.declared.Count as C
-use Rattle.answers.specs.declared.Count.TheVariants.{Absent, Present}
+use Rattle.format.specs.Refusals.{Numbered, denied}
 use Rattle.answers.specs.declared.Checksum.{Checksum}
 use Rattle.answers.specs.declared.Checksum.TheVariants.{Matches, LeftOut, Wrong}
 use Rattle.answers.specs.declared.Summary.{Summary}
-use Rattle.answers.specs.declared.Checked.{Checked}
-use Rattle.answers.specs.declared.Checked.TheVariants as K
 use Rattle.answers.specs.declared.Shown.{Shown}
 use Rattle.answers.specs.declared.Shown.TheVariants as S
 use Rattle.answers.specs.declared.EntryAnswer.{EntryAnswer}
 use Rattle.answers.specs.declared.NodeAnswer.{NodeAnswer}
 use Rattle.answers.specs.declared.UndoAnswer.{UndoAnswer}
-use Rattle.entries.specs.Record.{wide_object, entry_with, no_fields, fields_of}
+use Rattle.entries.specs.Record.{wide_object, entry_with, fields_of}
 
 -- ---- the workspace
 
@@ -41,13 +38,14 @@ holding name work = name ++ (replicate (8192 - length name) 0 ++ drop 8192 work)
 
 -- ---- check
 
-abbrev pub tree_count : Option F.Tree → C.Count
-tree_count none = Absent
-tree_count (some t) = Present (length (F.tree_items t))
+-- how many nodes, or records, there are, where the file has the extension
+abbrev pub tree_count : Option F.Tree → P.Option ℕ
+tree_count none = None
+tree_count (some t) = Some (length (F.tree_items t))
 
-abbrev pub undo_count : Option (List F.Undo) → C.Count
-undo_count none = Absent
-undo_count (some us) = Present (length us)
+abbrev pub undo_count : Option (List F.Undo) → P.Option ℕ
+undo_count none = None
+undo_count (some us) = Some (length us)
 
 abbrev pub checksum_as : M.Checksum → Checksum
 checksum_as M.matches = Matches
@@ -64,12 +62,12 @@ summary_of c = record {
   checksum = checksum_as c.checksum;
 }
 
-abbrev pub checked_of : Read Contents → Checked
-checked_of (bad n p) = K.Refused n p
-checked_of (good c m) = K.Accepted (summary_of c)
+abbrev pub checked_of : Read Contents → Result Summary Numbered
+checked_of (bad n p) = denied n p
+checked_of (good c m) = Ok (summary_of c)
 
 -- the answer of check
-unfoldable pub check_answer : List ℕ → Read Contents → Checked
+unfoldable pub check_answer : List ℕ → Read Contents → Result Summary Numbered
 check_answer work r = checked_of (in_room work r)
 
 -- ---- what is shown: a refusal's number and place, or an item whose name is a part of the file or of the workspace
@@ -129,82 +127,64 @@ part_in at n s = cond (leb (at + n) (length s)) (take n (drop at s)) []
 
 -- the name that an answer points at
 unfoldable pub name_in : Shown → List ℕ → List ℕ → List ℕ
-name_in (S.Refused n p) file work = []
 name_in (S.InFile at n) file work = part_in at n file
 name_in (S.InWorkspace n) file work = part_in 0 n work
 
 -- an answer as a view of the item that it shows
 abbrev pub view_of : {A : Type 0} → Shown → A → View A
-view_of (S.Refused n p) a = refused n p
 view_of (S.InFile at n) a = in_file a
 view_of (S.InWorkspace n) a = in_workspace a
 
-unfoldable pub entry_said : ℕ → EntryAnswer → List ℕ → List ℕ → View F.Entry
-entry_said w r file work = view_of r.shown (entry_with w r.fields (name_in r.shown file work))
+abbrev pub entry_in : ℕ → List ℕ → List ℕ → EntryAnswer → F.Entry
+entry_in w file work a = entry_with w a.fields (name_in a.shown file work)
 
-abbrev pub count_with : Bool → ℕ → F.Count
-count_with true n = F.valid n
-count_with false n = F.invalid
+unfoldable pub entry_said : ℕ → Result EntryAnswer Numbered → List ℕ → List ℕ → View F.Entry
+entry_said w (Err x) file work = refused x.number x.place
+entry_said w (Ok a) file work = view_of a.shown (entry_in w file work a)
 
-unfoldable pub node_said : ℕ → NodeAnswer → List ℕ → List ℕ → View F.Item
-node_said w r file work =
-    view_of r.shown
-    (record {
-      node = record { name = name_in r.shown file work; count = count_with r.valid r.count; object = take w r.object };
-      level = r.level;
-      subtrees = r.subtrees;
-    })
+abbrev pub count_with : P.Option ℕ → F.Count
+count_with (Some n) = F.valid n
+count_with None = F.invalid
+
+abbrev pub item_in : ℕ → List ℕ → List ℕ → NodeAnswer → F.Item
+item_in w file work a = record {
+  node = record { name = name_in a.shown file work; count = count_with a.count; object = take w a.object };
+  level = a.level;
+  subtrees = a.subtrees;
+}
+
+unfoldable pub node_said : ℕ → Result NodeAnswer Numbered → List ℕ → List ℕ → View F.Item
+node_said w (Err x) file work = refused x.number x.place
+node_said w (Ok a) file work = view_of a.shown (item_in w file work a)
 
 abbrev pub stage_with : ℕ → List ℕ → F.Stage
 stage_with mode object = record { mode = mode; object = object }
 
-unfoldable pub undo_said : ℕ → UndoAnswer → List ℕ → List ℕ → View F.Undo
-undo_said w r file work =
-    view_of r.shown
-    (record {
-      path = name_in r.shown file work;
-      first = stage_with r.first_mode (take w r.first);
-      second = stage_with r.second_mode (take w r.second);
-      third = stage_with r.third_mode (take w r.third);
-    })
-
--- ---- the answers of the code, whole. A refusal has its number and its place, and zeros and false in all other fields
-
-abbrev pub refused_entry : ℕ → ℕ → EntryAnswer
-refused_entry n p = record { shown = S.Refused n p; fields = no_fields }
-
-abbrev pub refused_node : ℕ → ℕ → NodeAnswer
-refused_node n p = record { shown = S.Refused n p; level = 0; valid = false; count = 0; subtrees = 0; object = replicate 32 0 }
-
-abbrev pub refused_undo : ℕ → ℕ → UndoAnswer
-refused_undo n p = record {
-  shown = S.Refused n p;
-  first_mode = 0;
-  second_mode = 0;
-  third_mode = 0;
-  first = replicate 32 0;
-  second = replicate 32 0;
-  third = replicate 32 0;
+abbrev pub undo_in : ℕ → List ℕ → List ℕ → UndoAnswer → F.Undo
+undo_in w file work a = record {
+  path = name_in a.shown file work;
+  first = stage_with a.first_mode (take w a.first);
+  second = stage_with a.second_mode (take w a.second);
+  third = stage_with a.third_mode (take w a.third);
 }
 
--- the number of an entry count, 0 where it is invalid
-abbrev pub count_number : F.Count → ℕ
-count_number (F.valid n) = n
-count_number F.invalid = 0
+unfoldable pub undo_said : ℕ → Result UndoAnswer Numbered → List ℕ → List ℕ → View F.Undo
+undo_said w (Err x) file work = refused x.number x.place
+undo_said w (Ok a) file work = view_of a.shown (undo_in w file work a)
+
+-- ---- the answers of the code, whole. A refusal has its number and its place
+
+-- the number of an entry count, where it is valid
+abbrev pub count_shown : F.Count → P.Option ℕ
+count_shown (F.valid n) = Some n
+count_shown F.invalid = None
 
 -- an item, whose name is where s says
 abbrev pub entry_as : Shown → F.Entry → EntryAnswer
 entry_as s e = record { shown = s; fields = fields_of e }
 
 abbrev pub node_as : Shown → F.Item → NodeAnswer
-node_as s i = record {
-  shown = s;
-  level = i.level;
-  valid = is_valid i.node.count;
-  count = count_number i.node.count;
-  subtrees = i.subtrees;
-  object = wide_object i.node.object;
-}
+node_as s i = record { shown = s; level = i.level; count = count_shown i.node.count; subtrees = i.subtrees; object = wide_object i.node.object }
 
 abbrev pub undo_as : Shown → F.Undo → UndoAnswer
 undo_as s u = record {
@@ -217,40 +197,43 @@ undo_as s u = record {
   third = wide_object u.third.object;
 }
 
--- the answer that shows a view, from that of a refusal and that of an item. A name in the file is at the place at, one in the workspace at
--- its start
-abbrev pub shown_as : {A R : Type 0} → (ℕ → ℕ → R) → (Shown → A → R) → (A → List ℕ) → ℕ → View A → R
-shown_as deny show name at (refused n p) = deny n p
-shown_as deny show name at (in_file a) = show (S.InFile at (length (name a))) a
-shown_as deny show name at (in_workspace a) = show (S.InWorkspace (length (name a))) a
+-- the answer that shows a view, from that of an item. A name in the file is at the place at, one in the workspace at its start
+abbrev pub shown_as : {A R : Type 0} → (Shown → A → R) → (A → List ℕ) → ℕ → View A → Result R Numbered
+shown_as show name at (refused n p) = denied n p
+shown_as show name at (in_file a) = Ok (show (S.InFile at (length (name a))) a)
+shown_as show name at (in_workspace a) = Ok (show (S.InWorkspace (length (name a))) a)
 
-abbrev pub entry_shown : ℕ → View F.Entry → EntryAnswer
-entry_shown at v = shown_as refused_entry entry_as (λ e. e.name) at v
+abbrev pub entry_shown : ℕ → View F.Entry → Result EntryAnswer Numbered
+entry_shown at v = shown_as entry_as (λ e. e.name) at v
 
-abbrev pub node_shown : ℕ → View F.Item → NodeAnswer
-node_shown at v = shown_as refused_node node_as (λ i. i.node.name) at v
+abbrev pub node_shown : ℕ → View F.Item → Result NodeAnswer Numbered
+node_shown at v = shown_as node_as (λ i. i.node.name) at v
 
-abbrev pub undo_shown : ℕ → View F.Undo → UndoAnswer
-undo_shown at v = shown_as refused_undo undo_as (λ u. u.path) at v
+abbrev pub undo_shown : ℕ → View F.Undo → Result UndoAnswer Numbered
+undo_shown at v = shown_as undo_as (λ u. u.path) at v
 
 -- a name lies in its buffer
 abbrev pub Inside : Shown → (file work : List ℕ) → Type 0
-Inside (S.Refused n p) file work = Unit
 Inside (S.InFile at n) file work = at + n ≤ length file
 Inside (S.InWorkspace n) file work = n ≤ length work
 
+-- where an answer points at one
+abbrev pub NameInside : {R : Type 0} → (R → Shown) → Result R Numbered → (file work : List ℕ) → Type 0
+NameInside part (Err x) file work = Unit
+NameInside part (Ok a) file work = Inside (part a) file work
+
 -- an answer shows v: it is the one that does, the bytes that it points at are the name, and they lie in their buffer, the file or the workspace. One
 -- record for entries, nodes, resolve-undo records and steps: shown is the answer of a view, says the view of an answer, part where it points
-pub record Shows {A R : Type 0} (shown : ℕ → View A → R) (says : R → List ℕ → List ℕ → View A) (part : R → Shown) (at : ℕ) (v : View A) (file work : List ℕ) (r : R) : Type 0 where
+pub record Shows {A R : Type 0} (shown : ℕ → View A → Result R Numbered) (says : Result R Numbered → List ℕ → List ℕ → View A) (part : R → Shown) (at : ℕ) (v : View A) (file work : List ℕ) (r : Result R Numbered) : Type 0 where
   pub whole : r ≡ shown at v
   pub said : says r file work ≡ v
-  pub inside : Inside (part r) file work
+  pub inside : NameInside part r file work
 
-abbrev pub EntryShown : ℕ → ℕ → View F.Entry → List ℕ → List ℕ → EntryAnswer → Type 0
+abbrev pub EntryShown : ℕ → ℕ → View F.Entry → List ℕ → List ℕ → Result EntryAnswer Numbered → Type 0
 EntryShown w at v file work r = Shows entry_shown (entry_said w) (λ a. a.shown) at v file work r
 
-abbrev pub NodeShown : ℕ → ℕ → View F.Item → List ℕ → List ℕ → NodeAnswer → Type 0
+abbrev pub NodeShown : ℕ → ℕ → View F.Item → List ℕ → List ℕ → Result NodeAnswer Numbered → Type 0
 NodeShown w at v file work r = Shows node_shown (node_said w) (λ a. a.shown) at v file work r
 
-abbrev pub UndoShown : ℕ → ℕ → View F.Undo → List ℕ → List ℕ → UndoAnswer → Type 0
+abbrev pub UndoShown : ℕ → ℕ → View F.Undo → List ℕ → List ℕ → Result UndoAnswer Numbered → Type 0
 UndoShown w at v file work r = Shows undo_shown (undo_said w) (λ a. a.shown) at v file work r

@@ -1,11 +1,10 @@
 -- What rewrite, put and remove answer, from the file's reading, the workspace and the output's length; and the output afterwards.
-use Rattle.std.specs.Prelude.{List, ◌++◌, ℕ, drop}
+use Rattle.std.specs.Prelude.{List, ◌++◌, ℕ, drop, Result, Ok}
 use Rattle.format.specs.Records.{Entry, Key, Records}
 use Rattle.format.specs.Reading.{Read, bad, good}
 use Rattle.format.specs.Reader.{Contents}
+use Rattle.format.specs.Refusals.{Numbered, denied}
 use Rattle.format.specs.Requests.{rewrite_request, put_request, remove_request}
-use Rattle.answers.specs.declared.Written.{Written}
-use Rattle.answers.specs.declared.Written.TheVariants as W
 use Rattle.answers.specs.Answers.{in_room}
 
 -- what is asked of the records that were read
@@ -23,10 +22,10 @@ put_answer w hash work asked e room x = requested (in_room work x) (put_request 
 unfoldable pub remove_answer : ℕ → (List ℕ → List ℕ) → List ℕ → ℕ → Key → ℕ → Read Contents → Read (List ℕ)
 remove_answer w hash work asked k room x = requested (in_room work x) (remove_request w hash asked k room)
 
--- as the code says it
-abbrev pub written_of : Read (List ℕ) → Written
-written_of (bad n p) = W.Refused n p
-written_of (good bytes n) = W.Done n
+-- as the code says it: how many bytes were written
+abbrev pub written_of : Read (List ℕ) → Result ℕ Numbered
+written_of (bad n p) = denied n p
+written_of (good bytes n) = Ok n
 
 -- a refusal leaves the output as it was; success fills its first n bytes
 abbrev pub output_after : Read (List ℕ) → List ℕ → List ℕ

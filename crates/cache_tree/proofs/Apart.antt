@@ -11,10 +11,10 @@ use borrow.Author.Tests.{eq-eqb, ne_eqb, eqb-true, eqb-false}
 use Rattle.format.specs.Bytes.{eq_list}
 use Rattle.format_laws.proofs.Tests.{else-inv}
 use Rattle.format_laws.proofs.Lists.{eq_list-true, eq_list-swap}
+use Rattle.std.specs.Prelude.{Some, None}
 use Rattle.tree_nodes.specs.Flat.{trees_length, name_of, rest_of, names_of, has_name, names_differ}
 use Rattle.tree_table.specs.Keys.{key_in, slot_in}
 use Rattle.tree_table.proofs.Slots.{key-some, key-stays, slot-most, slot-own, slot-stays}
-use Rattle.cache_tree.specs.declared.differ.Chunk.TheVariants as C
 use Rattle.cache_tree.specs.Chunks.{slot_for, is_free, put_in, all_held, apart, rest_after, Filled}
 use Rattle.cache_tree.proofs.Siblings.{names-none, names_more, rest_at}
 
@@ -245,8 +245,8 @@ module _ (w n : ℕ) (t u : List ℕ) (at : u ≡ rest_after w n t) where
 -- ---- the answer for a chunk
 
 module _ {w : ℕ} (d : List ℕ) (a k : ℕ) (t : List ℕ) where
-  pub filled-equal : names_differ (names_of w k (drop a d)) ≡ false → Filled w d a k t C.Equal
-  filled-equal e = record { equal = λ q. e; next = λ y q. let z : ◌≡◌ {A = ℕ} 0 1 = cc in absurd (omega arith) }
+  pub filled-equal : names_differ (names_of w k (drop a d)) ≡ false → Filled w d a k t None
+  filled-equal e = record { equal = λ q. e; next = λ y q. absurd (cc) }
 
-  pub filled_next : (y n : ℕ) → n ≡ k → y ≤ length d → drop y d ≡ rest_after w n (drop a d) → names_differ (names_of w n (drop a d)) ≡ true → all_held t (names_of w n (drop a d)) ≡ true → Filled w d a k t (C.Next y)
-  filled_next y n e l r f h = rw (← e) (record { equal = λ q. let z : ◌≡◌ {A = ℕ} 0 1 = cc in absurd (omega arith); next = λ x q. let i : x ≡ y = cc in rw i (l, r, f, h) })
+  pub filled_next : (y n : ℕ) → n ≡ k → y ≤ length d → drop y d ≡ rest_after w n (drop a d) → names_differ (names_of w n (drop a d)) ≡ true → all_held t (names_of w n (drop a d)) ≡ true → Filled w d a k t (Some y)
+  filled_next y n e l r f h = rw (← e) (record { equal = λ q. absurd (cc); next = λ x q. let i : x ≡ y = cc in rw i (l, r, f, h) })

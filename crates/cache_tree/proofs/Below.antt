@@ -9,8 +9,8 @@ use lib.ListN.{length, get_or, take, drop, take-append-drop, drop_of_length-le}
 use lib.Seq.{drop-cons}
 use lib.Dec.{leb, ltb}
 use borrow.Author.Tests.{lt-ltb, le-ltb, ltb-true, ltb-false, le-leb, lt-leb}
-use Rattle.format.specs.declared.Order.{Order}
-use Rattle.format.specs.declared.Order.TheVariants.{Below, Same, Above}
+use Rattle.std.specs.declared.cmp.Ordering.{Ordering}
+use Rattle.std.proofs.Common.{Less, Equal, Greater}
 use Rattle.format.specs.Bytes.{eq_list}
 use Rattle.format.specs.Names.{compare, common, is_below}
 use Rattle.format_laws.proofs.Tests.{then-inv}
@@ -72,7 +72,7 @@ first-trans a b c u v x f h k =
 
 -- ---- bytes
 
-below_by : (s t : Bool) (o : Order) → is_below (cond s Below (cond t Above o)) ≡ cond s true (cond t false (is_below o))
+below_by : (s t : Bool) (o : Ordering) → is_below (cond s Less (cond t Greater o)) ≡ cond s true (cond t false (is_below o))
 below_by true t o = refl
 below_by false true o = refl
 below_by false false o = refl
@@ -94,14 +94,14 @@ compare-ending : (s : List ℕ) → is_below (compare [] (s ++ (47 ∷ []))) ≡
 compare-ending [] = compare-begun 47 []
 compare-ending (x ∷ s) = compare-begun x (s ++ (47 ∷ []))
 
-not-above : (o : Order) → is_below o ≡ true → o ≡ Above → ⊥
+not-above : (o : Ordering) → is_below o ≡ true → o ≡ Greater → ⊥
 not-above o h e = true≢false (sym h ∙ ap is_below e)
 
-through-below : (o p : Order) → is_below p ≡ true → is_below (through o p) ≡ true
+through-below : (o p : Ordering) → is_below p ≡ true → is_below (through o p) ≡ true
 unfolding through
-through-below Below p h = refl
-through-below Same p h = h
-through-below Above p h = h
+through-below Less p h = refl
+through-below Equal p h = h
+through-below Greater p h = h
 
 compare-trans : (s t u : List ℕ) → is_below (compare s t) ≡ true → is_below (compare t u) ≡ true → is_below (compare s u) ≡ true
 compare-trans s t u h k =

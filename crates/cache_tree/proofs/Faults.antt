@@ -4,7 +4,6 @@ use mathlib.Core.List.{List}
 use mathlib.Core.Bool.{Bool, true, false, ◌&&◌}
 use mathlib.Core.Option.{Option, none, some}
 use Prim.Native.Nat.{ℕ, zero, suc}
-use native.Mathlib.Omega.{arith}
 use lib.ListN.{length, drop}
 use lib.Dec.{eqb, leb, ltb}
 use Rattle.format.specs.Bytes.{before, decimal, value}
@@ -13,8 +12,7 @@ use Rattle.format.specs.Records.{Forest, Tree}
 use Rattle.format.specs.Layout.{ok_node_name, distinct}
 use Rattle.format.specs.Reading.{Read, bad, good, need, shift, bind}
 use Rattle.format.specs.Reader.{read_text, count_in, need_some, read_count, read_subtrees, read_object, read_node, read_siblings, read_forest, read_nodes}
-use Rattle.cache_tree.specs.declared.TreeRead.{TreeRead}
-use Rattle.cache_tree.specs.declared.TreeRead.TheVariants as T
+use Rattle.std.specs.Prelude as P
 use Rattle.cache_tree.specs.Shape.{read_shape, tree_of, placed}
 
 shift-placed : {A : Type 0} (p m : ℕ) (r : Read A) → shift m (placed p r) ≡ placed p (shift m r)
@@ -101,14 +99,14 @@ tree_placed w p d = sym (ap tree_of (shape-placed p w d) ∙ by (read_shape w 0 
     by (bad n q) = refl
     by (good t m) = refl
 
-pub answered : (w : ℕ) (d : List ℕ) (r : TreeRead) → tree_of (read_shape w 0 d) ≡ r → (p : ℕ) → r ≡ tree_of (read_shape w p d)
+pub answered : (w : ℕ) (d : List ℕ) (r : P.Option ℕ) → tree_of (read_shape w 0 d) ≡ r → (p : ℕ) → r ≡ tree_of (read_shape w p d)
 answered w d r e p = sym e ∙ tree_placed w p d
 
 -- a refusal is 15 at the place
-pub tree-fault : (w p : ℕ) (d : List ℕ) → T.Bad ≡ tree_of (read_shape w p d) → read_shape w p d ≡ bad 15 p
+pub tree-fault : (w p : ℕ) (d : List ℕ) → P.None ≡ tree_of (read_shape w p d) → read_shape w p d ≡ bad 15 p
 unfolding tree_of
 tree-fault w p d e = shape-placed p w d ∙ by (read_shape w 0 d) (e ∙ sym (tree_placed w p d))
   where
-    by : (x : Read Tree) → T.Bad ≡ tree_of x → placed p x ≡ bad 15 p
+    by : (x : Read Tree) → P.None ≡ tree_of x → placed p x ≡ bad 15 p
     by (bad n q) e = refl
-    by (good t m) e = let z : ◌≡◌ {A = ℕ} 0 1 = cc in absurd (omega arith)
+    by (good t m) e = absurd (cc)

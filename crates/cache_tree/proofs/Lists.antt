@@ -12,12 +12,11 @@ use Rattle.format.specs.Reading.{Read, bad, good, need, shift, bind}
 use Rattle.format.specs.Reader.{Head, read_node, read_siblings, read_forest}
 use Rattle.format_laws.proofs.Lists.{drop-to}
 use Rattle.format_laws.proofs.Readings.{bad-good, good-inv, need-inv, bind_inv}
-use Rattle.cache_tree.specs.declared.list.ListRead.{ListRead}
-use Rattle.cache_tree.specs.declared.list.ListRead.TheVariants as L
+use Rattle.std.specs.Prelude.{Option, Some, None}
+use Rattle.cache_tree.specs.declared.list.Listed.{Listed}
 use Rattle.tree_nodes.specs.declared.node.Node as Code
-use Rattle.tree_nodes.specs.declared.node.NodeRead.TheVariants as R
 use Rattle.tree_nodes.specs.Answers.{node_at}
-use Rattle.cache_tree.specs.Answers.{read_one, distinct_below, tested, list_at, rooted, nodes_in}
+use Rattle.cache_tree.specs.Answers.{read_one, distinct_below, tested, list_at, rooted}
 use Rattle.tree_nodes.specs.Flat.{size, trees_length, names_of, has_name, names_differ}
 use Rattle.tree_nodes.proofs.Readings.{node-took}
 use Rattle.tree_nodes.proofs.Nodes.{NodeIs}
@@ -49,17 +48,22 @@ graft-size nil g = sym (zero-add (size g))
 graft-size (tree n kids more) g = let e : size (graft more g) ≡ size more + size g = graft-size more g in omega (arith, suc-add (size kids + size more) (size g))
 
 -- the answer for nodes before others
-abbrev pub plus : ℕ → ListRead → ListRead
-plus n L.Bad = L.Bad
-plus n (L.Good next m) = L.Good next (n + m)
+abbrev pub plus : ℕ → Option Listed → Option Listed
+plus n None = None
+plus n (Some l) = Some (record { next = l.next; nodes = n + l.nodes })
 
-pub plus_none : (r : ListRead) → r ≡ plus 0 r
-plus_none L.Bad = refl
-plus_none (L.Good next m) = rw (zero-add m)
+pub plus_none : (r : Option Listed) → r ≡ plus 0 r
+plus_none None = refl
+plus_none (Some l) = rw (zero-add l.nodes)
 
-plus-plus : (n m : ℕ) (r : ListRead) → plus n (plus m r) ≡ plus (n + m) r
-plus-plus n m L.Bad = refl
-plus-plus n m (L.Good next k) = rw (add_assoc n m k)
+plus-plus : (n m : ℕ) (r : Option Listed) → plus n (plus m r) ≡ plus (n + m) r
+plus-plus n m None = refl
+plus-plus n m (Some l) = rw (add_assoc n m l.nodes)
+
+-- the answer for a node and its list of subtrees
+abbrev pub rooted_all : Option Listed → Option Listed
+rooted_all None = None
+rooted_all (Some l) = Some (rooted l)
 
 -- ---- a list is its first node and the others
 
@@ -174,36 +178,23 @@ pub record ListIs (ok : Forest → Bool) (d : List ℕ) (at : ℕ) (r : Read For
   pub within : next ≤ length d
 
 module _ (ok : Forest → Bool) (d : List ℕ) (at : ℕ) where
-  module _ (next n : ℕ) (inside : at ≤ length d) (f : Forest) (m : ℕ) (t : Sized (length (drop at d)) (good f m)) where
-    list-by : (b : Bool) → ok f ≡ b → L.Good next n ≡ list_at at (need b 15 0 (good f m)) → ListIs ok d at (good f m) next n
+  module _ (l : Listed) (inside : at ≤ length d) (f : Forest) (m : ℕ) (t : Sized (length (drop at d)) (good f m)) where
+    list-by : (b : Bool) → ok f ≡ b → Some l ≡ list_at at (need b 15 0 (good f m)) → ListIs ok d at (good f m) l.next l.nodes
     unfolding list_at need
-    list-by false q e = let z : ◌≡◌ {A = ℕ} 0 1 = cc in absurd (omega arith)
+    list-by false q e = absurd (cc)
     list-by true q e =
-        let i₁ : next ≡ at + m = cc in
-        let i₂ : n ≡ size f = cc in
+        let i : l ≡ record { next = at + m; nodes = size f } = cc in
+        let i₁ : l.next ≡ at + m = ap (λ (x : Listed). x.next) i in
+        let i₂ : l.nodes ≡ size f = ap (λ (x : Listed). x.nodes) i in
         let b : (size f ≤ m) × (m ≤ length (drop at d)) = t.of f m refl in
         let k : length (drop at d) ≡ length d - at = length-drop at d in
-        let j : m ≡ next - at = omega arith in
+        let j : m ≡ l.next - at = omega arith in
         record { of = f; reads = ap (λ (i : ℕ). good f i) j; passes = q; nodes = i₂; few = omega arith; within = omega arith }
 
-  pub list-is : (next n : ℕ) → at ≤ length d → (r : Read Forest) → Sized (length (drop at d)) r → L.Good next n ≡ list_at at (tested ok r) → ListIs ok d at r next n
+  pub list-is : (l : Listed) → at ≤ length d → (r : Read Forest) → Sized (length (drop at d)) r → Some l ≡ list_at at (tested ok r) → ListIs ok d at r l.next l.nodes
   unfolding list_at tested
-  list-is next n inside (bad a p) t e = let z : ◌≡◌ {A = ℕ} 0 1 = cc in absurd (omega arith)
-  list-is next n inside (good f m) t e = list-by next n inside f m t (ok f) refl e
-
-  few-by : (r : ListRead) (f : Forest) (m : ℕ) (b : Bool) → r ≡ list_at at (need b 15 0 (good f m)) → nodes_in r ≤ size f
-  unfolding list_at need
-  few-by r f m false e = let i : nodes_in r ≡ 0 = ap nodes_in e in omega arith
-  few-by r f m true e = let i : nodes_in r ≡ size f = ap nodes_in e in omega arith
-
-  pub list-few : (r : ListRead) (x : Read Forest) → Sized (length (drop at d)) x → r ≡ list_at at (tested ok x) → nodes_in r ≤ length d
-  unfolding list_at tested
-  list-few r (bad n p) t e = let i : nodes_in r ≡ 0 = ap nodes_in e in omega arith
-  list-few r (good f m) t e =
-      let i : nodes_in r ≤ size f = few-by r f m (ok f) e in
-      let b : (size f ≤ m) × (m ≤ length (drop at d)) = t.of f m refl in
-      let k : length (drop at d) ≡ length d - at = length-drop at d in
-      omega arith
+  list-is l inside (bad a p) t e = absurd (cc)
+  list-is l inside (good f m) t e = list-by l inside f m t (ok f) refl e
 
 -- ---- names that differ in each list further down
 
@@ -215,22 +206,22 @@ graft-below (tree n kids more) g = rw (graft-below more g) (and_assoc (distinct 
 -- ---- the siblings from a place on
 
 module _ (at : ℕ) where
-  bad-on : {A : Type 0} (x : Read A) (a : A → ℕ → Read Forest) (n p : ℕ) → x ≡ bad n p → list_at at (tested distinct_below (bind x a)) ≡ L.Bad
+  bad-on : {A : Type 0} (x : Read A) (a : A → ℕ → Read Forest) (n p : ℕ) → x ≡ bad n p → list_at at (tested distinct_below (bind x a)) ≡ None
   unfolding bind tested list_at
   bad-on x a n p e = rw e
 
-  bad-is : (f : Forest) (m : ℕ) (b : Bool) → L.Bad ≡ list_at at (need b 15 0 (good f m)) → b ≡ false
+  bad-is : (f : Forest) (m : ℕ) (b : Bool) → None ≡ list_at at (need b 15 0 (good f m)) → b ≡ false
   unfolding list_at need
-  bad-is f m true e = let z : ◌≡◌ {A = ℕ} 0 1 = cc in absurd (omega arith)
+  bad-is f m true e = absurd (cc)
   bad-is f m false e = refl
 
   -- the first sibling has two equal names below it
-  equal-others : (m : ℕ) (f : Forest) (y : Read Forest) → distinct_below f ≡ false → list_at at (tested distinct_below (shift m (others f y))) ≡ L.Bad
+  equal-others : (m : ℕ) (f : Forest) (y : Read Forest) → distinct_below f ≡ false → list_at at (tested distinct_below (shift m (others f y))) ≡ None
   unfolding others bind shift tested need list_at
   equal-others m f (bad n p) e = refl
   equal-others m f (good g o) e = rw (graft-below f g, e)
 
-  forest-bad : (x : Read Forest) (rest : ℕ → Read Forest) → L.Bad ≡ list_at at (tested distinct_below x) → list_at at (tested distinct_below (bind x λ t m. others t (rest m))) ≡ L.Bad
+  forest-bad : (x : Read Forest) (rest : ℕ → Read Forest) → None ≡ list_at at (tested distinct_below x) → list_at at (tested distinct_below (bind x λ t m. others t (rest m))) ≡ None
   unfolding list_at tested bind
   forest-bad (bad n p) rest e = refl
   forest-bad (good f m) rest e = equal-others m f (rest m) (bad-is f m (distinct_below f) e)
@@ -249,12 +240,12 @@ forest-more : (w l k : ℕ) (s : List ℕ) → 0 < k → read_forest w 0 l k s �
 forest-more w l k s h = let e : k ≡ suc (k - 1) = omega arith in ap (λ (j : ℕ). read_forest w 0 l j s) e ∙ list-step w l (k - 1) s
 
 module _ (w : ℕ) (d : List ℕ) (l place left : ℕ) where
-  turn-none : left ≤ 0 → list_at place (tested distinct_below (read_forest w 0 l left (drop place d))) ≡ L.Good place 0
+  turn-none : left ≤ 0 → list_at place (tested distinct_below (read_forest w 0 l left (drop place d))) ≡ Some (record { next = place; nodes = 0 })
   unfolding list_at tested need distinct_below size
   turn-none h = let z : left ≡ 0 = omega arith in rw (z, list-none w l (drop place d), add-zero place)
 
   module _ (some : 0 < left) where
-    turn-bad : L.Bad ≡ list_at place (tested distinct_below (read_one w l (drop place d))) → list_at place (tested distinct_below (read_forest w 0 l left (drop place d))) ≡ L.Bad
+    turn-bad : None ≡ list_at place (tested distinct_below (read_one w l (drop place d))) → list_at place (tested distinct_below (read_forest w 0 l left (drop place d))) ≡ None
     turn-bad e = ap (λ (x : Read Forest). list_at place (tested distinct_below x)) (forest-more w l left (drop place d) some) ∙ forest-bad place (read_one w l (drop place d)) (λ m. read_forest w 0 l (left - 1) (drop m (drop place d))) e
 
     turn-good : (next n : ℕ) → ListIs distinct_below d place (read_one w l (drop place d)) next n
@@ -267,11 +258,11 @@ module _ (w : ℕ) (d : List ℕ) (l place left : ℕ) where
         ∙ rw (is.reads, drop-to d place (next - place) next e, is.nodes) (shift-others place (next - place) next is.of (read_forest w 0 l (left - 1) (drop next d)) e is.passes)
 
 -- the loop over siblings: the answer for the whole list, of which some nodes are before the place, before the siblings' own names are tested
-module _ (w : ℕ) (d : List ℕ) (l place left : ℕ) (whole : ListRead) (nodes : ℕ) (so_far : whole ≡ plus nodes (list_at place (tested distinct_below (read_forest w 0 l left (drop place d))))) where
-  loop-end : left ≤ 0 → L.Good place nodes ≡ whole
+module _ (w : ℕ) (d : List ℕ) (l place left : ℕ) (whole : Option Listed) (nodes : ℕ) (so_far : whole ≡ plus nodes (list_at place (tested distinct_below (read_forest w 0 l left (drop place d))))) where
+  loop-end : left ≤ 0 → Some (record { next = place; nodes = nodes }) ≡ whole
   loop-end h = sym (so_far ∙ ap (plus nodes) (turn-none w d l place left h) ∙ rw (add-zero nodes))
 
-  loop-bad : 0 < left → L.Bad ≡ list_at place (tested distinct_below (read_one w l (drop place d))) → L.Bad ≡ whole
+  loop-bad : 0 < left → None ≡ list_at place (tested distinct_below (read_one w l (drop place d))) → None ≡ whole
   loop-bad some e = sym (so_far ∙ ap (plus nodes) (turn-bad w d l place left some e))
 
   pub loop-more : (next n : ℕ) → 0 < left → ListIs distinct_below d place (read_one w l (drop place d)) next n
@@ -297,7 +288,7 @@ module _ (w : ℕ) (d : List ℕ) (at l k : ℕ) where
   whole-list = read_forest w 0 l k (drop at d)
 
   -- two equal names further down
-  below-bad : (x : Read Forest) → L.Bad ≡ list_at at (tested distinct_below x) → L.Bad ≡ list_at at (tested distinct x)
+  below-bad : (x : Read Forest) → None ≡ list_at at (tested distinct_below x) → None ≡ list_at at (tested distinct x)
   unfolding list_at tested need
   below-bad (bad n p) e = refl
   below-bad (good f m) e = rw (distinct-is f, bad-is at f m (distinct_below f) e, and-false (names_differ (sibling_names f)))
@@ -310,20 +301,20 @@ module _ (w : ℕ) (d : List ℕ) (at l k : ℕ) where
     unfolding tested
     list-end b e = rw (is.reads, own-names, e)
 
-    pub list-differs : names_differ (names_of w k (drop at d)) ≡ true → L.Good place nodes ≡ list_at at (tested distinct whole-list)
+    pub list-differs : names_differ (names_of w k (drop at d)) ≡ true → Some (record { next = place; nodes = nodes }) ≡ list_at at (tested distinct whole-list)
     unfolding need list_at
     list-differs e = let w = is.few in let i : at + (place - at) ≡ place = omega arith in sym (list-end true e ∙ rw (i, ← is.nodes))
 
-    pub list-equal : names_differ (names_of w k (drop at d)) ≡ false → L.Bad ≡ list_at at (tested distinct whole-list)
+    pub list-equal : names_differ (names_of w k (drop at d)) ≡ false → None ≡ list_at at (tested distinct whole-list)
     unfolding need list_at
     list-equal e = sym (list-end false e)
 
   module _ (place left nodes : ℕ) (so_far : list_at at (tested distinct_below whole-list) ≡ plus nodes (list_at place (tested distinct_below (read_forest w 0 l left (drop place d))))) where
-    pub list-bad : 0 < left → L.Bad ≡ list_at place (tested distinct_below (read_one w l (drop place d))) → L.Bad ≡ list_at at (tested distinct whole-list)
+    pub list-bad : 0 < left → None ≡ list_at place (tested distinct_below (read_one w l (drop place d))) → None ≡ list_at at (tested distinct whole-list)
     list-bad some e = below-bad whole-list (loop-bad w d l place left _ nodes so_far some e)
 
     pub list_all : at ≤ length d → left ≤ 0 → ListIs distinct_below d at whole-list place nodes
-    list_all inside none = list-is distinct_below d at place nodes inside whole-list (forest-sized w l k (drop at d)) (loop-end w d l place left _ nodes so_far none)
+    list_all inside none = list-is distinct_below d at (record { next = place; nodes = nodes }) inside whole-list (forest-sized w l k (drop at d)) (loop-end w d l place left _ nodes so_far none)
 
 -- a sibling and all below it reach up to the next one
 one-alone : (w l : ℕ) (s : List ℕ) (t : Forest) (m : ℕ) → read_one w l s ≡ good t m → read_forest w 0 l 1 s ≡ good (graft t nil) (m + (0 + 0))
@@ -355,13 +346,13 @@ unfolding read_one
 one_more w zero s e = absurd (e refl)
 one_more w (suc l) s e = let k : suc l - 1 ≡ l = omega arith in rw k
 
-no-node-by : (w at : ℕ) (x : Read Head) (a : Head → ℕ → Read Forest) → R.Bad ≡ node_at w at x → list_at at (tested distinct_below (bind x a)) ≡ L.Bad
+no-node-by : (w at : ℕ) (x : Read Head) (a : Head → ℕ → Read Forest) → None ≡ node_at w at x → list_at at (tested distinct_below (bind x a)) ≡ None
 unfolding node_at
 no-node-by w at (bad n p) a e = bad-on at _ a n p refl
-no-node-by w at (good h m) a e = let z : ◌≡◌ {A = ℕ} 0 1 = cc in absurd (omega arith)
+no-node-by w at (good h m) a e = absurd (cc)
 
 -- a node with those subtrees
-one-tested : (at m next k : ℕ) (node : Node) (f : Forest) → next ≡ at + m → (b : Bool) → list_at at (need b 15 0 (good (tree node f nil) (m + (k + 0)))) ≡ rooted (list_at next (need b 15 0 (good f k)))
+one-tested : (at m next k : ℕ) (node : Node) (f : Forest) → next ≡ at + m → (b : Bool) → list_at at (need b 15 0 (good (tree node f nil) (m + (k + 0)))) ≡ rooted_all (list_at next (need b 15 0 (good f k)))
 unfolding list_at need size
 one-tested at m next k node f is false = refl
 one-tested at m next k node f is true =
@@ -369,22 +360,22 @@ one-tested at m next k node f is true =
     let n : suc (size f + 0) ≡ size f + 1 = omega arith in
     rw (i, n)
 
-one-rooted-by : (at m next : ℕ) (node : Node) → next ≡ at + m → (y : Read Forest) → list_at at (tested distinct_below (shift m (bind y λ kids n. good (tree node kids nil) 0))) ≡ rooted (list_at next (tested distinct y))
+one-rooted-by : (at m next : ℕ) (node : Node) → next ≡ at + m → (y : Read Forest) → list_at at (tested distinct_below (shift m (bind y λ kids n. good (tree node kids nil) 0))) ≡ rooted_all (list_at next (tested distinct y))
 unfolding list_at bind shift tested distinct_below
 one-rooted-by at m next node is (bad n p) = refl
 one-rooted-by at m next node is (good f k) = rw (and-true (distinct f)) (one-tested at m next k node f is (distinct f))
 
 module _ (w : ℕ) (d : List ℕ) (at l : ℕ) where
-  pub one_none : l ≡ 0 → list_at at (tested distinct_below (read_one w l (drop at d))) ≡ L.Bad
+  pub one_none : l ≡ 0 → list_at at (tested distinct_below (read_one w l (drop at d))) ≡ None
   unfolding read_one tested list_at
   one_none e = rw e
 
   module _ (l-some : l ≡ 0 → ⊥) where
-    pub one-no-node : R.Bad ≡ node_at w at (read_node w 0 (drop at d)) → list_at at (tested distinct_below (read_one w l (drop at d))) ≡ L.Bad
+    pub one-no-node : None ≡ node_at w at (read_node w 0 (drop at d)) → list_at at (tested distinct_below (read_one w l (drop at d))) ≡ None
     one-no-node e = ap (λ (x : Read Forest). list_at at (tested distinct_below x)) (one_more w l (drop at d) l-some) ∙ no-node-by w at (read_node w 0 (drop at d)) _ e
 
     module _ (node : Code.Node) (is : NodeIs w d at node) where
-      pub one-no-name : false ≡ ok_node_name (take (node.nul - at) (drop at d)) → list_at at (tested distinct_below (read_one w l (drop at d))) ≡ L.Bad
+      pub one-no-name : false ≡ ok_node_name (take (node.nul - at) (drop at d)) → list_at at (tested distinct_below (read_one w l (drop at d))) ≡ None
       unfolding bind shift need tested list_at
       one-no-name e = ap (λ (x : Read Forest). list_at at (tested distinct_below x)) (one_more w l (drop at d) l-some) ∙ rw (is.reads, is.name, ← e)
 
@@ -396,7 +387,7 @@ module _ (w : ℕ) (d : List ℕ) (at l : ℕ) where
             let e : node.next ≡ at + (node.next - at) = omega arith in
             one_more w l (drop at d) l-some ∙ rw (is.reads, is.name, ← named, is.subtrees, drop-to d at (node.next - at) node.next e)
 
-        pub one-rooted : list_at at (tested distinct_below (read_one w l (drop at d))) ≡ rooted (list_at node.next (tested distinct (read_forest w 0 (l - 1) node.subtrees (drop node.next d))))
+        pub one-rooted : list_at at (tested distinct_below (read_one w l (drop at d))) ≡ rooted_all (list_at node.next (tested distinct (read_forest w 0 (l - 1) node.subtrees (drop node.next d))))
         one-rooted =
             let b : at ≤ node.next = omega (arith, is.named, is.ended) in
             ap (λ (x : Read Forest). list_at at (tested distinct_below x)) one_list ∙ one-rooted-by at (node.next - at) node.next is.head.node (omega arith) _

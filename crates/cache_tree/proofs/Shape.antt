@@ -14,15 +14,15 @@ use Rattle.format.specs.Layout.{distinct, ok_tree_counts}
 use Rattle.format.specs.Reading.{Read, bad, good, need, shift, bind}
 use Rattle.format.specs.Reader.{Head, read_node, read_forest, read_nodes, read_tree}
 use Rattle.tree_nodes.specs.declared.node.Node as Code
-use Rattle.tree_nodes.specs.declared.node.NodeRead.TheVariants as R
-use Rattle.cache_tree.specs.declared.list.ListRead.TheVariants as L
-use Rattle.cache_tree.specs.declared.TreeRead.TheVariants as T
+use Rattle.std.specs.Prelude.{Some, None}
+use Rattle.cache_tree.specs.declared.list.Listed.{Listed}
 use Rattle.tree_nodes.specs.Answers.{node_at}
 use Rattle.tree_nodes.specs.Flat.{size}
-use Rattle.cache_tree.specs.Answers.{tested, list_at, rooted}
+use Rattle.cache_tree.specs.Answers.{tested, list_at}
 use Rattle.format.specs.Places.{node_start}
 use Rattle.cache_tree.specs.Shape.{read_shape, read_distinct, nodes_at, tree_of}
 use Rattle.tree_nodes.proofs.Nodes.{NodeIs}
+use Rattle.cache_tree.proofs.Lists.{rooted_all}
 use Rattle.tree_nodes.proofs.Flat.{items-size, reads-item, Shown}
 use Rattle.tree_nodes.proofs.Trees.{tree-items, tree-reads}
 
@@ -56,46 +56,47 @@ pub record NodesAre (w : ℕ) (d : List ℕ) (next n : ℕ) : Type 0 where
   pub nodes : n ≡ length (tree_items of)
   pub differ : distinct of.subtrees ≡ true
 
-module _ {w : ℕ} (d : List ℕ) (next n : ℕ) where
-  nodes-tested : (t : Tree) (m : ℕ) → read_nodes w 0 d ≡ good t m → (b : Bool) → distinct t.subtrees ≡ b → L.Good next n ≡ nodes_at (shift m (need b 15 0 (good t 0))) → NodesAre w d next n
+module _ {w : ℕ} (d : List ℕ) (l : Listed) where
+  nodes-tested : (t : Tree) (m : ℕ) → read_nodes w 0 d ≡ good t m → (b : Bool) → distinct t.subtrees ≡ b → Some l ≡ nodes_at (shift m (need b 15 0 (good t 0))) → NodesAre w d l.next l.nodes
   unfolding need shift nodes_at
-  nodes-tested t m q false f e = let z : ◌≡◌ {A = ℕ} 0 1 = cc in absurd (omega arith)
+  nodes-tested t m q false f e = absurd (cc)
   nodes-tested t m q true f e =
-      let i : next ≡ m + 0 = cc in
-      let j : m ≡ next = omega arith in
-      record { of = t; reads = q ∙ ap (λ (k : ℕ). good t k) j; nodes = cc; differ = f }
+      let h : l ≡ record { next = m + 0; nodes = length (tree_items t) } = cc in
+      let i : l.next ≡ m + 0 = ap (λ (x : Listed). x.next) h in
+      let j : m ≡ l.next = omega arith in
+      record { of = t; reads = q ∙ ap (λ (k : ℕ). good t k) j; nodes = ap (λ (x : Listed). x.nodes) h; differ = f }
 
-  nodes-are-by : (x : Read Tree) → read_nodes w 0 d ≡ x → L.Good next n ≡ nodes_at (bind x λ t m. need (distinct t.subtrees) 15 0 (good t 0)) → NodesAre w d next n
+  nodes-are-by : (x : Read Tree) → read_nodes w 0 d ≡ x → Some l ≡ nodes_at (bind x λ t m. need (distinct t.subtrees) 15 0 (good t 0)) → NodesAre w d l.next l.nodes
   unfolding bind nodes_at
-  nodes-are-by (bad a p) q e = let z : ◌≡◌ {A = ℕ} 0 1 = cc in absurd (omega arith)
+  nodes-are-by (bad a p) q e = absurd (cc)
   nodes-are-by (good t m) q e = nodes-tested t m q (distinct t.subtrees) refl e
 
-  pub nodes-are : L.Good next n ≡ nodes_at (read_distinct w d) → NodesAre w d next n
+  pub nodes-are : Some l ≡ nodes_at (read_distinct w d) → NodesAre w d l.next l.nodes
   unfolding read_distinct
   nodes-are e = nodes-are-by (read_nodes w 0 d) refl e
 
-no-root-by : (w : ℕ) (x : Read Head) (a : Head → ℕ → Read Tree) (c : Tree → ℕ → Read Tree) → R.Bad ≡ node_at w 0 x → nodes_at (bind (bind x a) c) ≡ L.Bad
+no-root-by : (w : ℕ) (x : Read Head) (a : Head → ℕ → Read Tree) (c : Tree → ℕ → Read Tree) → None ≡ node_at w 0 x → nodes_at (bind (bind x a) c) ≡ None
 unfolding node_at bind nodes_at
 no-root-by w (bad n p) a c e = refl
-no-root-by w (good h m) a c e = let z : ◌≡◌ {A = ℕ} 0 1 = cc in absurd (omega arith)
+no-root-by w (good h m) a c e = absurd (cc)
 
 root-nodes : (t : Tree) → length (tree_items t) ≡ size t.subtrees + 1
 unfolding tree_items
 root-nodes t = let e : length (items 2 t.subtrees) ≡ size t.subtrees = items-size 2 t.subtrees in omega arith
 
-rooted-tested : (m k : ℕ) (n : Node) (f : Forest) (b : Bool) → nodes_at (shift (m + (k + 0)) (need b 15 0 (good (record { root = n; subtrees = f }) 0))) ≡ rooted (list_at m (need b 15 0 (good f k)))
+rooted-tested : (m k : ℕ) (n : Node) (f : Forest) (b : Bool) → nodes_at (shift (m + (k + 0)) (need b 15 0 (good (record { root = n; subtrees = f }) 0))) ≡ rooted_all (list_at m (need b 15 0 (good f k)))
 unfolding nodes_at shift need list_at
 rooted-tested m k n f false = refl
 rooted-tested m k n f true = let i : m + (k + 0) + 0 ≡ m + k = omega arith in rw (i, root-nodes (record { root = n; subtrees = f }))
 
 nodes-rooted-by : (m : ℕ) (n : Node) (y : Read Forest) →
-    nodes_at (bind (shift m (bind y λ kids k. good (record { root = n; subtrees = kids }) 0)) λ t j. need (distinct t.subtrees) 15 0 (good t 0)) ≡ rooted (list_at m (tested distinct y))
+    nodes_at (bind (shift m (bind y λ kids k. good (record { root = n; subtrees = kids }) 0)) λ t j. need (distinct t.subtrees) 15 0 (good t 0)) ≡ rooted_all (list_at m (tested distinct y))
 unfolding nodes_at bind shift tested list_at
 nodes-rooted-by m n (bad a p) = refl
 nodes-rooted-by m n (good f k) = rooted-tested m k n f (distinct f)
 
 module _ (w : ℕ) (d : List ℕ) where
-  pub nodes-no-root : R.Bad ≡ node_at w 0 (read_node w 0 d) → nodes_at (read_distinct w d) ≡ L.Bad
+  pub nodes-no-root : None ≡ node_at w 0 (read_node w 0 d) → nodes_at (read_distinct w d) ≡ None
   unfolding read_distinct read_nodes
   nodes-no-root e = no-root-by w (read_node w 0 d) _ _ e
 
@@ -110,7 +111,7 @@ module _ (w : ℕ) (d : List ℕ) where
     root-reads : read_node w 0 d ≡ good is.head root.next
     root-reads = let e : root.next - 0 ≡ root.next = omega arith in is.reads ∙ ap (λ (n : ℕ). good is.head n) e
 
-    pub nodes-named : (root.nul ≡ 0 → ⊥) → nodes_at (read_distinct w d) ≡ L.Bad
+    pub nodes-named : (root.nul ≡ 0 → ⊥) → nodes_at (read_distinct w d) ≡ None
     unfolding read_distinct read_nodes bind shift need nodes_at
     nodes-named e = rw (root-reads, name-length, ne_eqb _ _ e)
 
@@ -119,7 +120,7 @@ module _ (w : ℕ) (d : List ℕ) where
       unfolding read_nodes bind need
       root-list = rw (root-reads, name-length, eq-eqb _ _ empty, is.subtrees)
 
-      pub nodes-rooted : nodes_at (read_distinct w d) ≡ rooted (list_at root.next (tested distinct (read_forest w 0 127 root.subtrees (drop root.next d))))
+      pub nodes-rooted : nodes_at (read_distinct w d) ≡ rooted_all (list_at root.next (tested distinct (read_forest w 0 127 root.subtrees (drop root.next d))))
       unfolding read_distinct
       nodes-rooted = rw root-list (nodes-rooted-by root.next is.head.node (read_forest w 0 127 root.subtrees (drop root.next d)))
 
@@ -127,27 +128,27 @@ module _ (w : ℕ) (d : List ℕ) where
 
 module _ (w : ℕ) (d : List ℕ) where
   -- two equal names, and no other test matters
-  equal_by : (t : Tree) (m : ℕ) (a b : Bool) → L.Bad ≡ nodes_at (shift m (need b 15 0 (good t 0))) → tree_of (shift m (need a 15 0 (need b 15 0 (good t 0)))) ≡ T.Bad
+  equal_by : (t : Tree) (m : ℕ) (a b : Bool) → None ≡ nodes_at (shift m (need b 15 0 (good t 0))) → tree_of (shift m (need a 15 0 (need b 15 0 (good t 0)))) ≡ None
   unfolding shift need nodes_at tree_of
-  equal_by t m true true e = let z : ◌≡◌ {A = ℕ} 0 1 = cc in absurd (omega arith)
+  equal_by t m true true e = absurd (cc)
   equal_by t m true false e = refl
   equal_by t m false b e = refl
 
-  no-nodes-by : (x : Read Tree) → L.Bad ≡ nodes_at (bind x λ t m. need (distinct t.subtrees) 15 0 (good t 0)) → tree_of (bind x λ t m. need (eqb m (length d)) 15 0 (need (distinct t.subtrees) 15 0 (good t 0))) ≡ T.Bad
+  no-nodes-by : (x : Read Tree) → None ≡ nodes_at (bind x λ t m. need (distinct t.subtrees) 15 0 (good t 0)) → tree_of (bind x λ t m. need (eqb m (length d)) 15 0 (need (distinct t.subtrees) 15 0 (good t 0))) ≡ None
   unfolding bind nodes_at tree_of
   no-nodes-by (bad a p) e = refl
   no-nodes-by (good t m) e = equal_by t m (eqb m (length d)) (distinct t.subtrees) e
 
-  pub tree-no-nodes : L.Bad ≡ nodes_at (read_distinct w d) → tree_of (read_shape w 0 d) ≡ T.Bad
+  pub tree-no-nodes : None ≡ nodes_at (read_distinct w d) → tree_of (read_shape w 0 d) ≡ None
   unfolding read_shape read_distinct
   tree-no-nodes e = no-nodes-by (read_nodes w 0 d) e
 
   module _ (next n : ℕ) (are : NodesAre w d next n) where
-    pub tree-longer : (next ≡ length d → ⊥) → tree_of (read_shape w 0 d) ≡ T.Bad
+    pub tree-longer : (next ≡ length d → ⊥) → tree_of (read_shape w 0 d) ≡ None
     unfolding read_shape bind shift need tree_of
     tree-longer e = rw (are.reads, ne_eqb _ _ e)
 
-    pub tree-shaped : next ≡ length d → tree_of (read_shape w 0 d) ≡ T.Good n
+    pub tree-shaped : next ≡ length d → tree_of (read_shape w 0 d) ≡ Some n
     unfolding read_shape bind shift need tree_of
     tree-shaped whole = rw (are.reads, eq-eqb _ _ whole, are.differ, ← are.nodes)
 

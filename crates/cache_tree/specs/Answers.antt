@@ -1,11 +1,10 @@
 -- The format's readings as this crate's functions answer them. Every fault is 15, so an answer has no number. w is the width of an object name.
-use Rattle.std.specs.Prelude.{List, Bool, true, ◌&&◌, ℕ, zero, suc, ◌+◌, drop}
+use Rattle.std.specs.Prelude.{List, Bool, true, ◌&&◌, ℕ, zero, suc, ◌+◌, drop, Option, Some, None}
 use Rattle.format.specs.Records.{Forest, nil, tree}
 use Rattle.format.specs.Layout.{ok_node_name, distinct}
 use Rattle.format.specs.Reading.{Read, bad, good, need, bind}
 use Rattle.format.specs.Reader.{read_node, read_forest}
-use Rattle.cache_tree.specs.declared.list.ListRead.{ListRead}
-use Rattle.cache_tree.specs.declared.list.ListRead.TheVariants as L
+use Rattle.cache_tree.specs.declared.list.Listed.{Listed}
 use Rattle.tree_nodes.specs.Flat.{size}
 
 -- one node and all below it, with at most the given number of levels
@@ -26,15 +25,10 @@ tested ok (bad n p) = bad n p
 tested ok (good f m) = need (ok f) 15 0 (good f m)
 
 -- siblings that begin at a place
-unfoldable pub list_at : ℕ → Read Forest → ListRead
-list_at at (bad n p) = L.Bad
-list_at at (good f m) = L.Good (at + m) (size f)
+unfoldable pub list_at : ℕ → Read Forest → Option Listed
+list_at at (bad n p) = None
+list_at at (good f m) = Some (record { next = at + m; nodes = size f })
 
 -- a node and its list of subtrees
-abbrev pub rooted : ListRead → ListRead
-rooted L.Bad = L.Bad
-rooted (L.Good next n) = L.Good next (n + 1)
-
-abbrev pub nodes_in : ListRead → ℕ
-nodes_in L.Bad = 0
-nodes_in (L.Good next n) = n
+abbrev pub rooted : Listed → Listed
+rooted l = record { next = l.next; nodes = l.nodes + 1 }

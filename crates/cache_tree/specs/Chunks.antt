@@ -1,9 +1,7 @@
 -- Names whose keys are in a table, and names chunk by chunk. w is the width of an object name.
-use Rattle.std.specs.Prelude.{◌≡◌, List, [], ◌∷◌, Bool, true, false, cond, ℕ, zero, suc, ◌≤◌, length, get_or, set, drop, eqb}
+use Rattle.std.specs.Prelude.{◌≡◌, List, [], ◌∷◌, Bool, true, false, cond, ℕ, zero, suc, ◌≤◌, length, get_or, set, drop, eqb, Option, Some, None}
 use Rattle.tree_nodes.specs.Flat.{rest_of, names_of, has_name, names_differ}
 use Rattle.tree_table.specs.Keys.{key_in, slot_in}
-use Rattle.cache_tree.specs.declared.differ.Chunk.{Chunk}
-use Rattle.cache_tree.specs.declared.differ.Chunk.TheVariants as C
 
 -- the slot of a name among all
 unfoldable pub slot_for : List ℕ → List ℕ → ℕ
@@ -33,6 +31,6 @@ rest_after w zero s = s
 rest_after w (suc k) s = rest_after w k (rest_of w s)
 
 -- the table after the k names from a place on were put in it, and the answer
-pub record Filled (w : ℕ) (d : List ℕ) (a k : ℕ) (t : List ℕ) (r : Chunk) : Type 0 where
-  pub equal : r ≡ C.Equal → names_differ (names_of w k (drop a d)) ≡ false
-  pub next : (y : ℕ) → r ≡ C.Next y → (y ≤ length d) × (drop y d ≡ rest_after w k (drop a d)) × (names_differ (names_of w k (drop a d)) ≡ true) × (all_held t (names_of w k (drop a d)) ≡ true)
+pub record Filled (w : ℕ) (d : List ℕ) (a k : ℕ) (t : List ℕ) (r : Option ℕ) : Type 0 where
+  pub equal : r ≡ None → names_differ (names_of w k (drop a d)) ≡ false
+  pub next : (y : ℕ) → r ≡ Some y → (y ≤ length d) × (drop y d ≡ rest_after w k (drop a d)) × (names_differ (names_of w k (drop a d)) ≡ true) × (all_held t (names_of w k (drop a d)) ≡ true)

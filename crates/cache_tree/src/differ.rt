@@ -13,13 +13,6 @@ use tree_table::{KEYS, Table, clear, key_of, make_seed, slot_of};
 // Names of a chunk: more than four fifths of the slots, where a search for a slot ends after some six of them.
 const CHUNK: u32 = 2600;
 
-// Two names of a chunk are equal; or they differ, and this is the place after them.
-#[derive(Clone, Copy)]
-enum Chunk {
-    Equal,
-    Next(usize),
-}
-
 // Whether the names at a and at b are equal.
 fn same_at(d: &[u8], a: usize, b: usize) -> bool
     requires { (a ≤ length d.now) × (b ≤ length d.now) }
@@ -36,13 +29,11 @@ fn has_name(d: &[u8], a: usize, b: usize, k: u32, w: usize) -> bool
     ensures { result ≡ has_name (name_of (drop a d.now)) (names_of w k (drop b d.now)) }
 {
     let mut y = b;
-    let mut left = k;
-    while 0 < left {
+    for _ in 0..k {
         if same_at(d, a, y) {
             return true;
         }
         y = after_tree(d, y, w);
-        left -= 1;
     }
     false
 }
@@ -82,22 +73,20 @@ fn put(d: &[u8], y: usize, nul: usize, a: usize, n: u32, t: &mut Table, w: usize
     has_name(d, y, a, n, w)
 }
 
-// The keys of the k names from a on are put in the table, unless two of these names are equal.
-fn fill(d: &[u8], a: usize, k: u32, t: &mut Table, w: usize) -> Chunk
+// The keys of the k names from a on are put in the table: the place after them; none where two of these names are equal.
+fn fill(d: &[u8], a: usize, k: u32, t: &mut Table, w: usize) -> Option<usize>
     requires { (a ≤ length d.now) × (length d.now ≤ 16777216) × (length t.old ≡ 3126) }
     ensures { (length t.new ≡ 3126) × Filled w d.now a k t.new result }
 {
     let mut y = a;
-    let mut n: u32 = 0;
-    while n < k {
+    for n in 0..k {
         let sibling = sibling_at(d, y, w);
         if put(d, y, sibling.nul, a, n, t, w) {
-            return Chunk::Equal;
+            return None;
         }
         y = sibling.next;
-        n += 1;
     }
-    Chunk::Next(y)
+    Some(y)
 }
 
 // Whether none of the k names from b on is among the n from a on, whose keys are in the table.
@@ -106,26 +95,14 @@ fn against(d: &[u8], a: usize, n: u32, b: usize, k: u32, t: &Table, w: usize) ->
     ensures { result ≡ apart (names_of w n (drop a d.now)) (names_of w k (drop b d.now)) }
 {
     let mut y = b;
-    let mut left = k;
-    while 0 < left {
+    for _ in 0..k {
         let sibling = sibling_at(d, y, w);
         if is_known(d, y, sibling.nul, a, n, t, w) {
             return false;
         }
         y = sibling.next;
-        left -= 1;
     }
     true
-}
-
-// The number of names in the next chunk.
-fn chunk_size(left: u32) -> u32
-    ensures { (result ≤ left) × (0 < left → 0 < result) }
-{
-    if left < CHUNK {
-        return left;
-    }
-    CHUNK
 }
 
 // Whether the k names from a on differ.
@@ -136,11 +113,11 @@ pub fn differ(d: &[u8], a: usize, k: u32, t: &mut Table, w: usize) -> bool
     make_seed(d, t);
     let mut x = a;
     let mut left = k;
+    // No count by one: a chunk at a time, and each begins where the one before ended.
     while 0 < left {
-        let n = chunk_size(left);
+        let n = left.min(CHUNK);
         clear(t, 0, KEYS);
-        let filled = fill(d, x, n, t, w);
-        let Chunk::Next(y) = filled else {
+        let Some(y) = fill(d, x, n, t, w) else {
             return false;
         };
         if against(d, x, n, y, left - n, t, w) {

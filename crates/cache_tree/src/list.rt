@@ -4,105 +4,87 @@
 ghost use Rattle.std.specs.Prelude.{◌≡◌, ◌≤◌, ◌<◌, length, drop};
 ghost use Rattle.format.specs.Layout.{ok_node_name, distinct};
 ghost use Rattle.format.specs.Reader.{read_forest};
-ghost use Rattle.cache_tree.specs.Answers.{read_one, tested, distinct_below, list_at, rooted, nodes_in};
+ghost use Rattle.cache_tree.specs.Answers.{read_one, tested, distinct_below, list_at, rooted};
 
 use crate::differ::differ;
 use crate::orders::{Rising, rise};
-use fields::find;
-use tree_nodes::node::{NodeRead, read_node};
+use tree_nodes::node::read_node;
 use tree_table::Table;
 
 // The place after a list and its number of nodes in all.
 #[derive(Clone, Copy)]
-pub enum ListRead {
-    Bad,
-    Good { next: usize, nodes: u32 },
+pub struct Listed {
+    pub next: usize,
+    pub nodes: u32,
 }
 
 // Whether a node below the root may have this name: 1 byte or more, and no "/".
 fn name_ok(name: &[u8]) -> bool
     ensures { result ≡ ok_node_name name.now }
 {
-    if name.len() == 0 {
-        return false;
-    }
-    find(name, 0, 47) == name.len()
+    !name.is_empty() && !name.contains(&b'/')
 }
 
 // A node and its list of subtrees.
-pub(crate) fn with_root(listed: ListRead) -> ListRead
-    requires { nodes_in listed < 4294967295 }
-    ensures { result ≡ rooted listed }
+pub(crate) fn with_root(below: Listed) -> Listed
+    requires { below.nodes < 4294967295 }
+    ensures { result ≡ rooted below }
 {
-    match listed {
-        ListRead::Bad => ListRead::Bad,
-        ListRead::Good { next, nodes } => ListRead::Good {
-            next: next,
-            nodes: nodes + 1,
-        },
+    Listed {
+        nodes: below.nodes + 1,
+        ..below
     }
 }
 
 // The node at a place and all below it, with at most the given number of levels.
 #[cycle(readers)]
-pub fn read_subtree(d: &[u8], at: usize, levels: u32, t: &mut Table, w: usize) -> ListRead
+pub fn read_subtree(d: &[u8], at: usize, levels: u32, t: &mut Table, w: usize) -> Option<Listed>
     requires { (at ≤ length d.now) × (length d.now ≤ 16777216) × (levels ≤ 127) × (length t.old ≡ 3126) }
     ensures { (result ≡ list_at at (tested distinct_below (read_one w levels (drop at d.now)))) × (length t.new ≡ 3126) }
 {
     if levels == 0 {
-        return ListRead::Bad;
+        return None;
     }
-    let read = read_node(d, at, w);
-    match read {
-        NodeRead::Bad => ListRead::Bad,
-        NodeRead::Good(node) => {
-            let nul = node.nul;
-            if name_ok(&d[at..nul]) {
-                let listed = read_list(d, node.next, levels - 1, node.subtrees, t, w);
-                return with_root(listed);
-            }
-            ListRead::Bad
-        }
+    let node = read_node(d, at, w)?;
+    if !name_ok(&d[at..node.nul]) {
+        return None;
     }
+    let below = read_list(d, node.next, levels - 1, node.subtrees, t, w)?;
+    Some(with_root(below))
 }
 
 // k siblings at a place and all below them, with at most the given number of levels. Names that rise in one of two orders differ; others are looked at again.
 #[cycle(readers)]
-pub fn read_list(d: &[u8], at: usize, levels: u32, k: u32, t: &mut Table, w: usize) -> ListRead
+pub fn read_list(
+    d: &[u8],
+    at: usize,
+    levels: u32,
+    k: u32,
+    t: &mut Table,
+    w: usize,
+) -> Option<Listed>
     requires { (at ≤ length d.now) × (length d.now ≤ 16777216) × (levels ≤ 127) × (length t.old ≡ 3126) }
     ensures { (result ≡ list_at at (tested distinct (read_forest w 0 levels k (drop at d.now)))) × (length t.new ≡ 3126) }
 {
     let mut place = at;
     let mut previous = at;
-    let mut left = k;
     let mut nodes: u32 = 0;
     let mut rises = Rising {
         by_slash: true,
         by_length: true,
     };
-    while 0 < left {
-        let read = read_subtree(d, place, levels, t, w);
-        let ListRead::Good { next, nodes: n } = read else {
-            return ListRead::Bad;
-        };
+    for _ in 0..k {
+        let subtree = read_subtree(d, place, levels, t, w)?;
         rises = rise(d, previous, place, rises);
         previous = place;
-        place = next;
-        left -= 1;
-        nodes += n;
+        place = subtree.next;
+        nodes += subtree.nodes;
     }
-    let listed = ListRead::Good {
-        next: place,
-        nodes: nodes,
-    };
-    if rises.by_slash {
-        return listed;
+    if rises.by_slash || rises.by_length || differ(d, at, k, t, w) {
+        return Some(Listed {
+            next: place,
+            nodes: nodes,
+        });
     }
-    if rises.by_length {
-        return listed;
-    }
-    if differ(d, at, k, t, w) {
-        return listed;
-    }
-    ListRead::Bad
+    None
 }

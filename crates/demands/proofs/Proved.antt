@@ -21,8 +21,8 @@ use Rattle.format.specs.Reader.{Contents, read_file}
 use Rattle.answers.specs.declared.Checksum.{Checksum}
 use Rattle.answers.specs.declared.Checksum.TheVariants.{Matches, LeftOut, Wrong}
 use Rattle.answers.specs.declared.Summary.{Summary}
-use Rattle.answers.specs.declared.Checked.{Checked}
-use Rattle.answers.specs.declared.Checked.TheVariants.{Refused, Accepted}
+use Rattle.std.specs.Prelude.{Result, Ok, Err}
+use Rattle.format.specs.Refusals.{Numbered, denied}
 use Rattle.answers.specs.Answers.{too_small, in_room, cleared, holding, work_after, refused, in_workspace, checksum_as, summary_of, checked_of, check_answer, entry_answer, node_answer, undo_answer, pick, listed, items_of, entry_of, node_of, undo_of}
 use Rattle.format_laws.proofs.Tests.{and-inv}
 use Rattle.format_laws.proofs.Numbers.{bytes_take}
@@ -35,12 +35,12 @@ use Rattle.answers.specs.Writing.{rewrite_answer, put_answer, remove_answer}
 
 -- an accepted file has been read
 pub accepted-inv {ℓ} :
-    {X : Type ℓ} (work : List ℕ) (x : Read Contents) (s : Summary) → too_small work ≡ false → check_answer work x ≡ Accepted s →
+    {X : Type ℓ} (work : List ℕ) (x : Read Contents) (s : Summary) → too_small work ≡ false → check_answer work x ≡ Ok s →
     ((c : Contents) (m : ℕ) → x ≡ good c m → X) → X
 unfolding check_answer
 accepted-inv {X = X} work x s room e f = by x (sym (ap checked_of (room-large work x room)) ∙ e) f
   where
-    by : (y : Read Contents) → checked_of y ≡ Accepted s → ((c : Contents) (m : ℕ) → y ≡ good c m → X) → X
+    by : (y : Read Contents) → checked_of y ≡ Ok s → ((c : Contents) (m : ℕ) → y ≡ good c m → X) → X
     by (bad n p) q g = let z : ◌≡◌ {A = ℕ} 0 1 = cc in absurd (omega arith)
     by (good c m) q g = g c m refl
 
@@ -48,7 +48,7 @@ accepted-inv {X = X} work x s room e f = by x (sym (ap checked_of (room-large wo
 
 -- what is refused, with the workspace, is refused by every call
 pub all-refuse : (w : ℕ) (hash : List ℕ → List ℕ) (work : List ℕ) (x : Read Contents) (n p : ℕ) → in_room work x ≡ bad n p →
-    (check_answer work x ≡ Refused n p)
+    (check_answer work x ≡ denied n p)
     × ((k : ℕ) →
     (entry_answer work k x ≡ refused n p)
     × (work_after (entry_answer work k x) work ≡ cleared work)
@@ -136,7 +136,7 @@ module _ (w : ℕ) (hash : List ℕ → List ℕ) (work : List ℕ) (width : (b 
 
   pub file-read : too_small work ≡ false → (c : Contents) (m : ℕ) → Bytes f → x ≡ good c m →
       Spells w hash c.records f
-      × (check_answer work x ≡ Accepted (summary_of c))
+      × (check_answer work x ≡ Ok (summary_of c))
       × ((k : ℕ) →
       (entry_answer work k x ≡ pick (eqb c.version 4) (get_elem? c.records.entries k))
       × (node_answer work k x ≡ listed (items_of c.records.cache_tree) k)
@@ -151,15 +151,15 @@ module _ (w : ℕ) (hash : List ℕ → List ℕ) (work : List ℕ) (width : (b 
       let n : ℕ = length f - w in
       ((sum ≡ Matches) × (drop n f ≡ hash (take n f))) ⊎ ((sum ≡ LeftOut) × (drop n f ≡ replicate w 0) × (eq_list (drop n f) (hash (take n f)) ≡ false))
 
-  pub guarded : too_small work ≡ false → (s : Summary) → Bytes f → check_answer work x ≡ Accepted s → Guarded s.checksum
+  pub guarded : too_small work ≡ false → (s : Summary) → Bytes f → check_answer work x ≡ Ok s → Guarded s.checksum
   guarded room s bytes e =
       accepted-inv work x s room e λ c m q.
       let (_, checked, _) = file-read room c m bytes q in
       rw (ap checksum_said (sym e ∙ checked)) (by c.checksum (checksum-read w hash width f c m bytes (read c m q)))
     where
-      checksum_said : Checked → Checksum
-      checksum_said (Refused n p) = Wrong
-      checksum_said (Accepted s) = s.checksum
+      checksum_said : Result Summary Numbered → Checksum
+      checksum_said (Err x) = Wrong
+      checksum_said (Ok s) = s.checksum
 
       by : (sum : M.Checksum) → Which (hash (take (length f - w) f)) (drop (length f - w) f) w sum → Guarded (checksum_as sum)
       by sum (inl (is, same)) = inl (ap checksum_as is, same)
@@ -169,7 +169,7 @@ module _ (w : ℕ) (hash : List ℕ → List ℕ) (work : List ℕ) (width : (b 
   -- ---- demand 3
 
   module _ (f : List ℕ) (r : Records) (h : Spells w hash r f) where
-    pub checked : check_answer work (read_file w hash f) ≡ Accepted (summary_of (contents_of (spelled_sum h) h.body_is))
+    pub checked : check_answer work (read_file w hash f) ≡ Ok (summary_of (contents_of (spelled_sum h) h.body_is))
     unfolding check_answer
     checked = ap checked_of (room-large work (read_file w hash f) room ∙ spelled-read w hash width r f h)
 
@@ -186,16 +186,16 @@ module _ (w : ℕ) (hash : List ℕ → List ℕ) (work : List ℕ) (width : (b 
     undo-shown k = ap (undo_of k) (room-large work (read_file w hash f) room ∙ spelled-read w hash width r f h)
 
   -- what is accepted is spelled
-  accepted-spelled : (f : List ℕ) (s : Summary) → Bytes f → check_answer work (read_file w hash f) ≡ Accepted s → (r : Records) × Spells w hash r f
+  accepted-spelled : (f : List ℕ) (s : Summary) → Bytes f → check_answer work (read_file w hash f) ≡ Ok s → (r : Records) × Spells w hash r f
   accepted-spelled f s bytes e =
       accepted-inv work (read_file w hash f) s room e λ c m q.
       (c.records, read-spelled w hash width f c m bytes q)
 
-  pub exact : (f : List ℕ) → Bytes f → ((s : Summary) × (check_answer work (read_file w hash f) ≡ Accepted s)) ↔ ((r : Records) × Spells w hash r f)
+  pub exact : (f : List ℕ) → Bytes f → ((s : Summary) × (check_answer work (read_file w hash f) ≡ Ok s)) ↔ ((r : Records) × Spells w hash r f)
   exact f bytes = ((λ a. accepted-spelled f a.0 bytes a.1), (λ p. (_, checked f p.0 p.1)))
 
   -- the two answers for a cut, given that the cut is accepted
-  same_entries : (f : List ℕ) (c : ℕ) (s t : Summary) → Bytes f → check_answer work (read_file w hash f) ≡ Accepted s → check_answer work (read_file w hash (take c f)) ≡ Accepted t
+  same_entries : (f : List ℕ) (c : ℕ) (s t : Summary) → Bytes f → check_answer work (read_file w hash f) ≡ Ok s → check_answer work (read_file w hash (take c f)) ≡ Ok t
       → (t.entries ≡ s.entries) × ((k : ℕ) → entry_answer work k (read_file w hash (take c f)) ≡ entry_answer work k (read_file w hash f))
   same_entries f c s t bytes e d =
       let (r, h) = accepted-spelled f s bytes e in
@@ -203,27 +203,27 @@ module _ (w : ℕ) (hash : List ℕ → List ℕ) (work : List ℕ) (width : (b 
       let both = cut w hash r q f c h k in
       let version : h.body_is.version ≡ k.body_is.version = both.0 in
       let same : r.entries ≡ q.entries = both.1 in
-      let s-is : Accepted s ≡ Accepted (summary_of (contents_of (spelled_sum h) h.body_is)) = sym e ∙ checked f r h in
-      let t-is : Accepted t ≡ Accepted (summary_of (contents_of (spelled_sum k) k.body_is)) = sym d ∙ checked (take c f) q k in
+      let s-is : Ok s ≡ Ok (summary_of (contents_of (spelled_sum h) h.body_is)) = sym e ∙ checked f r h in
+      let t-is : Ok t ≡ Ok (summary_of (contents_of (spelled_sum k) k.body_is)) = sym d ∙ checked (take c f) q k in
       let s-count : s.entries ≡ length r.entries = ap entries_of s-is in
       let t-count : t.entries ≡ length q.entries = ap entries_of t-is in (
         t-count ∙ ap length (sym same) ∙ sym s-count,
         λ i. entry-shown (take c f) q k i ∙ rw (← version, ← same) (sym (entry-shown f r h i)),
       )
     where
-      entries_of : Checked → ℕ
-      entries_of (Refused n p) = 0
-      entries_of (Accepted s) = s.entries
+      entries_of : Result Summary Numbered → ℕ
+      entries_of (Err x) = 0
+      entries_of (Ok s) = s.entries
 
-  pub cut-rule : (f : List ℕ) (c : ℕ) (s : Summary) → Bytes f → check_answer work (read_file w hash f) ≡ Accepted s
-      → ((n p : ℕ) × (check_answer work (read_file w hash (take c f)) ≡ Refused n p))
-      ⊎ ((t : Summary) × (check_answer work (read_file w hash (take c f)) ≡ Accepted t) × (t.entries ≡ s.entries)
+  pub cut-rule : (f : List ℕ) (c : ℕ) (s : Summary) → Bytes f → check_answer work (read_file w hash f) ≡ Ok s
+      → ((n p : ℕ) × (check_answer work (read_file w hash (take c f)) ≡ denied n p))
+      ⊎ ((t : Summary) × (check_answer work (read_file w hash (take c f)) ≡ Ok t) × (t.entries ≡ s.entries)
       × ((k : ℕ) → k < s.entries → entry_answer work k (read_file w hash (take c f)) ≡ entry_answer work k (read_file w hash f)))
   cut-rule f c s bytes e = go (check_answer work (read_file w hash (take c f))) refl
     where
-      go : (a : Checked) → check_answer work (read_file w hash (take c f)) ≡ a
-          → ((n p : ℕ) × (check_answer work (read_file w hash (take c f)) ≡ Refused n p))
-          ⊎ ((t : Summary) × (check_answer work (read_file w hash (take c f)) ≡ Accepted t) × (t.entries ≡ s.entries)
+      go : (a : Result Summary Numbered) → check_answer work (read_file w hash (take c f)) ≡ a
+          → ((n p : ℕ) × (check_answer work (read_file w hash (take c f)) ≡ denied n p))
+          ⊎ ((t : Summary) × (check_answer work (read_file w hash (take c f)) ≡ Ok t) × (t.entries ≡ s.entries)
           × ((k : ℕ) → k < s.entries → entry_answer work k (read_file w hash (take c f)) ≡ entry_answer work k (read_file w hash f)))
-      go (Refused n p) d = inl (n, p, d)
-      go (Accepted t) d = let (count, shown) = same_entries f c s t bytes e d in inr (t, d, count, λ k _. shown k)
+      go (Err x) d = inl (x.number, x.place, d)
+      go (Ok t) d = let (count, shown) = same_entries f c s t bytes e d in inr (t, d, count, λ k _. shown k)

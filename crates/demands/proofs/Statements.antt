@@ -23,8 +23,8 @@ use Rattle.writing.specs.OneFile.{WritesBack}
 use Rattle.kinds.specs.Kinds.{ok_kind, width_of, hash_of, read_kind}
 use Rattle.answers.specs.declared.Checksum.TheVariants.{Matches, LeftOut}
 use Rattle.answers.specs.declared.Summary.{Summary}
-use Rattle.answers.specs.declared.Checked.{Checked}
-use Rattle.answers.specs.declared.Checked.TheVariants.{Refused, Accepted}
+use Rattle.std.specs.Prelude.{Result, Ok}
+use Rattle.format.specs.Refusals.{Numbered, denied}
 use Rattle.answers.specs.Answers.{too_small, cleared, work_after, tree_count, undo_count, checksum_as, summary_of, check_answer, entry_answer, node_answer, undo_answer, View, refused, in_workspace, pick, listed, items_of}
 use Rattle.answers.specs.Writing.{rewrite_answer, put_answer, remove_answer, output_after}
 
@@ -36,7 +36,7 @@ module _ (kind : ℕ) (work : List ℕ) where
   abbrev hash : List ℕ → List ℕ
   hash = hash_of kind
 
-  abbrev pub check : List ℕ → Checked
+  abbrev pub check : List ℕ → Result Summary Numbered
   check f = check_answer work (read_kind kind f)
 
   abbrev pub entry : ℕ → List ℕ → View Entry
@@ -63,14 +63,14 @@ module _ (kind : ℕ) (work : List ℕ) where
     -- on 19 nothing is written
     pub small :
         too_small work ≡ true → (f : List ℕ) →
-        (check f ≡ Refused 19 0)
+        (check f ≡ denied 19 0)
         × (cleared work ≡ work)
         × ((k : ℕ) → (entry k f ≡ refused 19 0) × (work_after (entry k f) work ≡ work) × (node k f ≡ refused 19 0) × (undo k f ≡ refused 19 0))
         × ((asked room : ℕ) (e : Entry) (k : Key) → (rewrite asked room f ≡ bad 19 0) × (put asked e room f ≡ bad 19 0) × (remove asked k room f ≡ bad 19 0))
     -- an unknown kind is refused with 29, after 19 and whatever the file, and clears the workspace
     pub unknown :
         too_small work ≡ false → ok_kind kind ≡ false → (f : List ℕ) →
-        (check f ≡ Refused 29 0)
+        (check f ≡ denied 29 0)
         × ((k : ℕ) → (entry k f ≡ refused 29 0) × (work_after (entry k f) work ≡ cleared work) × (node k f ≡ refused 29 0) × (undo k f ≡ refused 29 0))
         × ((asked room : ℕ) (e : Entry) (k : Key) → (rewrite asked room f ≡ bad 29 0) × (put asked e room f ≡ bad 29 0) × (remove asked k room f ≡ bad 29 0))
     -- on every answer but 19 the first 8,192 bytes are zero, and what is past them is never touched
@@ -91,20 +91,20 @@ module _ (kind : ℕ) (work : List ℕ) where
   pub record Demand2 : Type 0 where
     pub refusals :
         (f : List ℕ) (n p : ℕ) → read_kind kind f ≡ bad n p →
-        (check f ≡ Refused n p)
+        (check f ≡ denied n p)
         × ((k : ℕ) → (entry k f ≡ refused n p) × (node k f ≡ refused n p) × (undo k f ≡ refused n p))
         × ((asked room : ℕ) (e : Entry) (k : Key) → (rewrite asked room f ≡ bad n p) × (put asked e room f ≡ bad n p) × (remove asked k room f ≡ bad n p))
     pub records :
         (f : List ℕ) (c : Contents) (m : ℕ) → Bytes f → read_kind kind f ≡ good c m →
         Spells w hash c.records f
-        × (check f ≡ Accepted (summary_of c))
+        × (check f ≡ Ok (summary_of c))
         × ((k : ℕ) →
         (entry k f ≡ pick (eqb c.version 4) (get_elem? c.records.entries k))
         × (node k f ≡ listed (items_of c.records.cache_tree) k)
         × (undo k f ≡ listed c.records.resolve_undo k))
     -- check says which: the last bytes are the hash of all before, or else zeros
     pub guarded :
-        (f : List ℕ) (s : Summary) → Bytes f → check f ≡ Accepted s → let n : ℕ = length f - w in
+        (f : List ℕ) (s : Summary) → Bytes f → check f ≡ Ok s → let n : ℕ = length f - w in
         ((s.checksum ≡ Matches) × (drop n f ≡ hash (take n f)))
         ⊎ ((s.checksum ≡ LeftOut) × (drop n f ≡ replicate w 0) × (eq_list (drop n f) (hash (take n f)) ≡ false))
     -- what is written is the one file that document 01 names, with the smallest N at each entry, and reading it gives the same records: WritesBack
@@ -140,14 +140,14 @@ module _ (kind : ℕ) (work : List ℕ) where
   -- With the workspace that document 01 asks for. Of an unknown kind no file is accepted, so what says that one is asks for a known kind:
   pub record Demand3 : Type 0 where
     -- a file of a known kind is accepted exactly when some set of records spells it
-    pub exact : ok_kind kind ≡ true → (f : List ℕ) → Bytes f → ((s : Summary) × (check f ≡ Accepted s)) ↔ ((r : Records) × Spells w hash r f)
+    pub exact : ok_kind kind ≡ true → (f : List ℕ) → Bytes f → ((s : Summary) × (check f ≡ Ok s)) ↔ ((r : Records) × Spells w hash r f)
     -- no file is spelled by two different sets
     pub one : (f : List ℕ) (r q : Records) → Spells w hash r f → Spells w hash q f → r ≡ q
     -- check's counts are those of the set that spells it; the version, the byte where entries end and the checksum are those of the spelling
     pub counts :
         ok_kind kind ≡ true → (f : List ℕ) (r : Records) (h : Spells w hash r f) →
         check f
-        ≡ Accepted
+        ≡ Ok
         (record {
           version = h.body_is.version;
           entries = length r.entries;
@@ -164,9 +164,9 @@ module _ (kind : ℕ) (work : List ℕ) where
     -- whichever shorter length an accepted file is cut to, check refuses it, or accepts it with the same entry count, and then entry k of both
     -- is equal in every field
     pub cuts :
-        (f : List ℕ) (c : ℕ) (s : Summary) → Bytes f → c < length f → check f ≡ Accepted s →
-        ((n p : ℕ) × (check (take c f) ≡ Refused n p))
-        ⊎ ((t : Summary) × (check (take c f) ≡ Accepted t) × (t.entries ≡ s.entries) × ((k : ℕ) → k < s.entries → entry k (take c f) ≡ entry k f))
+        (f : List ℕ) (c : ℕ) (s : Summary) → Bytes f → c < length f → check f ≡ Ok s →
+        ((n p : ℕ) × (check (take c f) ≡ denied n p))
+        ⊎ ((t : Summary) × (check (take c f) ≡ Ok t) × (t.entries ≡ s.entries) × ((k : ℕ) → k < s.entries → entry k (take c f) ≡ entry k f))
 
   -- Of the files f and g entry k shows whole and read, and they differ, as Lost says: k is the last, and nothing is between it and the checksum.
   -- previous is the key of the entry before it, that of the empty name where there is none
@@ -187,13 +187,13 @@ module _ (kind : ℕ) (work : List ℕ) where
   -- last, of which LastLost says what can be lost
   abbrev pub ZeroedTails : Type 0
   ZeroedTails =
-      (f : List ℕ) (c : ℕ) (s : Summary) → Bytes f → check f ≡ Accepted s → let g : List ℕ = zeroed_from c f in
-      ((n p : ℕ) × (check g ≡ Refused n p))
-      ⊎ ((t : Summary) × (check g ≡ Accepted t) × (t.version ≡ s.version) × (t.entries ≡ s.entries)
+      (f : List ℕ) (c : ℕ) (s : Summary) → Bytes f → check f ≡ Ok s → let g : List ℕ = zeroed_from c f in
+      ((n p : ℕ) × (check g ≡ denied n p))
+      ⊎ ((t : Summary) × (check g ≡ Ok t) × (t.version ≡ s.version) × (t.entries ≡ s.entries)
       × ((k : ℕ) → k < s.entries → (entry k g ≡ entry k f) ⊎ LastLost f g s k))
 
   -- Beside demand 3, since a path is merged or in conflict: no two entries of an accepted file are stage 0 and another stage of one name
   abbrev pub NoneMixed : Type 0
   NoneMixed =
-      (f : List ℕ) (s : Summary) (j k : ℕ) (x y : Entry) → Bytes f → check f ≡ Accepted s →
+      (f : List ℕ) (s : Summary) (j k : ℕ) (x y : Entry) → Bytes f → check f ≡ Ok s →
       entry j f ≡ pick (eqb s.version 4) (some x) → entry k f ≡ pick (eqb s.version 4) (some y) → mixes (key_of x) (key_of y) ≡ false

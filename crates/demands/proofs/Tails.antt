@@ -14,8 +14,8 @@ use Rattle.format.specs.Layout.{Spells}
 use Rattle.format.specs.Tails.{zeroed_from, Lost}
 use Rattle.format_laws.proofs.Readings.{none-some}
 use Rattle.answers.specs.declared.Summary.{Summary}
-use Rattle.answers.specs.declared.Checked.{Checked}
-use Rattle.answers.specs.declared.Checked.TheVariants.{Refused, Accepted}
+use Rattle.std.specs.Prelude.{Result, Ok, Err}
+use Rattle.format.specs.Refusals.{Numbered, denied}
 use Rattle.answers.specs.Answers.{too_small, summary_of, pick}
 use Rattle.kinds.specs.Kinds.{ok_kind, width_of, hash_of, read_kind}
 use Rattle.kinds.proofs.Laws.{length-hash, file-known}
@@ -70,12 +70,12 @@ module _ (kind : ℕ) (work : List ℕ) (demand : Demand3 kind work) (known : ok
   hash = hash_of kind
 
   -- what check says of a spelled file
-  pub says : (f : List ℕ) (s : Summary) (r : Records) (h : Spells w hash r f) → check kind work f ≡ Accepted s → s ≡ summary_of (contents_of (spelled_sum h) h.body_is)
+  pub says : (f : List ℕ) (s : Summary) (r : Records) (h : Spells w hash r f) → check kind work f ≡ Ok s → s ≡ summary_of (contents_of (spelled_sum h) h.body_is)
   says f s r h e = ap said (sym e ∙ demand.counts known f r h)
     where
-      said : Checked → Summary
-      said (Refused n p) = s
-      said (Accepted t) = t
+      said : Result Summary Numbered → Summary
+      said (Err x) = s
+      said (Ok t) = t
 
   module _ (f : List ℕ) (c : ℕ) (bytes : Bytes f) (r q : Records) (h : Spells w hash r f) (k : Spells w hash q (zeroed_from c f)) where
     abbrev g : List ℕ
@@ -130,12 +130,12 @@ zeroed-tails kind work room demand f c s bytes e =
     g : List ℕ
     g = zeroed_from c f
 
-    go : ok_kind kind ≡ true → (r : Records) → Spells (width_of kind) (hash_of kind) r f → (a : Checked) → check kind work g ≡ a
-        → ((n p : ℕ) × (check kind work g ≡ Refused n p))
-        ⊎ ((t : Summary) × (check kind work g ≡ Accepted t) × (t.version ≡ s.version) × (t.entries ≡ s.entries)
+    go : ok_kind kind ≡ true → (r : Records) → Spells (width_of kind) (hash_of kind) r f → (a : Result Summary Numbered) → check kind work g ≡ a
+        → ((n p : ℕ) × (check kind work g ≡ denied n p))
+        ⊎ ((t : Summary) × (check kind work g ≡ Ok t) × (t.version ≡ s.version) × (t.entries ≡ s.entries)
         × ((k : ℕ) → k < s.entries → (entry kind work k g ≡ entry kind work k f) ⊎ LastLost kind work f g s k))
-    go known r h (Refused n p) a = inl (n, p, a)
-    go known r h (Accepted t) a =
+    go known r h (Err x) a = inl (x.number, x.place, a)
+    go known r h (Ok t) a =
         let (q, k) = (demand.exact known g (zeroed-bytes c f bytes)).0 (t, a) in
         let whole = says kind work demand known f s r h e in
         let left = says kind work demand known g t q k a in

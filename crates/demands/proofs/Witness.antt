@@ -20,8 +20,9 @@ use Rattle.kinds.specs.Kinds.{width_of, hash_of, read_kind}
 use Rattle.kinds.proofs.Laws.{sha1-known, known-file}
 use Rattle.answers.specs.declared.Checksum.TheVariants.{Matches}
 use Rattle.answers.specs.declared.Summary.{Summary}
-use Rattle.answers.specs.declared.Count.TheVariants.{Absent, Present}
-use Rattle.answers.specs.declared.Checked.TheVariants.{Refused, Accepted}
+use Rattle.std.specs.Prelude.{Some, None}
+use Rattle.std.specs.Prelude.{Ok}
+use Rattle.format.specs.Refusals.{denied}
 use Rattle.answers.specs.Answers.{check_answer, node_answer, undo_answer, in_file, in_workspace}
 use Rattle.answers.specs.Writing.{put_answer, remove_answer}
 use Rattle.demands.proofs.Statements.{check, entry, node, undo, rewrite, put, remove}
@@ -39,13 +40,13 @@ file-bytes = all-below file refl
 
 -- one entry, which ends at byte 76
 summary : Summary
-summary = record { version = 2; entries = 1; end = 76; nodes = Absent; records = Absent; checksum = Matches }
+summary = record { version = 2; entries = 1; end = 76; nodes = None; records = None; checksum = Matches }
 
-whole-accepted : check 1 work file ≡ Accepted summary
+whole-accepted : check 1 work file ≡ Ok summary
 unfolding closed file summary
 whole-accepted = refl
 
-cut-accepted : check 1 work (take 96 file) ≡ Accepted summary
+cut-accepted : check 1 work (take 96 file) ≡ Ok summary
 unfolding closed file summary
 cut-accepted = refl
 
@@ -53,7 +54,7 @@ cut-accepted = refl
 spelled : (r : Records) × Spells (width_of 1) (hash_of 1) r file
 spelled = ((demand3 1 work room).exact sha1-known file file-bytes).0 (summary, whole-accepted)
 
-cut-refused : check 1 work (take 95 file) ≡ Refused 5 75
+cut-refused : check 1 work (take 95 file) ≡ denied 5 75
 unfolding closed file
 cut-refused = refl
 
@@ -115,7 +116,7 @@ full-by-no-other r h = (demand3 1 work room).one full r records h full-spelled
 
 -- two nodes and one record; node 1, record 0
 full-shown :
-    (check 1 work full ≡ Accepted (record { version = 2; entries = 3; end = 228; nodes = Present 2; records = Present 1; checksum = Matches }))
+    (check 1 work full ≡ Ok (record { version = 2; entries = 3; end = 228; nodes = Some 2; records = Some 1; checksum = Matches }))
     × (node 1 work 1 full ≡ in_file (record { node = node_a; level = 2; subtrees = 0 }))
     × (undo 1 work 0 full ≡ in_file (plan 20))
 unfolding closed

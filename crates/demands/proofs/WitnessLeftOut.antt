@@ -22,9 +22,10 @@ use Rattle.format.specs.Requests.{any_word}
 use Rattle.format.specs.Tails.{zeroed_from}
 use Rattle.kinds.specs.Kinds.{width_of}
 use Rattle.kinds.proofs.Laws.{sha1-known}
-use Rattle.answers.specs.declared.Count.TheVariants.{Absent, Present}
+use Rattle.std.specs.Prelude.{Some, None}
 use Rattle.answers.specs.declared.Checksum.TheVariants.{LeftOut}
-use Rattle.answers.specs.declared.Checked.TheVariants.{Refused, Accepted}
+use Rattle.std.specs.Prelude.{Ok}
+use Rattle.format.specs.Refusals.{denied}
 use Rattle.answers.specs.Answers.{in_file, in_workspace, pick}
 use Rattle.format_laws.proofs.Tests.{and-inv, and-inv₃}
 use Rattle.format_laws.proofs.Readings.{good-inv, none-some}
@@ -40,21 +41,21 @@ use Rattle.demands.proofs.WitnessSha256.{full}
 -- ---- left out, wrong, written again
 
 -- the first 76 bytes of the file of Witness, with zeros for the checksum
-accepted : check 1 work (take 76 file ++ replicate 20 0) ≡ Accepted (record { version = 2; entries = 1; end = 76; nodes = Absent; records = Absent; checksum = LeftOut })
+accepted : check 1 work (take 76 file ++ replicate 20 0) ≡ Ok (record { version = 2; entries = 1; end = 76; nodes = None; records = None; checksum = LeftOut })
 unfolding closed file
 accepted = refl
 
 -- nineteen zeros are not enough, wherever the other byte is
 changed :
-    (check 1 work (take 76 file ++ (replicate 19 0 ++ (1 ∷ []))) ≡ Refused 5 76)
-    × (check 1 work (take 76 file ++ (1 ∷ replicate 19 0)) ≡ Refused 5 76)
+    (check 1 work (take 76 file ++ (replicate 19 0 ++ (1 ∷ []))) ≡ denied 5 76)
+    × (check 1 work (take 76 file ++ (1 ∷ replicate 19 0)) ≡ denied 5 76)
 unfolding closed file
 changed = (refl, refl)
 
 -- of SHA-256 there are thirty-two zeros; twenty are not enough
 accepted-sha256 :
-    (check 2 work (take 230 full ++ replicate 32 0) ≡ Accepted (record { version = 2; entries = 1; end = 92; nodes = Present 1; records = Present 1; checksum = LeftOut }))
-    × (check 2 work (take 230 full ++ (replicate 12 1 ++ replicate 20 0)) ≡ Refused 5 230)
+    (check 2 work (take 230 full ++ replicate 32 0) ≡ Ok (record { version = 2; entries = 1; end = 92; nodes = Some 1; records = Some 1; checksum = LeftOut }))
+    × (check 2 work (take 230 full ++ (replicate 12 1 ++ replicate 20 0)) ≡ denied 5 230)
 unfolding closed full
 accepted-sha256 = (refl, refl)
 

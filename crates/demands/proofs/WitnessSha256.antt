@@ -16,8 +16,9 @@ use Rattle.format.proofs.Cases.{a-b, a/b}
 use Rattle.kinds.specs.Kinds.{ok_kind, width_of, hash_of, read_kind}
 use Rattle.kinds.proofs.Laws.{sha256-known, known-file}
 use Rattle.answers.specs.declared.Checksum.TheVariants.{Matches}
-use Rattle.answers.specs.declared.Count.TheVariants.{Present}
-use Rattle.answers.specs.declared.Checked.TheVariants.{Refused, Accepted}
+use Rattle.std.specs.Prelude.{Some}
+use Rattle.std.specs.Prelude.{Ok}
+use Rattle.format.specs.Refusals.{denied}
 use Rattle.answers.specs.Answers.{too_small, check_answer, entry_answer, node_answer, undo_answer, in_file}
 use Rattle.answers.specs.Writing.{put_answer}
 use Rattle.demands.proofs.Statements.{check, entry, node, undo, put}
@@ -57,7 +58,7 @@ full-by-no-other r h = (demand3 2 work room).one full r records h full-spelled
 
 -- accepted, and its entry, its node and its record shown
 full-shown :
-    (check 2 work full ≡ Accepted (record { version = 2; entries = 1; end = 92; nodes = Present 1; records = Present 1; checksum = Matches }))
+    (check 2 work full ≡ Ok (record { version = 2; entries = 1; end = 92; nodes = Some 1; records = Some 1; checksum = Matches }))
     × (entry 2 work 0 full ≡ in_file (plain_entry 32 17 a-b))
     × (node 2 work 0 full ≡ in_file (record { node = root; level = 1; subtrees = 0 }))
     × (undo 2 work 0 full ≡ in_file (plan 32))
@@ -80,15 +81,15 @@ put-spelled = (((demand2 2 work room).put_in full 1 311 (plain_entry 32 34 a/b) 
 -- ---- the wrong kind
 
 -- the file of SHA-256 as one of SHA-1, and the other way round: the checksum is not that of the kind
-given-as-sha1 : check 1 work full ≡ Refused 5 242
+given-as-sha1 : check 1 work full ≡ denied 5 242
 unfolding closed full
 given-as-sha1 = refl
 
-given-as-sha256 : check 2 work file ≡ Refused 5 166
+given-as-sha256 : check 2 work file ≡ denied 5 166
 unfolding closed file
 given-as-sha256 = refl
 
 -- kinds 0 and 3, whatever the file, and 19 before 29
-unknown-refused : (f : List ℕ) → (check 0 work f ≡ Refused 29 0) × (check 3 work f ≡ Refused 29 0) × (check 3 [] f ≡ Refused 19 0)
+unknown-refused : (f : List ℕ) → (check 0 work f ≡ denied 29 0) × (check 3 work f ≡ denied 29 0) × (check 3 [] f ≡ denied 19 0)
 unfolding ok_kind too_small
 unknown-refused f = (((demand1 0 work).unknown room refl f).0, ((demand1 3 work).unknown room refl f).0, ((demand1 3 []).small refl f).0)

@@ -10,9 +10,10 @@ use Rattle.format.specs.Checksum.{left_out}
 use Rattle.format.specs.Reading.{bad, good}
 use Rattle.format.specs.Reader.{Contents}
 use Rattle.kinds.specs.Kinds.{width_of, hash_of, read_kind}
-use Rattle.answers.specs.declared.Count.TheVariants.{Absent}
+use Rattle.std.specs.Prelude.{None}
 use Rattle.answers.specs.declared.Checksum.TheVariants.{LeftOut}
-use Rattle.answers.specs.declared.Checked.TheVariants.{Refused, Accepted}
+use Rattle.std.specs.Prelude.{Ok}
+use Rattle.format.specs.Refusals.{denied}
 use Rattle.answers.specs.Answers.{check_answer, entry_answer, in_file}
 use Rattle.answers.specs.Writing.{put_answer}
 use Rattle.demands.proofs.Statements.{check, entry, put}
@@ -41,7 +42,7 @@ conflict-read : read_kind 1 (sides 1) ≡ good conflict 140
 unfolding closed sides
 conflict-read = refl
 
-accepted : check 1 work (sides 1) ≡ Accepted (record { version = 2; entries = 2; end = 140; nodes = Absent; records = Absent; checksum = LeftOut })
+accepted : check 1 work (sides 1) ≡ Ok (record { version = 2; entries = 2; end = 140; nodes = None; records = None; checksum = LeftOut })
 unfolding closed
 accepted = ap (check_answer work) conflict-read
 
@@ -64,6 +65,6 @@ mixed-read : read_kind 1 (sides 0) ≡ bad 11 76
 unfolding closed sides
 mixed-read = refl
 
-refused : check 1 work (sides 0) ≡ Refused 11 76
+refused : check 1 work (sides 0) ≡ denied 11 76
 unfolding closed
 refused = ap (check_answer work) mixed-read

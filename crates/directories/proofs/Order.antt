@@ -7,8 +7,8 @@ use native.Mathlib.Omega.{arith}
 use lib.ListN.{length}
 use lib.Dec.{eqb, ltb, leb, leb-zero, leb-suc-zero, leb-suc-suc}
 use borrow.Author.Tests.{ltb-true, ltb-false, eq-eqb, not-true}
-use Rattle.format.specs.declared.Order.{Order}
-use Rattle.format.specs.declared.Order.TheVariants.{Below, Same, Above}
+use Rattle.std.specs.declared.cmp.Ordering.{Ordering}
+use Rattle.std.proofs.Common.{Less, Equal, Greater}
 use Rattle.format.specs.Names.{compare, common}
 use Rattle.format.specs.Layout.{under}
 use Rattle.format_laws.proofs.Tests.{false-true, clash, by-test, and-inv, eqb_swap, head-inv}
@@ -18,7 +18,7 @@ use Rattle.directories.specs.Names.{not_above, sorted_from, begins, trails, neve
 -- ---- the order of names
 
 -- the first bytes decide, or are the same
-order-inv {ℓ} : {X : Type ℓ} (x y : ℕ) (o : Order) → not_above (cond (ltb x y) Below (cond (ltb y x) Above o)) ≡ true
+order-inv {ℓ} : {X : Type ℓ} (x y : ℕ) (o : Ordering) → not_above (cond (ltb x y) Less (cond (ltb y x) Greater o)) ≡ true
     → (x < y → X) → (x ≡ y → not_above o ≡ true → X) → X
 order-inv x y o e less same =
     by-test (ltb x y)
@@ -28,14 +28,14 @@ order-inv x y o e less same =
     (λ q. false-true (rw (p, q) at e))
     (λ q. same (omega (arith, ltb-false x y p, ltb-false y x q)) (rw (p, q) at e)))
 
-not-above : (o : Order) → not_above o ≡ true → o ≡ Above → ⊥
+not-above : (o : Ordering) → not_above o ≡ true → o ≡ Greater → ⊥
 not-above o h e = clash h (ap not_above e)
 
-through-most : (o p : Order) → not_above p ≡ true → not_above (through o p) ≡ true
+through-most : (o p : Ordering) → not_above p ≡ true → not_above (through o p) ≡ true
 unfolding through
-through-most Below p h = refl
-through-most Same p h = h
-through-most Above p h = h
+through-most Less p h = refl
+through-most Equal p h = h
+through-most Greater p h = h
 
 order_trans : (s t u : List ℕ) → not_above (compare s t) ≡ true → not_above (compare t u) ≡ true → not_above (compare s u) ≡ true
 order_trans s t u h k =

@@ -6,8 +6,8 @@ use Prim.Native.Nat.{ℕ}
 use lib.ListN.{length, take, drop}
 use lib.Dec.{eqb}
 use borrow.Author.Tests.{eq-eqb}
-use Rattle.format.specs.declared.Order.{Order}
-use Rattle.format.specs.declared.Order.TheVariants.{Below, Same, Above}
+use Rattle.std.specs.declared.cmp.Ordering.{Ordering}
+use Rattle.std.proofs.Common.{Less, Equal, Greater}
 use Rattle.format.specs.Bytes.{before, lacks}
 use Rattle.format.specs.Names.{compare, rises}
 use Rattle.format.specs.Records.{Entry, Key}
@@ -60,10 +60,10 @@ first-least [] = refl
 first-least (x ∷ s) = refl
 
 -- those of entries rise
-rises-most : (o : Order) (s t : ℕ) → rises o s t ≡ true → not_above o ≡ true
-rises-most Below s t h = refl
-rises-most Same s t h = refl
-rises-most Above s t h = false-true h
+rises-most : (o : Ordering) (s t : ℕ) → rises o s t ≡ true → not_above o ≡ true
+rises-most Less s t h = refl
+rises-most Equal s t h = refl
+rises-most Greater s t h = false-true h
 
 pub entries_sorted : {w v : ℕ} {k : Key} {es : List Entry} {b : List ℕ} → Entries w v k es b → sorted_from k.name (names es) ≡ true
 unfolding sorted_from names

@@ -1,13 +1,13 @@
 -- Names in order, and those of them that are in one directory.
 use Rattle.std.specs.Prelude.{List, [], ◌∷◌, ◌++◌, map, Bool, true, false, cond, not, ◌&&◌, ℕ, length, drop, eqb}
-use Rattle.format.specs.declared.Order.{Order}
-use Rattle.format.specs.declared.Order.TheVariants.{Below, Same, Above}
+use Rattle.std.specs.declared.cmp.Ordering.{Ordering}
+use Rattle.std.specs.declared.cmp.Ordering.TheVariants.{Less, Equal, Greater}
 use Rattle.format.specs.Names.{compare}
 
-abbrev pub not_above : Order → Bool
-not_above Below = true
-not_above Same = true
-not_above Above = false
+abbrev pub not_above : Ordering → Bool
+not_above Less = true
+not_above Equal = true
+not_above Greater = false
 
 -- each name is the same as the one before or above it; the first is held to p
 unfoldable pub sorted_from : List ℕ → List (List ℕ) → Bool

@@ -7,7 +7,9 @@ use native.Mathlib.Omega.{arith}
 use lib.ListN.{length, drop}
 use lib.Dec.{eqb, leb}
 use borrow.Author.Tests.{eq-eqb, ne_eqb}
+use Rattle.std.specs.Prelude.{Result, Ok, Err}
 use Rattle.format.specs.Bytes.{be16, be32}
+use Rattle.format.specs.declared.Refusal.TheVariants as R
 use Rattle.format.specs.Records.{Entry, Key}
 use Rattle.format.specs.Layout.{ok_mode, fixed_length}
 use Rattle.format.specs.Reading.{Read, bad, good, need, shift, bind}
@@ -16,8 +18,6 @@ use Rattle.format_laws.proofs.Numbers.{be16-drop, be32-drop}
 use Rattle.format_laws.proofs.Tests.{clash, cond-inv}
 use Rattle.format_laws.proofs.Readings.{good-inv, need-inv, bind_inv, bind-need, bind-cond}
 use Rattle.entries.specs.declared.Head.{Head}
-use Rattle.entries.specs.declared.Fixed.{Fixed}
-use Rattle.entries.specs.declared.Fixed.TheVariants as F
 use Rattle.entries.specs.Answers.{read_head, fixed_of, Size, HeadPassed}
 use Rattle.entries.proofs.Reading.{AnswerKept, kept-need, kept-cond, SameAnswer, alike-need, alike-cond, enough, cut}
 
@@ -27,9 +27,9 @@ pub read_entry-head : (w v : ℕ) (k : Key) (p : ℕ) (s : List ℕ)
 unfolding read_entry read_fixed read_head bind
 read_entry-head w v k p s = simp (bind-need, bind-cond, bind)
 
-head_read : ℕ → Fixed → Read Head
-head_read p (F.Bad n) = bad n p
-head_read p (F.Good h) = good h h.length
+head_read : ℕ → Result Head ℕ → Read Head
+head_read p (Err n) = bad n p
+head_read p (Ok h) = good h h.length
 
 head-bad : (n p : ℕ) → AnswerKept fixed_of (head_read p) (bad n p)
 unfolding fixed_of head_read
@@ -48,27 +48,27 @@ head-kept w v p s =
     (kept-cond (is_set 16384 (be16 s (40 + w))) (kept-need _ (head-bad 6 p) (kept-need _ (head-bad 8 p) (head-good p _))) (head-good p _))))
 
 module _ (w v : ℕ) (k : Key) (p : ℕ) (s : List ℕ) where
-  pub read_entry-bad : (n : ℕ) → fixed_of (read_head w v p s) ≡ F.Bad n → read_entry w v k p s ≡ bad n p
+  pub read_entry-bad : (n : ℕ) → fixed_of (read_head w v p s) ≡ Err n → read_entry w v k p s ≡ bad n p
   unfolding head_read bind
   read_entry-bad n e = rw (read_entry-head w v k p s, (head-kept w v p s).same, e)
 
-  pub read_entry-good : (h : Head) → fixed_of (read_head w v p s) ≡ F.Good h
+  pub read_entry-good : (h : Head) → fixed_of (read_head w v p s) ≡ Ok h
       → read_entry w v k p s ≡ shift h.length (read_tail w v k p h.length h.flags h.word s)
   unfolding head_read bind
   read_entry-good h e = rw (read_entry-head w v k p s, (head-kept w v p s).same, e)
 
   -- what is before the name of an entry that was read
-  pub entry-head : {X : Type 0} (e : Entry) (m : ℕ) → read_entry w v k p s ≡ good e m → ((h : Head) → fixed_of (read_head w v p s) ≡ F.Good h → X) → X
+  pub entry-head : {X : Type 0} (e : Entry) (m : ℕ) → read_entry w v k p s ≡ good e m → ((h : Head) → fixed_of (read_head w v p s) ≡ Ok h → X) → X
   unfolding fixed_of
   entry-head e m q f = bind_inv _ _ _ _ (sym (read_entry-head w v k p s) ∙ q) (λ h i j is rest sum. f h (ap fixed_of is))
 
-fixed-inv : {X : Type 0} (r : Read Head) (h : Head) → fixed_of r ≡ F.Good h → ((m : ℕ) → r ≡ good h m → X) → X
+fixed-inv : {X : Type 0} (r : Read Head) (h : Head) → fixed_of r ≡ Ok h → ((m : ℕ) → r ≡ good h m → X) → X
 unfolding fixed_of
-fixed-inv (bad n p) h e f = let z : ◌≡◌ {A = ℕ} 0 1 = cc in absurd (omega arith)
+fixed-inv (bad n p) h e f = absurd (cc)
 fixed-inv (good g m) h e f = f m (ap (λ (x : Head). good x m) (cc))
 
 -- what it is, with the extended word and without
-head-inv : {X : Type 0} (w v p : ℕ) (s : List ℕ) (h : Head) → fixed_of (read_head w v p s) ≡ F.Good h
+head-inv : {X : Type 0} (w v p : ℕ) (s : List ℕ) (h : Head) → fixed_of (read_head w v p s) ≡ Ok h
     → (is_set 16384 (be16 s (40 + w)) ≡ true → leb (40 + w + 4) (length s) ≡ true → record { length = 40 + w + 4; flags = be16 s (40 + w); word = be16 s (42 + w) } ≡ h → X)
     → (is_set 16384 (be16 s (40 + w)) ≡ false → record { length = 40 + w + 2; flags = be16 s (40 + w); word = 0 } ≡ h → X)
     → X
@@ -94,7 +94,7 @@ module _ (w : ℕ) (s : List ℕ) (x : ℕ) (flags : x ≡ be16 s (40 + w)) wher
   unfolding fixed_length
   size-clear e = record { flags = flags; is = rw e; least = omega arith; most = omega arith }
 
-pub head-size : (w v p : ℕ) (s : List ℕ) (h : Head) → fixed_of (read_head w v p s) ≡ F.Good h → Size w s h
+pub head-size : (w v p : ℕ) (s : List ℕ) (h : Head) → fixed_of (read_head w v p s) ≡ Ok h → Size w s h
 head-size w v p s h e = head-inv w v p s h e (λ set longer is. rw (← is) (size-set w s _ refl _ set)) (λ clear is. rw (← is) (size-clear w s _ refl clear))
 
 head-bads : (n p q : ℕ) → SameAnswer fixed_of (bad n p) (bad n q)
@@ -126,11 +126,11 @@ module _ (w : ℕ) (b : List ℕ) (at v p : ℕ) where
   mode-is : (m : ℕ) → m ≡ be32 b (at + 24) → {t : Bool} → ok_mode m ≡ t → ok_mode (be32 (drop at b) 24) ≡ t
   mode-is m h e = ap ok_mode (be32-drop at b 24 ∙ sym h) ∙ e
 
-  pub fixed-cut : length b - at < 40 + w + 2 → F.Bad 6 ≡ fixed_of (read_head w v p (drop at b))
+  pub fixed-cut : length b - at < 40 + w + 2 → Err 6 ≡ fixed_of (read_head w v p (drop at b))
   unfolding read_head fixed_length need fixed_of
   fixed-cut h = rw (cut b at (40 + w + 2) h)
 
-  pub fixed-mode : (m : ℕ) → 40 + w + 2 ≤ length b - at → m ≡ be32 b (at + 24) → ok_mode m ≡ false → F.Bad 7 ≡ fixed_of (read_head w v p (drop at b))
+  pub fixed-mode : (m : ℕ) → 40 + w + 2 ≤ length b - at → m ≡ be32 b (at + 24) → ok_mode m ≡ false → Err 7 ≡ fixed_of (read_head w v p (drop at b))
   unfolding read_head fixed_length need fixed_of
   fixed-mode m h i e = rw (enough b at (40 + w + 2) h, mode-is m i e)
 
@@ -146,17 +146,17 @@ module _ (w : ℕ) (b : List ℕ) (at v p : ℕ) where
     unfolding read_head fixed_length need
     after-mode = rw (enough b at (40 + w + 2) f.long, mode-is m f.is_m f.mode, flags-are)
 
-    pub fixed_plain : (x / 16384 % 2 ≡ 1 → ⊥) → F.Good (record { length = 40 + w + 2; flags = x; word = 0 }) ≡ fixed_of (read_head w v p (drop at b))
+    pub fixed_plain : (x / 16384 % 2 ≡ 1 → ⊥) → Ok (record { length = 40 + w + 2; flags = x; word = 0 }) ≡ fixed_of (read_head w v p (drop at b))
     unfolding need is_set fixed_of
     fixed_plain e = rw (after-mode, ne_eqb _ _ e)
 
     module _ (extended : x / 16384 % 2 ≡ 1) where
-      pub fixed-version : v ≡ 2 → F.Bad 8 ≡ fixed_of (read_head w v p (drop at b))
+      pub fixed-version : v ≡ 2 → Err 8 ≡ fixed_of (read_head w v p (drop at b))
       unfolding need is_set fixed_of
       fixed-version e = rw (after-mode, eq-eqb _ _ extended, eq-eqb _ _ e)
 
       module _ (later : v ≡ 2 → ⊥) where
-        pub fixed-cut-word : length b - at < 40 + w + 4 → F.Bad 6 ≡ fixed_of (read_head w v p (drop at b))
+        pub fixed-cut-word : length b - at < 40 + w + 4 → Err 6 ≡ fixed_of (read_head w v p (drop at b))
         unfolding need is_set fixed_of
         fixed-cut-word h = rw (after-mode, eq-eqb _ _ extended, ne_eqb _ _ later, cut b at (40 + w + 4) h)
 
@@ -164,20 +164,20 @@ module _ (w : ℕ) (b : List ℕ) (at v p : ℕ) where
           word_is : be16 (drop at b) (42 + w) ≡ y
           word_is = be16-drop at b (42 + w) ∙ sym is_y
 
-          pub fixed_word : ok_word y ≡ true → F.Good (record { length = 40 + w + 4; flags = x; word = y }) ≡ fixed_of (read_head w v p (drop at b))
+          pub fixed_word : ok_word y ≡ true → Ok (record { length = 40 + w + 4; flags = x; word = y }) ≡ fixed_of (read_head w v p (drop at b))
           unfolding need is_set fixed_of
           fixed_word e = rw (after-mode, eq-eqb _ _ extended, ne_eqb _ _ later, enough b at (40 + w + 4) longer, word_is, e)
 
-          pub fixed-bad-word : ok_word y ≡ false → F.Bad 8 ≡ fixed_of (read_head w v p (drop at b))
+          pub fixed-bad-word : ok_word y ≡ false → Err 8 ≡ fixed_of (read_head w v p (drop at b))
           unfolding need is_set fixed_of
           fixed-bad-word e = rw (after-mode, eq-eqb _ _ extended, ne_eqb _ _ later, enough b at (40 + w + 4) longer, word_is, e)
 
 -- what the code answers that only passes it
-pub bad-head : {X : Type 0} {n : ℕ} {h : Head} → F.Bad n ≡ F.Good h → X
-bad-head e = let z : ◌≡◌ {A = ℕ} 0 1 = cc in absurd (omega arith)
+pub bad-head : {X E : Type 0} {n : E} {h : Head} → Err n ≡ Ok h → X
+bad-head e = absurd (cc)
 
 module _ (w : ℕ) (b : List ℕ) (at : ℕ) where
-  pub passed-cut : at ≤ length b → length b - at < 40 + w + 2 → HeadPassed w b at (F.Bad 6)
+  pub passed-cut : at ≤ length b → length b - at < 40 + w + 2 → HeadPassed w b at (Err R.EntryCut)
   passed-cut inside short =
       record {
         same = λ v p h e. bad-head (fixed-cut w b at v p short ∙ e);
@@ -189,19 +189,19 @@ module _ (w : ℕ) (b : List ℕ) (at : ℕ) where
     flags-is : be16 (drop at b) (40 + w) ≡ x
     flags-is = be16-drop at b (40 + w) ∙ sym is_x
 
-    pub passed-plain : (x / 16384 % 2 ≡ 1 → ⊥) → HeadPassed w b at (F.Good (record { length = 40 + w + 2; flags = x; word = 0 }))
+    pub passed-plain : (x / 16384 % 2 ≡ 1 → ⊥) → HeadPassed w b at (Ok (record { length = 40 + w + 2; flags = x; word = 0 }))
     unfolding is_set
     passed-plain clear =
         record {
           same = λ v p h e. head-inv w v p (drop at b) h e
               (λ set longer is. clash set (rw (flags-is, ne_eqb _ _ clear)))
-              (λ unset is. ap F.Good (rw flags-is at is));
+              (λ unset is. ap Ok (rw flags-is at is));
           sized = λ h e. let is : record { length = 40 + w + 2; flags = x; word = 0 } ≡ h = cc in rw (← is) (size-clear w (drop at b) x (sym flags-is) (ne_eqb _ _ clear));
           there = omega arith;
         }
 
     module _ (set : x / 16384 % 2 ≡ 1) where
-      pub passed-cut-word : at ≤ length b → length b - at < 40 + w + 4 → HeadPassed w b at (F.Bad 6)
+      pub passed-cut-word : at ≤ length b → length b - at < 40 + w + 4 → HeadPassed w b at (Err R.EntryCut)
       unfolding is_set
       passed-cut-word inside short =
           record {
@@ -212,13 +212,13 @@ module _ (w : ℕ) (b : List ℕ) (at : ℕ) where
             there = omega arith;
           }
 
-      pub passed-word : (y : ℕ) → 40 + w + 4 ≤ length b - at → y ≡ be16 b (at + (42 + w)) → HeadPassed w b at (F.Good (record { length = 40 + w + 4; flags = x; word = y }))
+      pub passed-word : (y : ℕ) → 40 + w + 4 ≤ length b - at → y ≡ be16 b (at + (42 + w)) → HeadPassed w b at (Ok (record { length = 40 + w + 4; flags = x; word = y }))
       unfolding is_set
       passed-word y longer is_y =
           let word_is : be16 (drop at b) (42 + w) ≡ y = be16-drop at b (42 + w) ∙ sym is_y in
           record {
             same = λ v p h e. head-inv w v p (drop at b) h e
-                (λ on enough is. ap F.Good (rw (flags-is, word_is) at is))
+                (λ on enough is. ap Ok (rw (flags-is, word_is) at is))
                 (λ unset is. clash (rw (flags-is, eq-eqb _ _ set)) unset);
             sized = λ h e. let is : record { length = 40 + w + 4; flags = x; word = y } ≡ h = cc in rw (← is) (size-set w (drop at b) x (sym flags-is) y (eq-eqb _ _ set));
             there = omega arith;

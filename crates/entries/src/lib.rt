@@ -7,8 +7,11 @@ pub mod record;
 ghost use Rattle.std.specs.Prelude.{◌≡◌, ℕ, ◌+◌, ◌-◌, ◌<◌, ◌≤◌, length, take, drop, get_or};
 ghost use Rattle.format.specs.Layout.{ok_mode, entry_length};
 ghost use Rattle.format.specs.Reader.{ok_word, plain_length, read_plain, read_n};
+ghost use Rattle.format.specs.Refusals.{numbered};
 ghost use Rattle.fields.specs.Begun.{Begun};
-ghost use Rattle.entries.specs.Answers.{read_head, fixed_of, head_length, HeadPassed, text_of, text_length, text_taken, HasLength, NamePassed, number_of, number_value, number_taken};
+ghost use Rattle.entries.specs.Answers.{read_head, fixed_of, head_length, HeadPassed, text_of, text_length, text_taken, HasLength, NamePassed, n_of, number_value, number_taken};
+
+use format::Refusal;
 
 // The bytes before the name: how many, the flags, and the extended word or 0.
 #[derive(Clone, Copy)]
@@ -18,153 +21,136 @@ pub struct Head {
     pub word: u32,
 }
 
-// A refusal's number, or the bytes before the name.
+// A name: its length, and how many bytes were taken, with the NULs after it.
 #[derive(Clone, Copy)]
-pub enum Fixed {
-    Bad(u32),
-    Good(Head),
+pub struct Text {
+    pub length: usize,
+    pub taken: usize,
 }
 
-// A refusal's number, or the length of a name and how many bytes were taken.
+// The number N of version 4, and how many bytes were taken.
 #[derive(Clone, Copy)]
-pub enum Text {
-    Bad(u32),
-    Good(usize, usize),
+pub struct Number {
+    pub value: usize,
+    pub taken: usize,
 }
 
-// A refusal's number, or the number N of version 4 and how many bytes were taken.
-#[derive(Clone, Copy)]
-pub enum Number {
-    Bad(u32),
-    Good(usize, usize),
-}
+// The modes that an entry may have: a file, one that may be executed, a symbolic link, a submodule.
+const FILE: u32 = 0x81_a4;
+
+const EXECUTABLE: u32 = 0x81_ed;
+
+const LINK: u32 = 0xa000;
+
+const SUBMODULE: u32 = 0xe000;
 
 // Whether an entry may have the mode m.
 pub fn mode_ok(m: u32) -> bool
     ensures { result ≡ ok_mode m }
 {
-    if m == 0x81_a4 {
-        return true;
-    }
-    if m == 0x81_ed {
-        return true;
-    }
-    if m == 0x_a000 {
-        return true;
-    }
-    m == 0x_e000
+    matches!(m, FILE | EXECUTABLE | LINK | SUBMODULE)
 }
 
 // Whether x may be an extended word.
 pub fn word_ok(x: u32) -> bool
     ensures { result ≡ ok_word x }
 {
-    if x < 32768 {
-        return x % 8192 == 0;
-    }
-    false
+    x < 32768 && x % 8192 == 0
 }
 
 // What is before the name of the entry of version v at a place; w is the width of an object name.
-pub fn read_fixed(b: &[u8], at: usize, v: u32, w: usize) -> Fixed
+pub fn read_fixed(b: &[u8], at: usize, v: u32, w: usize) -> Result<Head, Refusal>
     requires { (at ≤ length b.now) × (w ≤ 32) }
-    ensures { ((p : ℕ) → result ≡ fixed_of (read_head w v p (drop at b.now))) × (at + head_length result ≤ length b.now) }
+    ensures { ((p : ℕ) → numbered result ≡ fixed_of (read_head w v p (drop at b.now))) × (at + head_length result ≤ length b.now) }
 {
     let f = 40 + w;
     if b.len() - at < f + 2 {
-        return Fixed::Bad(6);
+        return Err(Refusal::EntryCut);
     }
     let m = fields::read32(b, at + 24);
-    if mode_ok(m) {
-        let x = fields::read16(b, at + f);
-        if x / 16384 % 2 == 1 {
-            if v == 2 {
-                return Fixed::Bad(8);
-            }
-            if b.len() - at < f + 4 {
-                return Fixed::Bad(6);
-            }
-            let y = fields::read16(b, at + (42 + w));
-            if word_ok(y) {
-                return Fixed::Good(Head {
-                    length: f + 4,
-                    flags: x,
-                    word: y,
-                });
-            }
-            return Fixed::Bad(8);
-        }
-        return Fixed::Good(Head {
+    if !mode_ok(m) {
+        return Err(Refusal::EntryMode);
+    }
+    let x = fields::read16(b, at + f);
+    if x / 16384 % 2 == 0 {
+        return Ok(Head {
             length: f + 2,
             flags: x,
             word: 0,
         });
     }
-    Fixed::Bad(7)
+    if v == 2 {
+        return Err(Refusal::EntryFlags);
+    }
+    if b.len() - at < f + 4 {
+        return Err(Refusal::EntryCut);
+    }
+    let y = fields::read16(b, at + (42 + w));
+    if !word_ok(y) {
+        return Err(Refusal::EntryFlags);
+    }
+    Ok(Head {
+        length: f + 4,
+        flags: x,
+        word: y,
+    })
 }
 
 // The same where it was read before: nothing is tested but that it is there.
-pub fn pass_fixed(b: &[u8], at: usize, w: usize) -> Fixed
+pub fn pass_fixed(b: &[u8], at: usize, w: usize) -> Result<Head, Refusal>
     requires { (at ≤ length b.now) × (w ≤ 32) }
     ensures { HeadPassed w b.now at result }
 {
     let f = 40 + w;
     if b.len() - at < f + 2 {
-        return Fixed::Bad(6);
+        return Err(Refusal::EntryCut);
     }
-    let x = fields::read16(b, at + f);
-    if x / 16384 % 2 == 1 {
-        if b.len() - at < f + 4 {
-            return Fixed::Bad(6);
-        }
-        let y = fields::read16(b, at + (42 + w));
-        return Fixed::Good(Head {
-            length: f + 4,
-            flags: x,
-            word: y,
+    let flags = fields::read16(b, at + f);
+    if flags / 16384 % 2 == 0 {
+        return Ok(Head {
+            length: f + 2,
+            flags: flags,
+            word: 0,
         });
     }
-    Fixed::Good(Head {
-        length: f + 2,
-        flags: x,
-        word: 0,
+    if b.len() - at < f + 4 {
+        return Err(Refusal::EntryCut);
+    }
+    let word = fields::read16(b, at + (42 + w));
+    Ok(Head {
+        length: f + 4,
+        flags: flags,
+        word: word,
     })
 }
 
-fn byte_at(b: &[u8], at: usize) -> usize
-    requires { at < length b.now }
-    ensures { (result ≡ get_or b.now at 0) × (result < 256) }
-{
-    b[at] as usize
-}
-
 // The number N of version 4 at a place, where the previous name has most bytes.
-pub fn read_n(b: &[u8], at: usize, most: usize) -> Number
+pub fn read_n(b: &[u8], at: usize, most: usize) -> Result<Number, Refusal>
     requires { (at ≤ length b.now) × (length b.now ≤ 16777216) }
-    ensures { ((p : ℕ) → result ≡ number_of (read_n p most (drop at b.now))) × (number_value result ≤ most) × (at + number_taken result ≤ length b.now) }
+    ensures { ((p : ℕ) → numbered result ≡ n_of (read_n p most (drop at b.now))) × (number_value result ≤ most) × (at + number_taken result ≤ length b.now) }
 {
     if b.len() - at < 1 {
-        return Number::Bad(6);
+        return Err(Refusal::EntryCut);
     }
-    let x = byte_at(b, at);
+    let x = usize::from(b[at]);
     if x < 128 {
-        if x <= most {
-            return Number::Good(x, 1);
+        if most < x {
+            return Err(Refusal::EntryLayout);
         }
-        return Number::Bad(10);
+        return Ok(Number { value: x, taken: 1 });
     }
     if b.len() - at < 2 {
-        return Number::Bad(6);
+        return Err(Refusal::EntryCut);
     }
-    let y = byte_at(b, at + 1);
-    if y < 128 {
-        let n = (x - 128 + 1) * 128 + y;
-        if n <= most {
-            return Number::Good(n, 2);
-        }
-        return Number::Bad(10);
+    let y = usize::from(b[at + 1]);
+    if 128 <= y {
+        return Err(Refusal::EntryLayout);
     }
-    Number::Bad(10)
+    let n = (x - 128 + 1) * 128 + y;
+    if most < n {
+        return Err(Refusal::EntryLayout);
+    }
+    Ok(Number { value: n, taken: 2 })
 }
 
 // The length of the name at a place, as the length field says it.
@@ -188,51 +174,64 @@ pub fn entry_length(f: usize, n: usize) -> usize
 
 // The name of versions 2 and 3 at a place, which has n bytes by its length field, with the NULs after it; f bytes of its entry are before it. Its
 // first kept bytes begin a sound name.
-pub fn read_named(b: &[u8], at: usize, n: usize, f: usize, field: u32, kept: usize) -> Text
+pub fn read_named(
+    b: &[u8],
+    at: usize,
+    n: usize,
+    f: usize,
+    field: u32,
+    kept: usize,
+) -> Result<Text, Refusal>
     requires { (at ≤ length b.now) × (n < length b.now - at) × (n ≡ plain_length field (drop at b.now)) × (f ≤ 76) × (kept ≤ n) × Begun (take kept (drop at b.now)) }
-    ensures { ((p : ℕ) → result ≡ text_of (read_plain f p field (drop at b.now))) × (text_length result ≤ text_taken result) × (at + text_taken result ≤ length b.now) × HasLength n result }
+    ensures { ((p : ℕ) → numbered result ≡ text_of (read_plain f p field (drop at b.now))) × (text_length result ≤ text_taken result) × (at + text_taken result ≤ length b.now) × HasLength n result }
 {
     let e = at + n;
-    if fields::name_ok_after(&b[at..e], kept) {
-        if field == fields::length_field(n) {
-            let m = entry_length(f, n) - f;
-            if b.len() - at < m {
-                return Text::Bad(6);
-            }
-            if fields::all_zero(b, e, at + m) {
-                return Text::Good(n, m);
-            }
-            return Text::Bad(10);
-        }
-        return Text::Bad(9);
+    if !fields::name_ok_after(&b[at..e], kept) {
+        return Err(Refusal::EntryName);
     }
-    Text::Bad(9)
+    if field != fields::length_field(n) {
+        return Err(Refusal::EntryName);
+    }
+    let m = entry_length(f, n) - f;
+    if b.len() - at < m {
+        return Err(Refusal::EntryCut);
+    }
+    if !fields::all_zero(b, e, at + m) {
+        return Err(Refusal::EntryLayout);
+    }
+    Ok(Text {
+        length: n,
+        taken: m,
+    })
 }
 
 // The same of a name of which nothing is known.
-pub fn read_plain(b: &[u8], at: usize, f: usize, field: u32) -> Text
+pub fn read_plain(b: &[u8], at: usize, f: usize, field: u32) -> Result<Text, Refusal>
     requires { (at ≤ length b.now) × (f ≤ 76) }
-    ensures { ((p : ℕ) → result ≡ text_of (read_plain f p field (drop at b.now))) × (text_length result ≤ text_taken result) × (at + text_taken result ≤ length b.now) }
+    ensures { ((p : ℕ) → numbered result ≡ text_of (read_plain f p field (drop at b.now))) × (text_length result ≤ text_taken result) × (at + text_taken result ≤ length b.now) }
 {
     let n = plain_length(b, at, field);
     if b.len() - at <= n {
-        return Text::Bad(6);
+        return Err(Refusal::EntryCut);
     }
     read_named(b, at, n, f, field, 0)
 }
 
 // The same where it was read before: nothing is tested but that it is there and within the limit.
-pub fn pass_plain(b: &[u8], at: usize, f: usize, field: u32) -> Text
+pub fn pass_plain(b: &[u8], at: usize, f: usize, field: u32) -> Result<Text, Refusal>
     requires { (at ≤ length b.now) × (f ≤ 76) }
     ensures { NamePassed b.now at f field result }
 {
     let n = plain_length(b, at, field);
     if fields::LONGEST < n {
-        return Text::Bad(9);
+        return Err(Refusal::EntryName);
     }
     let m = entry_length(f, n) - f;
     if b.len() - at < m {
-        return Text::Bad(6);
+        return Err(Refusal::EntryCut);
     }
-    Text::Good(n, m)
+    Ok(Text {
+        length: n,
+        taken: m,
+    })
 }

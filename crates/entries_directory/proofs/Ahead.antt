@@ -7,6 +7,8 @@ use native.Mathlib.Omega.{arith}
 use lib.ListN.{length, drop}
 use lib.Dec.{eqb, leb, ltb}
 use borrow.Author.Tests.{eqb-true, lt-ltb, ltb-true, leb-true}
+use Rattle.std.specs.Prelude.{Ok, Err}
+use Rattle.format.specs.declared.Refusal.{Refusal}
 use Rattle.format.specs.Bytes.{lacks}
 use Rattle.format.specs.Names.{common, compare}
 use Rattle.format.specs.Layout.{names}
@@ -18,7 +20,6 @@ use Rattle.format_laws.proofs.Readings.{good-inv, front-inv}
 use Rattle.fields.specs.Workspace.{Frame}
 use Rattle.fields.proofs.Workspace.{frame_same, frame_then}
 use Rattle.entries_run.specs.declared.Step.{Step}
-use Rattle.entries_run.specs.declared.Next.TheVariants as N
 use Rattle.entries_run.specs.Steps.{name_at, EntryPassed, run_from}
 use Rattle.entries_run.proofs.Steps.{entries-good, entries-again, entries-never, run_none}
 use Rattle.directories.specs.Names.{not_above, sorted_from, begins, leads, beyond}
@@ -51,10 +52,10 @@ module _ (w : ℕ) (v : ℕ) (b work : List ℕ) (s : Front) (work' : List ℕ) 
     left-some = omega arith
 
     -- over a name that an entry follows which is refused
-    pub step-bad {ℓ} : {X : Type ℓ} (m : ℕ) → EntryPassed w v b work s.cursor work' (N.Bad m) → (x : List ℕ) (xs : List (List ℕ)) → Ahead w v b work s x xs → X
+    pub step-bad {ℓ} : {X : Type ℓ} (m : Refusal) → EntryPassed w v b work s.cursor work' (Err m) → (x : List ℕ) (xs : List (List ℕ)) → Ahead w v b work s x xs → X
     step-bad m t x xs h = entries-never w v b work s.cursor work' (s.ahead - 1) left-some _ _ m h.reads t
 
-    module _ (st : Step) (t : EntryPassed w v b work s.cursor work' (N.Good st)) where
+    module _ (st : Step) (t : EntryPassed w v b work s.cursor work' (Ok st)) where
       pub step_fits : FrontFits b s → FrontFits b (record { cursor = st.next; ahead = s.ahead - 1; common = st.common })
       step_fits h = record { inside = t.inside st refl; short = t.common st refl; few = omega (arith, h.few) }
 

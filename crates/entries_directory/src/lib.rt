@@ -5,7 +5,7 @@
 ghost use Rattle.std.specs.Prelude.{◌≡◌, true, ◌&&◌, ◌≤◌, length, leb, ltb};
 ghost use Rattle.entries_directory.specs.Ahead.{FrontFits, FrontAdvanced, FrontPassed, MoreFiles, FrontPassedFiles};
 
-use entries_run::{Cursor, Next, name_at, pass_entry};
+use entries_run::{Cursor, name_at, pass_entry};
 use fields::find;
 
 // The name of the first entry ahead is before the cursor. common is what it has in common with the name before it.
@@ -29,21 +29,17 @@ pub fn advance(b: &[u8], v: u32, work: &mut [u8], s: Front, w: usize) -> Front
             common: 0,
         };
     }
-    let g = pass_entry(b, v, work, c, w);
-    match g {
-        Next::Bad(_) => Front {
+    let Ok(st) = pass_entry(b, v, work, c, w) else {
+        return Front {
             cursor: c,
             ahead: 0,
             common: 0,
-        },
-        Next::Good(st) => {
-            let next = st.next;
-            Front {
-                cursor: next,
-                ahead: s.ahead - 1,
-                common: st.common,
-            }
-        }
+        };
+    };
+    Front {
+        cursor: st.next,
+        ahead: s.ahead - 1,
+        common: st.common,
     }
 }
 
@@ -63,6 +59,7 @@ pub fn pass(b: &[u8], v: u32, work: &mut [u8], s: Front, q: usize, w: usize) -> 
     ensures { FrontPassed w v b.now work.old s q work.new result }
 {
     let mut front = advance(b, v, &mut *work, s, w);
+    // No count: how many entries there are is seen only at the first that is none of them.
     while stays(front, q) {
         front = advance(b, v, &mut *work, front, w);
     }
@@ -91,6 +88,7 @@ pub fn pass_files(b: &[u8], v: u32, work: &mut [u8], s: Front, q: usize, w: usiz
     ensures { FrontPassedFiles w v b.now work.old s q work.new result }
 {
     let mut front = advance(b, v, &mut *work, s, w);
+    // No count, as above.
     while is_file(b, v, &work[..], front, q) {
         front = advance(b, v, &mut *work, front, w);
     }

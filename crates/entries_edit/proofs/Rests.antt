@@ -6,6 +6,7 @@ use Prim.Native.Nat.{ℕ, suc, ◌+◌, ◌-◌, ◌≤◌, ◌<◌, min}
 use native.Mathlib.Omega.{arith}
 use lib.ListN.{length, take, drop, get_elem?, take-append-drop}
 use lib.Dec.{eqb}
+use Rattle.std.specs.Prelude.{Ok}
 use Rattle.format.specs.Names.{common}
 use Rattle.format.specs.Records.{Entry, Key, key_of}
 use Rattle.format.specs.Reader.{is_set, entry_of}
@@ -18,7 +19,6 @@ use Rattle.output.specs.Output.{Wrote}
 use Rattle.output.proofs.Laws.{wrote_nothing, wrote_then}
 use Rattle.entries_run.specs.declared.Cursor.{Cursor}
 use Rattle.entries_run.specs.declared.Step.{Step}
-use Rattle.entries_run.specs.declared.Next.TheVariants as N
 use Rattle.entries_run.specs.Steps.{name_at, key_at, entry_at, Inside, EntryStepped, RunRead}
 use Rattle.entries_run.proofs.Names.{name_at-length}
 use Rattle.entries_run.proofs.Steps.{entries-good, run_none, entry_at-name}
@@ -142,7 +142,7 @@ module _ (w : ℕ) (v : ℕ) (b work : List ℕ) (c : Cursor) (n version : ℕ) 
 
 -- it is read
 module _ {w : ℕ} {v : ℕ} {b work : List ℕ} {c : Cursor} {work' : List ℕ} (n version : ℕ) (out : List ℕ) (at : ℕ) (more : 0 < n) {st : Step}
-    (t : EntryStepped w v b work c work' (N.Good st)) where
+    (t : EntryStepped w v b work c work' (Ok st)) where
   abbrev entry : Entry
   entry = entry_at w v b work' c.at st
 
@@ -213,7 +213,7 @@ module _ {w : ℕ} {v : ℕ} {b work : List ℕ} {c : Cursor} {work' : List ℕ}
       }
 
 -- what the names that a step is written after ask of it
-module _ {w : ℕ} {v : ℕ} {b work : List ℕ} {c : Cursor} {work' : List ℕ} {st : Step} (t : EntryStepped w v b work c work' (N.Good st)) (room : 8192 ≤ length work) where
+module _ {w : ℕ} {v : ℕ} {b work : List ℕ} {c : Cursor} {work' : List ℕ} {st : Step} (t : EntryStepped w v b work c work' (Ok st)) (room : 8192 ≤ length work) where
   pub after_kept : (name : List ℕ) {kept : ℕ} → length name ≤ 8192 → kept ≡ common (key_at v b work' st.next).name name
       → PrefixKept (name_at v b work' st.next.start st.next.len) (length name) kept
   after_kept name {kept} short is =

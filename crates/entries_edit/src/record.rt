@@ -47,16 +47,6 @@ fn put_fields(out: &mut [u8], at: usize, fields: Fields, w: usize) -> usize
     output::put_part(out, end, &object, 0, w)
 }
 
-// A bit of this value, where it is set.
-fn bit_of(set: bool, value: u32) -> u32
-    ensures { result ≡ bit set * value }
-{
-    if set {
-        return value;
-    }
-    0
-}
-
 // An entry of these fields and this name, after a name of previous bytes, of which it keeps the first kept.
 pub fn put_record(
     out: &mut [u8],
@@ -72,7 +62,7 @@ pub fn put_record(
     ensures { EntryWritten w out.old at version (entry_with w fields name.now) previous kept out.new result }
 {
     let middle = put_fields(&mut *out, at, fields, w);
-    let base = bit_of(fields.assume_valid, 32768) + fields.stage * 4096;
-    let word = bit_of(fields.skip_worktree, 16384) + bit_of(fields.intent_to_add, 8192);
+    let base = u32::from(fields.assume_valid) * 32768 + fields.stage * 4096;
+    let word = u32::from(fields.skip_worktree) * 16384 + u32::from(fields.intent_to_add) * 8192;
     entries_write::put_rest(out, middle, version, base, word, name, previous, kept, w)
 }

@@ -6,7 +6,7 @@ ghost use Rattle.entries_run.specs.Steps.{Inside, name_at, key_at, Readable};
 ghost use Rattle.entries_write.specs.Parts.{PrefixKept};
 ghost use Rattle.entries_edit.specs.Rests.{StepWritten, OthersWritten, PastWritten, RemovedWritten};
 
-use entries_run::{Cursor, Next, Step};
+use entries_run::{Cursor, Step};
 
 // The place after what was written, and whether an entry of it needs the extended word.
 #[derive(Clone, Copy)]
@@ -21,16 +21,6 @@ pub fn common_at<'a>(b: &'a [u8], v: u32, work: &'a [u8], c: Cursor, name: &[u8]
     ensures { result ≡ Names.common (key_at v b.now work.now c).name name.now }
 {
     fields::common(entries_run::name_at(b, v, work, c.start, c.len), name)
-}
-
-// The smaller of two numbers.
-fn least(m: usize, n: usize) -> usize
-    ensures { result ≡ min m n }
-{
-    if m < n {
-        return m;
-    }
-    n
 }
 
 // The entry that a step read, after a name of previous bytes, of which it keeps the first kept; then n entries more.
@@ -96,30 +86,27 @@ fn put_after(
             extended: false,
         };
     }
-    let g = entries_run::pass_entry(b, v, &mut *work, c, w);
-    match g {
-        Next::Bad(_) => WriteEnd {
+    let Ok(st) = entries_run::pass_entry(b, v, &mut *work, c, w) else {
+        return WriteEnd {
             at: at,
             extended: false,
-        },
-        Next::Good(st) => {
-            let kept = common_at(b, v, &*work, st.next, name);
-            put_stepped(
-                b,
-                v,
-                work,
-                c.at,
-                st,
-                n - 1,
-                name.len(),
-                kept,
-                version,
-                out,
-                at,
-                w,
-            )
-        }
-    }
+        };
+    };
+    let kept = common_at(b, v, &*work, st.next, name);
+    put_stepped(
+        b,
+        v,
+        work,
+        c.at,
+        st,
+        n - 1,
+        name.len(),
+        kept,
+        version,
+        out,
+        at,
+        w,
+    )
 }
 
 // n entries but the first, which has the name that the second is written after.
@@ -137,19 +124,16 @@ fn put_replaced(
     requires { (at + n * 8276 ≤ 1125899906842624) × Inside b.now c × (8192 ≤ length work.old) × (1 ≤ n) × Readable w v n b.now work.old c × (w ≤ 32) }
     ensures { (p : List ℕ) → OthersWritten w v b.now work.old c n true p version out.old at work.new out.new result }
 {
-    let g = entries_run::pass_entry(b, v, &mut *work, c, w);
-    match g {
-        Next::Bad(_) => WriteEnd {
+    let Ok(st) = entries_run::pass_entry(b, v, &mut *work, c, w) else {
+        return WriteEnd {
             at: at,
             extended: false,
-        },
-        Next::Good(st) => {
-            let rest = entries_write::put_entries(b, v, work, st.next, n - 1, version, out, at, w);
-            WriteEnd {
-                at: rest.at,
-                extended: rest.extended,
-            }
-        }
+        };
+    };
+    let rest = entries_write::put_entries(b, v, work, st.next, n - 1, version, out, at, w);
+    WriteEnd {
+        at: rest.at,
+        extended: rest.extended,
     }
 }
 
@@ -199,27 +183,26 @@ fn put_past(
             extended: false,
         };
     }
-    let g = entries_run::pass_entry(b, v, &mut *work, c, w);
-    match g {
-        Next::Bad(_) => WriteEnd {
+    let Ok(st) = entries_run::pass_entry(b, v, &mut *work, c, w) else {
+        return WriteEnd {
             at: at,
             extended: false,
-        },
-        Next::Good(st) => put_stepped(
-            b,
-            v,
-            work,
-            c.at,
-            st,
-            n - 1,
-            previous,
-            least(kept, st.common),
-            version,
-            out,
-            at,
-            w,
-        ),
-    }
+        };
+    };
+    put_stepped(
+        b,
+        v,
+        work,
+        c.at,
+        st,
+        n - 1,
+        previous,
+        kept.min(st.common),
+        version,
+        out,
+        at,
+        w,
+    )
 }
 
 // n entries but the first.
@@ -237,24 +220,23 @@ pub fn put_removed(
     requires { (at + n * 8276 ≤ 1125899906842624) × Inside b.now c × (8192 ≤ length work.old) × (1 ≤ n) × Readable w v n b.now work.old c × (w ≤ 32) }
     ensures { RemovedWritten w v b.now work.old c n version out.old at work.new out.new result }
 {
-    let g = entries_run::pass_entry(b, v, &mut *work, c, w);
-    match g {
-        Next::Bad(_) => WriteEnd {
+    let Ok(st) = entries_run::pass_entry(b, v, &mut *work, c, w) else {
+        return WriteEnd {
             at: at,
             extended: false,
-        },
-        Next::Good(st) => put_past(
-            b,
-            v,
-            work,
-            st.next,
-            n - 1,
-            c.len,
-            st.common,
-            version,
-            out,
-            at,
-            w,
-        ),
-    }
+        };
+    };
+    put_past(
+        b,
+        v,
+        work,
+        st.next,
+        n - 1,
+        c.len,
+        st.common,
+        version,
+        out,
+        at,
+        w,
+    )
 }

@@ -7,6 +7,7 @@ use native.Mathlib.Omega.{arith}
 use lib.ListN.{length, take, drop, length-append, take-append-drop}
 use lib.Seq.{drop-append_seam, drop-length}
 use borrow.Author.Tests.{eq-eqb, ne_eqb}
+use Rattle.std.specs.Prelude.{Ok}
 use Rattle.format.specs.Records.{Entry, Key, key_of, start}
 use Rattle.format.specs.Reader.{entry_of, read_entries}
 use Rattle.format.specs.Requests.{goes_before, same_key, mixes, mixed}
@@ -15,7 +16,6 @@ use Rattle.format_laws.proofs.Tests.{by-test}
 use Rattle.format_laws.proofs.Readings.{good-inv}
 use Rattle.entries_run.specs.declared.Cursor.{Cursor}
 use Rattle.entries_run.specs.declared.Step.{Step}
-use Rattle.entries_run.specs.declared.Next.TheVariants as N
 use Rattle.entries_run.specs.Steps.{name_at, key_at, entry_at, Room, StepFound, EntryStepped, first_cursor, AllRead, Readable}
 use Rattle.entries_run.proofs.Steps.{walked_end, walked-take, walked-left, Walking, walking-first, walking-more}
 use Rattle.entries_place.specs.declared.Compared.{Compared}
@@ -99,7 +99,7 @@ module _ {w : ℕ} {v : ℕ} {b work₀ : List ℕ} {k : Key} {n : ℕ} {x : Boo
 
   module _ {count : ℕ} {work' : List ℕ} (more : n < count) where
     -- the next entry compares to the key as d says
-    module _ {st : Step} (t : EntryStepped w v b work c work' (N.Good st)) {d : Compared} (e : KeysCompared (key_at v b work' st.next) k d) where
+    module _ {st : Step} (t : EntryStepped w v b work c work' (Ok st)) {d : Compared} (e : KeysCompared (key_at v b work' st.next) k d) where
       abbrev next : Entry
       next = entry_at w v b work' c.at st
 

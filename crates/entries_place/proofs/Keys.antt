@@ -4,7 +4,7 @@ use mathlib.Core.Bool.{true, false, not, ◌&&◌, ◌||◌}
 use Prim.Native.Nat.{ℕ}
 use native.Mathlib.Omega.{arith}
 use lib.Dec.{eqb, ltb}
-use Rattle.format.specs.declared.Order.TheVariants.{Below, Same, Above}
+use Rattle.std.proofs.Common.{Less, Equal, Greater}
 use Rattle.format.specs.Bytes.{eq_list}
 use Rattle.format.specs.Names.{compare}
 use Rattle.format.specs.Records.{Key}
@@ -15,23 +15,23 @@ use Rattle.format_laws.proofs.Orders.{other-orders, compare_self, compare_same}
 use Rattle.entries_place.specs.Places.{KeysCompared}
 
 module _ (a b : Key) where
-  other_name : (compare a.name b.name ≡ Same → ⊥) → eq_list a.name b.name ≡ false
+  other_name : (compare a.name b.name ≡ Equal → ⊥) → eq_list a.name b.name ≡ false
   other_name h = by-test (eq_list a.name b.name) (λ p. absurd (h (rw (eq_list-true a.name b.name p) (compare_self b.name)))) (λ p. p)
 
-  pub compared-below : compare a.name b.name ≡ Below → KeysCompared a b (record { before = true; same = false; mixes = false })
+  pub compared-below : compare a.name b.name ≡ Less → KeysCompared a b (record { before = true; same = false; mixes = false })
   unfolding goes_before same_key mixes
   compared-below e =
       let other = other_name (λ same. other-orders e same) in
       record { before = rw e; same = rw other; mixes = rw other }
 
-  pub compared-above : compare a.name b.name ≡ Above → KeysCompared a b (record { before = false; same = false; mixes = false })
+  pub compared-above : compare a.name b.name ≡ Greater → KeysCompared a b (record { before = false; same = false; mixes = false })
   unfolding goes_before same_key mixes
   compared-above e =
       let other = other_name (λ same. let z : ◌≡◌ {A = ℕ} 0 1 = cc in omega arith) in
       record { before = rw e; same = rw other; mixes = rw other }
 
   -- of one name the stages decide
-  pub compared_same : compare a.name b.name ≡ Same
+  pub compared_same : compare a.name b.name ≡ Equal
       → KeysCompared a b (record { before = ltb a.stage b.stage; same = eqb a.stage b.stage; mixes = not (eqb a.stage b.stage) && (eqb a.stage 0 || eqb b.stage 0) })
   unfolding goes_before same_key mixes
   compared_same e =

@@ -6,8 +6,8 @@ ghost use Rattle.std.specs.Prelude.{◌≤◌, length};
 ghost use Rattle.entries_run.specs.Steps.{key_at, Room, Inside, AllRead};
 ghost use Rattle.entries_place.specs.Places.{KeysCompared, PlaceFound};
 
-use entries_run::{Cursor, Next};
-use format::Order;
+use entries_run::Cursor;
+use std::cmp::Ordering;
 
 // How many entries are before a name and stage, whether the next one has them, and whether some entry mixes with them: one of the two is stage 0 of
 // the name, the other another stage of it.
@@ -32,17 +32,17 @@ fn order_of(x: &[u8], s: u32, y: &[u8], t: u32) -> Compared
 {
     let o = fields::compare(x, y);
     match o {
-        Order::Below => Compared {
+        Ordering::Less => Compared {
             before: true,
             same: false,
             mixes: false,
         },
-        Order::Same => Compared {
+        Ordering::Equal => Compared {
             before: s < t,
             same: s == t,
             mixes: (s != t) & ((s == 0) | (t == 0)),
         },
-        Order::Above => Compared {
+        Ordering::Greater => Compared {
             before: false,
             same: false,
             mixes: false,
@@ -79,11 +79,9 @@ pub fn find_place(
     ensures { PlaceFound w v b.now work.old count (record { name = name.entry.now; stage = stage }) work.new result }
 {
     let mut c = entries_run::first();
-    let mut before = 0;
     let mut mixed = false;
-    while before < count {
-        let g = entries_run::pass_entry(b, v, &mut *work, c, w);
-        let Next::Good(st) = g else {
+    for before in 0..count {
+        let Ok(st) = entries_run::pass_entry(b, v, &mut *work, c, w) else {
             return Place {
                 before: before,
                 there: false,
@@ -93,9 +91,7 @@ pub fn find_place(
         c = st.next;
         let d = order_at(b, v, &work[..], c, name, stage);
         mixed = mixed | d.mixes;
-        if d.before {
-            before += 1;
-        } else {
+        if !d.before {
             return Place {
                 before: before,
                 there: d.same,
@@ -104,7 +100,7 @@ pub fn find_place(
         }
     }
     Place {
-        before: before,
+        before: count,
         there: false,
         mixed: mixed,
     }

@@ -9,7 +9,7 @@ use lib.ListN.{length, take, drop, length-take, length-drop}
 use lib.Seq.{length-take-le, take-add}
 use lib.Dec.{eqb}
 use borrow.Author.Tests.{eq-eqb, ne_eqb}
-use Rattle.format.specs.declared.Order.{Order}
+use Rattle.std.specs.declared.cmp.Ordering.{Ordering}
 use Rattle.format.specs.Names.{compare, common, rises}
 use Rattle.format_laws.proofs.Tests.{by-test, by_cond}
 use Rattle.format_laws.proofs.Names.{compare-append, common-append}
@@ -53,9 +53,9 @@ module _ (v : ℕ) (b work : List ℕ) (start len : ℕ) where
 -- ---- two names
 
 -- two names that have k bytes in common, s standing to t as o says
-pub stands : (s t : List ℕ) (m n k : ℕ) (o : Order) → k ≡ common s t → k ≤ length s → compare s t ≡ o
+pub stands : (s t : List ℕ) (m n k : ℕ) (o : Ordering) → k ≡ common s t → k ≤ length s → compare s t ≡ o
     → StandingOf s t m n (record { rises = rises o m n; common = k })
-stands s t m n k o is within order = record { rises = ap (λ (x : Order). rises x m n) (sym order); common = is; fits = within }
+stands s t m n k o is within order = record { rises = ap (λ (x : Ordering). rises x m n) (sym order); common = is; fits = within }
 
 -- the first p bytes of work less their last n, then s
 module _ (work s : List ℕ) (p n : ℕ) (fits : n ≤ p) (long : p ≤ length work) where
@@ -75,7 +75,7 @@ module _ (work s : List ℕ) (p n : ℕ) (fits : n ≤ p) (long : p ≤ length w
       let shared : common (take p work) (q ++ s) ≡ length q + common dropped s = rw kept (common-append q dropped s) in
       let size : length q ≡ p - n = length-take-le (p - n) work (omega arith) in
       record {
-        rises = h.rises ∙ ap (λ (x : Order). rises x k l) (sym order);
+        rises = h.rises ∙ ap (λ (x : Ordering). rises x k l) (sym order);
         common = omega (arith, shared, size, h.common);
         held = e;
       }

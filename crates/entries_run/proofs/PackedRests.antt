@@ -8,6 +8,10 @@ use lib.ListN.{length, take, drop, length-append, length-drop}
 use lib.Seq.{length-take-le, take-take, take_at, drop-append-add, drop-drop}
 use lib.Dec.{eqb}
 use borrow.Author.Tests.{eq-eqb, ne_eqb, eqb-true, lt-ltb, le-ltb}
+use Rattle.std.specs.Prelude.{Ok, Err}
+use Rattle.format.specs.declared.Refusal.{Refusal}
+use Rattle.format.specs.declared.Refusal.TheVariants as R
+use Rattle.format.specs.Refusals.{number_of}
 use Rattle.format.specs.Bytes.{before}
 use Rattle.format.specs.Names.{ok_name, length_field, compare, rises}
 use Rattle.format.specs.Reading.{bad, good, need, shift, bind}
@@ -20,11 +24,10 @@ use Rattle.fields.specs.Workspace.{Frame}
 use Rattle.fields.proofs.Beginnings.{begun-take, begun_kept}
 use Rattle.fields.proofs.Workspace.{frame_same}
 use Rattle.entries.specs.declared.Head.{Head}
-use Rattle.entries.specs.declared.Number.TheVariants as M
-use Rattle.entries.specs.Answers.{number_of, Size}
+use Rattle.entries.specs.declared.Number.{Number}
+use Rattle.entries.specs.Answers.{n_of, Size}
 use Rattle.entries.proofs.Names.{read_n-bad, read_n-good}
 use Rattle.entries_run.specs.declared.Cursor.{Cursor}
-use Rattle.entries_run.specs.declared.Next.TheVariants as N
 use Rattle.entries_run.specs.declared.Standing.{Standing}
 use Rattle.entries_run.specs.Steps.{name_at, KnownBegun, HeadAt, NumberAt, NameRebuilt, step_of, StepAnswered, StepTested, read_rest}
 use Rattle.entries_run.proofs.Rests.{answered-bad, answered-good, repeated-good, name_read, rest-bad, rest-order, rest-good, rest-inv}
@@ -35,16 +38,16 @@ module _ (b work : List ℕ) (c : Cursor) (h : Head) (room : c.len ≤ length wo
   unfolding read_name read_packed name_at
   name-packed p = rw (length-take-le c.len work room)
 
-  pub packed-bad : (w n : ℕ) → ((p : ℕ) → M.Bad n ≡ number_of (read_n p c.len (drop (c.at + h.length) b)))
-      → StepAnswered w (read_rest w 4 b work c h) 4 b work c work (N.Bad n)
+  pub packed-bad : (w : ℕ) (r : Refusal) → ((p : ℕ) → Err (number_of r) ≡ n_of (read_n p c.len (drop (c.at + h.length) b)))
+      → StepAnswered w (read_rest w 4 b work c h) 4 b work c work (Err r)
   unfolding bind
-  packed-bad w n e =
-      answered-bad w _ 4 b work c work (frame_same work) (λ q. refl) n λ p.
-      rest-bad w 4 b work c h p n (name-packed p ∙ rw (read_n-bad p _ _ n (sym (e p))))
+  packed-bad w r e =
+      answered-bad w _ 4 b work c work (frame_same work) (λ q. refl) r λ p.
+      rest-bad w 4 b work c h p (number_of r) (name-packed p ∙ rw (read_n-bad p _ _ (number_of r) (sym (e p))))
 
-pub numbered : (b work : List ℕ) (c : Cursor) (h : Head) (n took : ℕ) → HeadAt b c h → ((p : ℕ) → M.Good n took ≡ number_of (read_n p c.len (drop (c.at + h.length) b)))
-    → n ≤ c.len → c.at + h.length + took ≤ length b → 8192 ≤ length work → NumberAt b work c h n took
-numbered b work c h n took q e fits more room = record { head = q; number = λ p. read_n-good p _ _ n took (sym (e p)); fits = fits; more = more; room = room }
+pub number_at : (b work : List ℕ) (c : Cursor) (h : Head) (x : Number) → HeadAt b c h → ((p : ℕ) → Ok x ≡ n_of (read_n p c.len (drop (c.at + h.length) b)))
+    → x.value ≤ c.len → c.at + h.length + x.taken ≤ length b → 8192 ≤ length work → NumberAt b work c h x.value x.taken
+number_at b work c h x q e fits more room = record { head = q; number = λ p. read_n-good p _ _ x (sym (e p)); fits = fits; more = more; room = room }
 
 -- where the name's own bytes begin, after the number n, in took bytes
 abbrev from : Cursor → Head → ℕ → ℕ
@@ -98,11 +101,11 @@ module _ (b work : List ℕ) (c : Cursor) (h : Head) (n took z : ℕ) (q : Ended
       name-packed b work c h l p ∙ rw (q.numbered.number p, drop-drop took (c.at + h.length) b)
 
   module _ (w : ℕ) where
-    pub suffix-cut : z ≡ length b → StepAnswered w (read_rest w 4 b work c h) 4 b work c work (N.Bad 6)
+    pub suffix-cut : z ≡ length b → StepAnswered w (read_rest w 4 b work c h) 4 b work c work (Err R.EntryCut)
     unfolding read_suffix need shift
     suffix-cut e =
         let l : length (drop (from c h took) b) ≤ before 0 (drop (from c h took) b) = omega (arith, size) in
-        answered-bad w _ 4 b work c work (frame_same work) (λ v. refl) 6 λ p.
+        answered-bad w _ 4 b work c work (frame_same work) (λ v. refl) R.EntryCut λ p.
         rest-bad w 4 b work c h p 6 (name-suffix p ∙ rw (le-ltb _ _ l))
 
   module _ (inside : z ≡ length b → ⊥) where
@@ -121,10 +124,10 @@ module _ (b work : List ℕ) (c : Cursor) (h : Head) (n took z : ℕ) (q : Ended
       unfolding need
       name-bad p e = rest-bad w 4 b work c h p 9 (name-from p ∙ rw e)
 
-      pub suffix-long : 8192 < new_length c h n took z → StepAnswered w (read_rest w 4 b work c h) 4 b work c work (N.Bad 9)
+      pub suffix-long : 8192 < new_length c h n took z → StepAnswered w (read_rest w 4 b work c h) 4 b work c work (Err R.EntryName)
       suffix-long e =
           let over : 8192 < length (new b work c h n took z) = omega (arith, length-new) in
-          answered-bad w _ 4 b work c work (frame_same work) (λ v. refl) 9 (λ p. name-bad p (ok_name-over _ over))
+          answered-bad w _ 4 b work c work (frame_same work) (λ v. refl) R.EntryName (λ p. name-bad p (ok_name-over _ over))
 
 module _ (b work : List ℕ) (c : Cursor) (h : Head) (n took z : ℕ) (work' : List ℕ) (d : Standing) (r : Copied b work c h n took z work' d) where
   long-new : length (new b work c h n took z) ≡ new_length c h n took z
@@ -166,33 +169,33 @@ module _ (b work : List ℕ) (c : Cursor) (h : Head) (n took z : ℕ) (work' : L
   order_is = r.rebuilt.rises
 
   module _ (w : ℕ) where
-    refused : (m : ℕ) → ((p : ℕ) → read_rest w 4 b work c h p ≡ bad m p) → StepAnswered w (read_rest w 4 b work c h) 4 b work c work' (N.Bad m)
+    refused : (m : Refusal) → ((p : ℕ) → read_rest w 4 b work c h p ≡ bad (number_of m) p) → StepAnswered w (read_rest w 4 b work c h) 4 b work c work' (Err m)
     refused m e = answered-bad w _ 4 b work c work' frame (λ v. false-true (sym v)) m e
 
-    pub suffix-name : ok_name (take (new_length c h n took z) work') ≡ false → StepAnswered w (read_rest w 4 b work c h) 4 b work c work' (N.Bad 9)
+    pub suffix-name : ok_name (take (new_length c h n took z) work') ≡ false → StepAnswered w (read_rest w 4 b work c h) 4 b work c work' (Err R.EntryName)
     unfolding name_at
-    suffix-name e = refused 9 (λ p. name-bad b work c h n took z r.ended r.inside w p (ap ok_name (sym shown) ∙ e))
+    suffix-name e = refused R.EntryName (λ p. name-bad b work c h n took z r.ended r.inside w p (ap ok_name (sym shown) ∙ e))
 
     module _ (ok : ok_name (take (new_length c h n took z) work') ≡ true) where
       sound : ok_name (new b work c h n took z) ≡ true
       unfolding name_at
       sound = ap ok_name (sym shown) ∙ ok
 
-      pub suffix-field : (h.flags % 4096 ≡ length_field (new_length c h n took z) → ⊥) → StepAnswered w (read_rest w 4 b work c h) 4 b work c work' (N.Bad 9)
+      pub suffix-field : (h.flags % 4096 ≡ length_field (new_length c h n took z) → ⊥) → StepAnswered w (read_rest w 4 b work c h) 4 b work c work' (Err R.EntryName)
       unfolding need
-      suffix-field e = refused 9 (λ p. rest-bad w 4 b work c h p 9 (name-from b work c h n took z r.ended r.inside p ∙ rw (sound, ne_eqb _ _ e)))
+      suffix-field e = refused R.EntryName (λ p. rest-bad w 4 b work c h p 9 (name-from b work c h n took z r.ended r.inside p ∙ rw (sound, ne_eqb _ _ e)))
 
       module _ (counted : h.flags % 4096 ≡ length_field (new_length c h n took z)) where
         named : (p : ℕ) → name_read 4 b work c h p ≡ good (new b work c h n took z) (z + 1 - (c.at + h.length))
         unfolding need
         named p = name-from b work c h n took z r.ended r.inside p ∙ rw (sound, eq-eqb _ _ counted)
 
-        pub suffix-order : d.rises ≡ false → StepAnswered w (read_rest w 4 b work c h) 4 b work c work' (N.Bad 11)
-        suffix-order e = refused 11 (λ p. rest-order w 4 b work c h p _ _ (named p) (sym order_is ∙ e))
+        pub suffix-order : d.rises ≡ false → StepAnswered w (read_rest w 4 b work c h) 4 b work c work' (Err R.EntryOrder)
+        suffix-order e = refused R.EntryOrder (λ p. rest-order w 4 b work c h p _ _ (named p) (sym order_is ∙ e))
 
         pub suffix-good : Size w (drop c.at b) h → d.rises ≡ true
             → StepAnswered w (read_rest w 4 b work c h) 4 b work c work'
-            (N.Good (step_of h d.common (z + 1) 0 (new_length c h n took z)))
+            (Ok (step_of h d.common (z + 1) 0 (new_length c h n took z)))
         suffix-good sized e =
             let q : HeadAt b c h = r.ended.numbered.head in
             let taken : h.length + (z + 1 - (c.at + h.length) + 0) ≡ z + 1 - c.at = omega arith in
@@ -209,7 +212,7 @@ module _ (b work : List ℕ) (c : Cursor) (h : Head) (n took z : ℕ) (work' : L
             })
 
     -- of an entry that was read before
-    pub suffix-passed : Size w (drop c.at b) h → StepTested w true (read_rest w 4 b work c h) 4 b work c work' (N.Good (step_of h d.common (z + 1) 0 (new_length c h n took z)))
+    pub suffix-passed : Size w (drop c.at b) h → StepTested w true (read_rest w 4 b work c h) 4 b work c work' (Ok (step_of h d.common (z + 1) 0 (new_length c h n took z)))
     unfolding name_at
     suffix-passed sized =
         let q : HeadAt b c h = r.ended.numbered.head in

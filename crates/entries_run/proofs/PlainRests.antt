@@ -7,6 +7,10 @@ use native.Mathlib.Omega.{arith}
 use lib.ListN.{length, take, drop, length-take, length-drop}
 use lib.Seq.{length-take-le, take-take}
 use lib.Dec.{eqb}
+use Rattle.std.specs.Prelude.{Ok, Err}
+use Rattle.format.specs.declared.Refusal.{Refusal}
+use Rattle.format.specs.declared.Refusal.TheVariants as R
+use Rattle.format.specs.Refusals.{number_of, numbered}
 use Rattle.format.specs.Names.{compare, common, rises}
 use Rattle.format.specs.Records.{Entry}
 use Rattle.format.specs.Reading.{good}
@@ -18,11 +22,9 @@ use Rattle.fields.specs.Begun.{Begun}
 use Rattle.fields.proofs.Beginnings.{begun-common, begun_kept}
 use Rattle.fields.proofs.Workspace.{frame_same}
 use Rattle.entries.specs.declared.Head.{Head}
-use Rattle.entries.specs.declared.Text.TheVariants as T
 use Rattle.entries.specs.Answers.{text_of, NamePassed, Size}
 use Rattle.entries.proofs.Names.{read_plain-bad, read_plain-good, plain-place, bad-text}
 use Rattle.entries_run.specs.declared.Cursor.{Cursor}
-use Rattle.entries_run.specs.declared.Next.TheVariants as N
 use Rattle.entries_run.specs.declared.Standing.{Standing}
 use Rattle.entries_run.specs.Steps.{name_at, KnownBegun, HeadAt, StandingOf, step_of, StepAnswered, StepRepeated, read_rest}
 use Rattle.entries_run.proofs.Names.{name_at-plain}
@@ -44,7 +46,7 @@ named-begun b a len at n known i j d inside stands sound =
 -- the name of n bytes, m with the NULs after it, is read, and compared with the one before
 pub record Compared (b : List ℕ) (c : Cursor) (h : Head) (n m : ℕ) (d : Standing) : Type 0 where
   pub headed : HeadAt b c h
-  pub text : (p : ℕ) → T.Good n m ≡ text_of (read_plain h.length p (h.flags % 4096) (drop (c.at + h.length) b))
+  pub text : (p : ℕ) → Ok (record { length = n; taken = m }) ≡ text_of (read_plain h.length p (h.flags % 4096) (drop (c.at + h.length) b))
   pub fits : n ≤ m
   pub more : c.at + h.length + m ≤ length b
   pub stands :
@@ -61,11 +63,11 @@ module _ (w : ℕ) (v : ℕ) (b work : List ℕ) (old : eqb v 4 ≡ false) where
   name-plain f p field previous s = rw old
 
   module _ (c : Cursor) (h : Head) where
-    pub plain-bad : (n : ℕ) → ((p : ℕ) → T.Bad n ≡ text_of (read_plain h.length p (h.flags % 4096) (drop (c.at + h.length) b)))
-        → StepAnswered w (read_rest w v b work c h) v b work c work (N.Bad n)
-    plain-bad n e =
-        answered-bad w _ v b work c work (frame_same work) (λ q. refl) n λ p.
-        rest-bad w v b work c h p n (name-plain _ p _ _ _ ∙ read_plain-bad _ p _ _ n (sym (e p)))
+    pub plain-bad : (r : Refusal) → ((p : ℕ) → Err (number_of r) ≡ text_of (read_plain h.length p (h.flags % 4096) (drop (c.at + h.length) b)))
+        → StepAnswered w (read_rest w v b work c h) v b work c work (Err r)
+    plain-bad r e =
+        answered-bad w _ v b work c work (frame_same work) (λ q. refl) r λ p.
+        rest-bad w v b work c h p (number_of r) (name-plain _ p _ _ _ ∙ read_plain-bad _ p _ _ (number_of r) (sym (e p)))
 
     before-is : take (c.start + c.len - c.start) (drop c.start b) ≡ name_at v b work c.start c.len
     before-is = let e : c.start + c.len - c.start ≡ c.len = omega arith in rw e (sym (name_at-plain v b work c.start c.len old))
@@ -75,7 +77,7 @@ module _ (w : ℕ) (v : ℕ) (b work : List ℕ) (old : eqb v 4 ≡ false) where
 
     module _ (n m : ℕ) (d : Standing) (r : Compared b c h n m d) where
       named : (p : ℕ) → name_read v b work c h p ≡ good (take n (drop (c.at + h.length) b)) m
-      named p = name-plain _ p _ _ _ ∙ read_plain-good _ p _ _ n m (sym (r.text p))
+      named p = name-plain _ p _ _ _ ∙ read_plain-good _ p _ _ (record { length = n; taken = m }) (sym (r.text p))
 
       order_is : d.rises ≡ rises (compare (name_at v b work c.start c.len) (take n (drop (c.at + h.length) b))) c.stage (h.flags / 4096 % 4)
       order_is = rw (before-is, after_is n) at r.stands.rises
@@ -86,12 +88,12 @@ module _ (w : ℕ) (v : ℕ) (b work : List ℕ) (old : eqb v 4 ≡ false) where
           let l : n ≤ length (drop (c.at + h.length) b) = rw (length-drop (c.at + h.length) b) (omega arith) in
           rw (length-take-le n (drop (c.at + h.length) b) l) at (ok_name-length name (name-read v _ 0 _ _ _ _ m (named 0)).2)
 
-      pub plain-order : d.rises ≡ false → StepAnswered w (read_rest w v b work c h) v b work c work (N.Bad 11)
-      plain-order e = answered-bad w _ v b work c work (frame_same work) (λ q. refl) 11 (λ p. rest-order w v b work c h p _ m (named p) (sym order_is ∙ e))
+      pub plain-order : d.rises ≡ false → StepAnswered w (read_rest w v b work c h) v b work c work (Err R.EntryOrder)
+      plain-order e = answered-bad w _ v b work c work (frame_same work) (λ q. refl) R.EntryOrder (λ p. rest-order w v b work c h p _ m (named p) (sym order_is ∙ e))
 
       pub plain-good : Size w (drop c.at b) h → d.rises ≡ true
           → StepAnswered w (read_rest w v b work c h) v b work c work
-          (N.Good (step_of h d.common (c.at + h.length + m) (c.at + h.length) n))
+          (Ok (step_of h d.common (c.at + h.length + m) (c.at + h.length) n))
       plain-good head e =
           let q : HeadAt b c h = r.headed in
           let taken : h.length + (m + 0) ≡ c.at + h.length + m - c.at = omega arith in
@@ -114,13 +116,13 @@ module _ (w : ℕ) (v : ℕ) (b work : List ℕ) (old : eqb v 4 ≡ false) where
         → rises (compare (name_at v b work c.start c.len) name) c.stage (h.flags / 4096 % 4) ≡ true → X) → X
     text-inv p e m q f = rest-inv w v b work c h p e m q (λ name j named order. f name j (sym (name-plain _ p _ _ _) ∙ named) order)
 
-    pub plain-unread : (n : ℕ) → NamePassed b (c.at + h.length) h.length (h.flags % 4096) (T.Bad n) → StepRepeated w (read_rest w v b work c h) v b work c work (N.Bad n)
+    pub plain-unread : (r : Refusal) → NamePassed b (c.at + h.length) h.length (h.flags % 4096) (Err r) → StepRepeated w (read_rest w v b work c h) v b work c work (Err r)
     unfolding text_of
-    plain-unread n t =
-        repeated-bad w _ v b work c n (λ p e m q. text-inv p e m q (λ name j plain order. bad-text (t.same p (length name) j (ap text_of plain))))
+    plain-unread r t =
+        repeated-bad w _ v b work c r (λ p e m q. text-inv p e m q (λ name j plain order. bad-text (t.same p (record { length = length name; taken = j }) (ap text_of plain))))
 
     -- the name of n bytes, m with the NULs after it, has k bytes in common with the one before
-    module _ (n m k : ℕ) (q : HeadAt b c h) (t : NamePassed b (c.at + h.length) h.length (h.flags % 4096) (T.Good n m))
+    module _ (n m k : ℕ) (q : HeadAt b c h) (t : NamePassed b (c.at + h.length) h.length (h.flags % 4096) (Ok (record { length = n; taken = m })))
         (is-k : k ≡ common (take (c.start + c.len - c.start) (drop c.start b)) (take (c.at + h.length + n - (c.at + h.length)) (drop (c.at + h.length) b))) where
       within : (k ≤ length (take (c.start + c.len - c.start) (drop c.start b))) × (k ≤ length (take (c.at + h.length + n - (c.at + h.length)) (drop (c.at + h.length) b)))
       within = rw is-k (common-le _ _)
@@ -134,8 +136,8 @@ module _ (w : ℕ) (v : ℕ) (b work : List ℕ) (old : eqb v 4 ≡ false) where
           → Compared b c h n m (record { rises = true; common = k })
       unfolding text_of
       as_read p name j plain order =
-          let told : T.Good n m ≡ text_of (read_plain h.length p (h.flags % 4096) (drop (c.at + h.length) b)) = t.same p (length name) j (ap text_of plain) ∙ sym (ap text_of plain) in
-          let is : take n (drop (c.at + h.length) b) ≡ name = good-inv _ _ _ _ (sym (read_plain-good _ p _ _ n m (sym told)) ∙ plain) (λ e l. e) in
+          let told : Ok (record { length = n; taken = m }) ≡ text_of (read_plain h.length p (h.flags % 4096) (drop (c.at + h.length) b)) = ap numbered (t.same p (record { length = length name; taken = j }) (ap text_of plain)) ∙ sym (ap text_of plain) in
+          let is : take n (drop (c.at + h.length) b) ≡ name = good-inv _ _ _ _ (sym (read_plain-good _ p _ _ (record { length = n; taken = m }) (sym told)) ∙ plain) (λ e l. e) in
           record {
             headed = q;
             text = λ i. told ∙ plain-place h.length p i (h.flags % 4096) (drop (c.at + h.length) b);
@@ -144,7 +146,7 @@ module _ (w : ℕ) (v : ℕ) (b work : List ℕ) (old : eqb v 4 ≡ false) where
             stands = record { rises = rw (before-is, after_is n, is) (sym order); common = is-k; fits = within.0 };
           }
 
-      pub plain-passed : Size w (drop c.at b) h → StepRepeated w (read_rest w v b work c h) v b work c work (N.Good (step_of h k (c.at + h.length + m) (c.at + h.length) n))
+      pub plain-passed : Size w (drop c.at b) h → StepRepeated w (read_rest w v b work c h) v b work c work (Ok (step_of h k (c.at + h.length + m) (c.at + h.length) n))
       plain-passed head =
           repeated-good w _ v b work c work _
           (λ p e i r. text-inv p e i r (λ name j plain order. plain-good n m _ (as_read p name j plain order) head refl))

@@ -1,5 +1,5 @@
 -- Laws of the run of entries, one step after another, for loops over entries.
-use mathlib.Core.Path.{◌≡◌, refl, sym, ap, subst₂, ◌∙◌}
+use mathlib.Core.Path.{◌≡◌, refl, sym, ap, subst, ◌∙◌}
 use mathlib.Core.List.{List, [], ◌∷◌, ◌++◌, append-nil}
 use mathlib.Core.Bool.{Bool, true, false, cond}
 use mathlib.Core.Option.{some}
@@ -9,6 +9,10 @@ use native.Mathlib.Omega.{arith}
 use lib.ListN.{length, take, drop, get_elem?, length-append}
 use lib.Seq.{drop-drop, take-append_seam}
 use lib.Dec.{eqb}
+use Rattle.std.specs.Prelude.{Result, Ok, Err}
+use Rattle.format.specs.declared.Refusal.{Refusal}
+use Rattle.format.specs.declared.Fault.{Fault}
+use Rattle.format.specs.Refusals.{number_of, Numbered, denied}
 use Rattle.format.specs.Records.{Entry, Key, key_of, start}
 use Rattle.format.specs.Reading.{Read, bad, good, bind}
 use Rattle.format.specs.Reader.{entry_of, read_entry, read_entries}
@@ -21,10 +25,7 @@ use Rattle.fields.proofs.Beginnings.{begun-none, begun-name}
 use Rattle.fields.proofs.Workspace.{frame_same, frame_then}
 use Rattle.entries_run.specs.declared.Cursor.{Cursor}
 use Rattle.entries_run.specs.declared.Step.{Step}
-use Rattle.entries_run.specs.declared.Next.{Next}
-use Rattle.entries_run.specs.declared.Next.TheVariants as N
-use Rattle.entries_run.specs.declared.Run.TheVariants as R
-use Rattle.entries_run.specs.declared.Sought.TheVariants as S
+use Rattle.entries_run.specs.declared.Sought.{Sought}
 use Rattle.entries_run.specs.Steps.{name_at, entry_at, Inside, Room, StepFound, EntryStepped, EntryPassed, first_cursor, run_from, RunRead, EntriesRead, AllRead, Readable, run_of, RunAnswered, EntryPlaced, SeekAnswered}
 
 -- ---- one entry more
@@ -55,10 +56,10 @@ module _ (w : ℕ) (v n : ℕ) (k : Key) (p : ℕ) (s : List ℕ) (more : 0 < n)
 
 -- a step from the cursor c, of which n entries are left
 module _ (w : ℕ) (v : ℕ) (b work : List ℕ) (c : Cursor) (work' : List ℕ) (n : ℕ) (more : 0 < n) where
-  pub entries-bad : (m : ℕ) → EntryStepped w v b work c work' (N.Bad m) → run_from w v n b work c ≡ bad m c.at
-  entries-bad m t = run-refused w v n _ c.at _ more m (t.same c.at)
+  pub entries-bad : (r : Refusal) → EntryStepped w v b work c work' (Err r) → run_from w v n b work c ≡ bad (number_of r) c.at
+  entries-bad r t = run-refused w v n _ c.at _ more (number_of r) (t.same c.at)
 
-  pub entries-good : (st : Step) → EntryStepped w v b work c work' (N.Good st)
+  pub entries-good : (st : Step) → EntryStepped w v b work c work' (Ok st)
       → run_from w v n b work c ≡ in_front (entry_at w v b work' c.at st ∷ []) (st.next.at - c.at) (run_from w v (n - 1) b work' st.next)
   unfolding entry_of
   entries-good st t =
@@ -67,23 +68,23 @@ module _ (w : ℕ) (v : ℕ) (b work : List ℕ) (c : Cursor) (work' : List ℕ)
       run_on w v n _ c.at _ more _ _ (t.same c.at) ∙ rw (drop-drop (st.next.at - c.at) c.at b, here, ← f.stage)
 
   -- where the run was read, a step without tests is one with them
-  pub entries-again {ℓ} : {X : Type ℓ} (es : List Entry) (m : ℕ) (r : Next) → RunRead w v n b work c es m → EntryPassed w v b work c work' r → (EntryStepped w v b work c work' r → X) → X
+  pub entries-again {ℓ} : {X : Type ℓ} (es : List Entry) (m : ℕ) (r : Result Step Refusal) → RunRead w v n b work c es m → EntryPassed w v b work c work' r → (EntryStepped w v b work c work' r → X) → X
   entries-again es m r q t f = run-first-entry w v n _ c.at _ more es m q (λ e j is. f (t.same c.at e j is))
 
   -- and refuses nothing
-  pub entries-never {ℓ} : {X : Type ℓ} (es : List Entry) (m j : ℕ) → RunRead w v n b work c es m → EntryPassed w v b work c work' (N.Bad j) → X
-  entries-never es m j q t = entries-again es m (N.Bad j) q t (λ u. bad-good _ _ _ _ (sym (entries-bad j u) ∙ q))
+  pub entries-never {ℓ} : {X : Type ℓ} (es : List Entry) (m : ℕ) (j : Refusal) → RunRead w v n b work c es m → EntryPassed w v b work c work' (Err j) → X
+  entries-never es m j q t = entries-again es m (Err j) q t (λ u. bad-good _ _ _ _ (sym (entries-bad j u) ∙ q))
 
 -- entries that were read before
 module _ {w : ℕ} {v n : ℕ} {b work : List ℕ} {c : Cursor} {work' : List ℕ} (h : Readable w v n b work c) (more : 0 < n) where
-  pub readable-again : (r : Next) → EntryPassed w v b work c work' r → EntryStepped w v b work c work' r
+  pub readable-again : (r : Result Step Refusal) → EntryPassed w v b work c work' r → EntryStepped w v b work c work' r
   readable-again r t = entries-again w v b work c work' (n + h.more) (omega arith) h.entries h.taken r h.run t (λ u. u)
 
-  pub readable-never {ℓ} : {X : Type ℓ} (j : ℕ) → EntryPassed w v b work c work' (N.Bad j) → X
+  pub readable-never {ℓ} : {X : Type ℓ} (j : Refusal) → EntryPassed w v b work c work' (Err j) → X
   readable-never j t = entries-never w v b work c work' (n + h.more) (omega arith) h.entries h.taken j h.run t
 
   -- the others after the first
-  pub readable-next : {st : Step} → EntryStepped w v b work c work' (N.Good st) → Readable w v (n - 1) b work' st.next
+  pub readable-next : {st : Step} → EntryStepped w v b work c work' (Ok st) → Readable w v (n - 1) b work' st.next
   readable-next {st} t =
       let less : n + h.more - 1 ≡ n - 1 + h.more = omega arith in
       front-inv _ _ _ _ _ (sym (entries-good w v b work c work' (n + h.more) (omega arith) st t) ∙ h.run) λ gs k on parts sum.
@@ -109,7 +110,7 @@ pub begun_first : (v : ℕ) (b work : List ℕ) → Begun (name_at v b work 0 0)
 unfolding name_at
 begun_first v b work = rw (name_at-none v b work (eqb v 4)) begun-none
 
-pub begun-next : (w : ℕ) (v : ℕ) (b work : List ℕ) (c : Cursor) (work' : List ℕ) (st : Step) → EntryStepped w v b work c work' (N.Good st) → Begun (name_at v b work' st.next.start st.next.len)
+pub begun-next : (w : ℕ) (v : ℕ) (b work : List ℕ) (c : Cursor) (work' : List ℕ) (st : Step) → EntryStepped w v b work c work' (Ok st) → Begun (name_at v b work' st.next.start st.next.len)
 unfolding entry_of
 begun-next w v b work c work' st t = begun-name _ (entry_named w v _ c.at _ _ _ (t.same c.at))
 
@@ -165,13 +166,13 @@ module _ (w : ℕ) (v : ℕ) (b : List ℕ) where
 
     module _ (work' : List ℕ) where
       -- a step that refuses
-      walked-bad : (m : ℕ) → EntryStepped w v b work c work' (N.Bad m) → (count : ℕ) → length es < count
-          → read_entries w v count start 12 (drop 12 b) ≡ bad m c.at
+      walked-bad : (r : Refusal) → EntryStepped w v b work c work' (Err r) → (count : ℕ) → length es < count
+          → read_entries w v count start 12 (drop 12 b) ≡ bad (number_of r) c.at
       unfolding in_front
-      walked-bad m t count more = walked_on count (omega arith) ∙ rw (entries-bad w v b work c work' (count - length es) (omega arith) m t)
+      walked-bad r t count more = walked_on count (omega arith) ∙ rw (entries-bad w v b work c work' (count - length es) (omega arith) r t)
 
       -- a step over one entry more
-      module _ (st : Step) (t : EntryStepped w v b work c work' (N.Good st)) where
+      module _ (st : Step) (t : EntryStepped w v b work c work' (Ok st)) where
         walked_more : Walked w v b (es ++ (entry_at w v b work' c.at st ∷ [])) work' st.next
         walked_more =
             let f : StepFound w v b work c work' st = t.found st refl in
@@ -202,24 +203,25 @@ pub walking-first : (w : ℕ) (v : ℕ) (b work : List ℕ) → Room b work → 
 walking-first w v b work room = record { inside = inside-first b work room; frame = frame_same work; walked = walked-first w v b work }
 
 module _ {w : ℕ} {v : ℕ} {b work₀ : List ℕ} {es : List Entry} {work : List ℕ} {c : Cursor} (h : Walking w v b work₀ es work c) where
-  pub walking-more : {work' : List ℕ} {st : Step} → EntryStepped w v b work c work' (N.Good st)
+  pub walking-more : {work' : List ℕ} {st : Step} → EntryStepped w v b work c work' (Ok st)
       → Walking w v b work₀ (es ++ (entry_at w v b work' c.at st ∷ [])) work' st.next
   walking-more {work'} {st} t =
       record { inside = (t.found st refl).next; frame = frame_then h.frame t.frame; walked = walked_more w v b es work c h.walked work' st t }
 
   module _ {count : ℕ} where
-    pub ran-bad : {work' : List ℕ} {n : ℕ} → length es < count → EntryStepped w v b work c work' (N.Bad n) → RunAnswered w v b work₀ count work' (R.Bad n c.at)
-    ran-bad {work'} {n} more t =
+    pub ran-bad : {work' : List ℕ} (r : Refusal) (f : Fault) → f.refusal ≡ r → f.place ≡ c.at → length es < count → EntryStepped w v b work c work' (Err r)
+        → RunAnswered w v b work₀ count work' (Err f)
+    ran-bad {work'} r f is there more t =
         record {
-          same = sym (ap run_of (walked-bad w v b es work c h.walked work' n t count more));
+          same = rw (is, there) (sym (ap run_of (walked-bad w v b es work c h.walked work' r t count more)));
           inside = zero-le;
           frame = frame_then h.frame t.frame;
         }
 
-    pub ran-good : length es ≡ count → RunAnswered w v b work₀ count work (R.Good c.at)
+    pub ran-good : length es ≡ count → RunAnswered w v b work₀ count work (Ok c.at)
     ran-good all =
         let end : 12 + (c.at - 12) ≡ c.at = omega (arith, h.walked.after) in
-        record { same = sym (ap run_of (rw all at (walked_end w v b es work c h.walked)) ∙ ap R.Good end); inside = h.inside.inside; frame = h.frame }
+        record { same = sym (ap run_of (rw all at (walked_end w v b es work c h.walked)) ∙ ap Ok end); inside = h.inside.inside; frame = h.frame }
 
 -- ---- what callers read from answers
 
@@ -242,43 +244,43 @@ module _ (w : ℕ) (v : ℕ) (b work : List ℕ) (at : ℕ) (st : Step) where
   unfolding entry_of
   entry_at-name = refl
 
-pub run_of-bad : (res : Read (List Entry)) (n p : ℕ) → R.Bad n p ≡ run_of res → res ≡ bad n p
-run_of-bad (bad m q) n p e = cc
-run_of-bad (good es m) n p e = let z : ◌≡◌ {A = ℕ} 0 1 = cc in absurd (omega arith)
+pub run_of-bad : (res : Read (List Entry)) (n p : ℕ) → denied n p ≡ run_of res → res ≡ bad n p
+run_of-bad (bad m q) n p e =
+    let is : record { number = n; place = p } ≡ record { number = m; place = q } = cc in
+    sym (ap (λ (x : Numbered). bad x.number x.place) is)
+run_of-bad (good es m) n p e = absurd (cc)
 
-pub run_of-good : {X : Type 0} (res : Read (List Entry)) (end : ℕ) → R.Good end ≡ run_of res → ((es : List Entry) (m : ℕ) → res ≡ good es m → end ≡ 12 + m → X) → X
-run_of-good (bad m q) end e f = let z : ◌≡◌ {A = ℕ} 0 1 = cc in absurd (omega arith)
+pub run_of-good : {X : Type 0} (res : Read (List Entry)) (end : ℕ) → Ok end ≡ run_of res → ((es : List Entry) (m : ℕ) → res ≡ good es m → end ≡ 12 + m → X) → X
+run_of-good (bad m q) end e f = absurd (cc)
 run_of-good (good es m) end e f = f es m refl (cc)
 
 -- ---- entry number k
 
-bad-sought : {X : Type 0} {n p at : ℕ} {st : Step} → S.Bad n p ≡ S.Good at st → X
-bad-sought e = let z : ◌≡◌ {A = ℕ} 0 1 = cc in absurd (omega arith)
+bad-sought : {X : Type 0} {f : Fault} {s : Sought} → Err f ≡ Ok s → X
+bad-sought e = absurd (cc)
 
-good-sought : (P : ℕ → Step → Type 0) (at at' : ℕ) (st st' : Step) → S.Good at st ≡ S.Good at' st' → P at st → P at' st'
-good-sought P at at' st st' q =
-    let there : at ≡ at' = cc in
-    let same : st ≡ st' = cc in subst₂ P there same
+good-sought : (P : Sought → Type 0) (s s' : Sought) → ◌≡◌ {A = Result Sought Fault} (Ok s) (Ok s') → P s → P s'
+good-sought P s s' q = let same : s ≡ s' = cc in subst P same
 
 module _ {w : ℕ} {v : ℕ} {b work₀ : List ℕ} {es : List Entry} {work : List ℕ} {c : Cursor} (h : Walking w v b work₀ es work c) {k : ℕ} {work' : List ℕ} where
-  pub sought-bad : {n p : ℕ} → length es ≤ k → EntryStepped w v b work c work' (N.Bad n) → SeekAnswered w v b work₀ k work' (S.Bad n p)
+  pub sought-bad : {r : Refusal} {f : Fault} → length es ≤ k → EntryStepped w v b work c work' (Err r) → SeekAnswered w v b work₀ k work' (Err f)
   sought-bad few t =
       record {
         entry = λ count all m e more. bad-good _ _ _ _ (sym (walked-bad w v b es work c h.walked work' _ t count (omega arith)) ∙ e);
-        placed = λ at st q. bad-sought q;
-        place = λ at st q. bad-sought q;
-        name = λ at st q. bad-sought q;
+        placed = λ s q. bad-sought q;
+        place = λ s q. bad-sought q;
+        name = λ s q. bad-sought q;
         frame = frame_then h.frame t.frame;
       }
 
-  pub sought-good : {st : Step} → length es ≡ k → EntryStepped w v b work c work' (N.Good st) → SeekAnswered w v b work₀ k work' (S.Good c.at st)
+  pub sought-good : {st : Step} → length es ≡ k → EntryStepped w v b work c work' (Ok st) → SeekAnswered w v b work₀ k work' (Ok (record { at = c.at; step = st }))
   sought-good {st} all_of t =
       let f : StepFound w v b work c work' st = t.found st refl in
       let parts : EntryPlaced w b c.at st = record { fixed = omega arith; name = omega arith; short = f.next.short; stage = f.stage } in
       record {
         entry = λ count all m e more. rw all_of at (walked-entry w v b es work c h.walked work' st t count all m e (omega arith));
-        placed = λ at other q. good-sought (EntryPlaced w b) _ at _ other q parts;
-        place = λ at other q. good-sought (λ a s. a ≡ entry_place w v k b) _ at _ other q (rw all_of at (walked-place w v b es work c h.walked));
-        name = λ at other q. good-sought (λ a s. eqb v 4 ≡ false → s.next.start ≡ name_place w a b) _ at _ other q (found_name w v b work c work' st f);
+        placed = λ other q. good-sought (λ s. EntryPlaced w b s.at s.step) _ other q parts;
+        place = λ other q. good-sought (λ s. s.at ≡ entry_place w v k b) _ other q (rw all_of at (walked-place w v b es work c h.walked));
+        name = λ other q. good-sought (λ s. eqb v 4 ≡ false → s.step.next.start ≡ name_place w s.at b) _ other q (found_name w v b work c work' st f);
         frame = frame_then h.frame t.frame;
       }

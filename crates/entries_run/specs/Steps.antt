@@ -1,9 +1,12 @@
 -- Where names are, and what a step over an entry leaves behind. w is the width of an object name.
-use Rattle.std.specs.Prelude.{◌≡◌, List, ◌++◌, Bool, true, false, cond, ℕ, ◌+◌, ◌-◌, ◌/◌, ◌%◌, ◌≤◌, ◌<◌, length, take, drop, eqb}
+use Rattle.std.specs.Prelude.{◌≡◌, List, Result, Ok, Err, ◌++◌, Bool, true, false, cond, ℕ, ◌+◌, ◌-◌, ◌/◌, ◌%◌, ◌≤◌, ◌<◌, length, take, drop, eqb}
 use Rattle.std.proofs.Math.Option.{Option, none, some}
 use Rattle.std.proofs.Math.ListN.{get_elem?}
 use Rattle.format.specs.Bytes.{be16}
 use Rattle.format.specs.Names.{compare, common, rises}
+use Rattle.format.specs.declared.Refusal.{Refusal}
+use Rattle.format.specs.declared.Fault.{Fault}
+use Rattle.format.specs.Refusals.{number_of, Numbered, denied, numbered, numbered_at}
 use Rattle.format.specs.Records.{Entry, Key, start}
 use Rattle.format.specs.Layout.{fixed_length}
 use Rattle.format.specs.Reading.{Read, bad, good, shift}
@@ -12,17 +15,10 @@ use Rattle.format.specs.Places.{entry_place, name_place}
 use Rattle.fields.specs.Begun.{Begun}
 use Rattle.fields.specs.Workspace.{Frame}
 use Rattle.entries.specs.declared.Head.{Head}
-use Rattle.entries.specs.declared.Fixed.{Fixed}
-use Rattle.entries.specs.declared.Fixed.TheVariants as F
 use Rattle.entries.specs.Answers.{read_head, fixed_of, head_length, Size, HeadPassed}
 use Rattle.entries_run.specs.declared.Cursor.{Cursor}
 use Rattle.entries_run.specs.declared.Step.{Step}
-use Rattle.entries_run.specs.declared.Next.{Next}
-use Rattle.entries_run.specs.declared.Next.TheVariants as N
-use Rattle.entries_run.specs.declared.Run.{Run}
-use Rattle.entries_run.specs.declared.Run.TheVariants as R
 use Rattle.entries_run.specs.declared.Sought.{Sought}
-use Rattle.entries_run.specs.declared.Sought.TheVariants as S
 use Rattle.entries_run.specs.declared.Standing.{Standing}
 
 -- ---- places
@@ -61,10 +57,10 @@ pub record HeadAt (b : List ℕ) (c : Cursor) (h : Head) : Type 0 where
   pub there : c.at + h.length ≤ length b
 
 -- what a function answers that reads these bytes at a place, whether they were read before or not
-pub record HeadRead (w : ℕ) (again : Bool) (v : ℕ) (b : List ℕ) (at : ℕ) (r : Fixed) : Type 0 where
-  pub first : again ≡ false → (p : ℕ) → r ≡ fixed_of (read_head w v p (drop at b))
+pub record HeadRead (w : ℕ) (again : Bool) (v : ℕ) (b : List ℕ) (at : ℕ) (r : Result Head Refusal) : Type 0 where
+  pub first : again ≡ false → (p : ℕ) → numbered r ≡ fixed_of (read_head w v p (drop at b))
   pub later : again ≡ true → HeadPassed w b at r
-  pub sized : (h : Head) → r ≡ F.Good h → Size w (drop at b) h
+  pub sized : (h : Head) → r ≡ Ok h → Size w (drop at b) h
   pub there : at + head_length r ≤ length b
 
 -- and the number N after them, in version 4
@@ -108,9 +104,9 @@ step_of h common at start len = record {
 }
 
 -- an answer as the reader gives it, for the entry at a place that the reader calls p
-abbrev pub read_of : ℕ → ℕ → List ℕ → List ℕ → ℕ → ℕ → Next → Read Entry
-read_of w v b work at p (N.Bad n) = bad n p
-read_of w v b work at p (N.Good st) = good (entry_at w v b work at st) (st.next.at - at)
+abbrev pub read_of : ℕ → ℕ → List ℕ → List ℕ → ℕ → ℕ → Result Step Refusal → Read Entry
+read_of w v b work at p (Err e) = bad (number_of e) p
+read_of w v b work at p (Ok st) = good (entry_at w v b work at st) (st.next.at - at)
 
 -- the parts of a step
 pub record StepFound (w : ℕ) (v : ℕ) (b work : List ℕ) (c : Cursor) (work' : List ℕ) (st : Step) : Type 0 where
@@ -124,22 +120,22 @@ pub record StepFound (w : ℕ) (v : ℕ) (b work : List ℕ) (c : Cursor) (work'
   pub common : st.common ≡ common (name_at v b work c.start c.len) (name_at v b work' st.next.start st.next.len)
 
 -- what a function leaves behind that reads an entry as read does, at each place: the answer r, and work', which was work
-pub record StepAnswered (w : ℕ) (read : ℕ → Read Entry) (v : ℕ) (b work : List ℕ) (c : Cursor) (work' : List ℕ) (r : Next) : Type 0 where
+pub record StepAnswered (w : ℕ) (read : ℕ → Read Entry) (v : ℕ) (b work : List ℕ) (c : Cursor) (work' : List ℕ) (r : Result Step Refusal) : Type 0 where
   pub same : (p : ℕ) → read p ≡ read_of w v b work' c.at p r
-  pub found : (st : Step) → r ≡ N.Good st → StepFound w v b work c work' st
+  pub found : (st : Step) → r ≡ Ok st → StepFound w v b work c work' st
   pub frame : Frame work work'
   pub plain : eqb v 4 ≡ false → work' ≡ work
 
 -- what a function leaves behind that passes an entry, which was read before, without its tests: where read reads one, what StepAnswered w says;
 -- in any case a place in the body
-pub record StepRepeated (w : ℕ) (read : ℕ → Read Entry) (v : ℕ) (b work : List ℕ) (c : Cursor) (work' : List ℕ) (r : Next) : Type 0 where
+pub record StepRepeated (w : ℕ) (read : ℕ → Read Entry) (v : ℕ) (b work : List ℕ) (c : Cursor) (work' : List ℕ) (r : Result Step Refusal) : Type 0 where
   pub same : (p : ℕ) (e : Entry) (m : ℕ) → read p ≡ good e m → StepAnswered w read v b work c work' r
-  pub inside : (st : Step) → r ≡ N.Good st → Inside b st.next
-  pub common : (st : Step) → r ≡ N.Good st → st.common ≤ st.next.len
+  pub inside : (st : Step) → r ≡ Ok st → Inside b st.next
+  pub common : (st : Step) → r ≡ Ok st → st.common ≤ st.next.len
   pub frame : Frame work work'
 
 -- the one or the other, whether the entry was read before or not
-pub record StepTested (w : ℕ) (again : Bool) (read : ℕ → Read Entry) (v : ℕ) (b work : List ℕ) (c : Cursor) (work' : List ℕ) (r : Next) : Type 0 where
+pub record StepTested (w : ℕ) (again : Bool) (read : ℕ → Read Entry) (v : ℕ) (b work : List ℕ) (c : Cursor) (work' : List ℕ) (r : Result Step Refusal) : Type 0 where
   pub first : again ≡ false → StepAnswered w read v b work c work' r
   pub later : StepRepeated w read v b work c work' r
 
@@ -148,11 +144,11 @@ unfoldable pub read_rest : ℕ → ℕ → List ℕ → List ℕ → Cursor → 
 read_rest w v b work c h p = shift h.length (read_tail w v (key_at v b work c) p h.length h.flags h.word (drop c.at b))
 
 -- a step over the entry at a cursor
-abbrev pub EntryStepped : ℕ → ℕ → List ℕ → List ℕ → Cursor → List ℕ → Next → Type 0
+abbrev pub EntryStepped : ℕ → ℕ → List ℕ → List ℕ → Cursor → List ℕ → Result Step Refusal → Type 0
 EntryStepped w v b work c work' r = StepAnswered w (λ p. read_entry w v (key_at v b work c) p (drop c.at b)) v b work c work' r
 
 -- the same over an entry that was read before
-abbrev pub EntryPassed : ℕ → ℕ → List ℕ → List ℕ → Cursor → List ℕ → Next → Type 0
+abbrev pub EntryPassed : ℕ → ℕ → List ℕ → List ℕ → Cursor → List ℕ → Result Step Refusal → Type 0
 EntryPassed w v b work c work' r = StepRepeated w (λ p. read_entry w v (key_at v b work c) p (drop c.at b)) v b work c work' r
 
 -- ---- the run
@@ -188,28 +184,28 @@ pub record Readable (w : ℕ) (v n : ℕ) (b work : List ℕ) (c : Cursor) : Typ
   pub taken : ℕ
   pub run : RunRead w v (n + more) b work c entries taken
 
--- the answer as the code gives it
-abbrev pub run_of : Read (List Entry) → Run
-run_of (bad n p) = R.Bad n p
-run_of (good es m) = R.Good (12 + m)
+-- where entries end, or the refusal's number and place
+abbrev pub run_of : Read (List Entry) → Result ℕ Numbered
+run_of (bad n p) = denied n p
+run_of (good es m) = Ok (12 + m)
 
 -- the end, 0 of a refusal
-abbrev pub end_of : Run → ℕ
-end_of (R.Bad n p) = 0
-end_of (R.Good e) = e
+abbrev pub end_of : Result ℕ Fault → ℕ
+end_of (Ok e) = e
+end_of (Err f) = 0
 
 -- what the run of count entries leaves behind
-pub record RunAnswered (w : ℕ) (v : ℕ) (b work : List ℕ) (count : ℕ) (work' : List ℕ) (r : Run) : Type 0 where
-  pub same : r ≡ run_of (read_entries w v count start 12 (drop 12 b))
+pub record RunAnswered (w : ℕ) (v : ℕ) (b work : List ℕ) (count : ℕ) (work' : List ℕ) (r : Result ℕ Fault) : Type 0 where
+  pub same : numbered_at r ≡ run_of (read_entries w v count start 12 (drop 12 b))
   pub inside : end_of r ≤ length b
   pub frame : Frame work work'
 
 -- ---- entry number k
 
 -- the entry that was sought
-abbrev pub sought_in : ℕ → ℕ → List ℕ → List ℕ → Sought → Option Entry
-sought_in w v b work (S.Bad n p) = none
-sought_in w v b work (S.Good at st) = some (entry_at w v b work at st)
+abbrev pub sought_in : ℕ → ℕ → List ℕ → List ℕ → Result Sought Fault → Option Entry
+sought_in w v b work (Ok s) = some (entry_at w v b work s.at s.step)
+sought_in w v b work (Err f) = none
 
 -- where the parts of the entry at a place are
 pub record EntryPlaced (w : ℕ) (b : List ℕ) (at : ℕ) (st : Step) : Type 0 where
@@ -219,9 +215,9 @@ pub record EntryPlaced (w : ℕ) (b : List ℕ) (at : ℕ) (st : Step) : Type 0 
   pub stage : st.next.stage ≡ st.flags / 4096 % 4
 
 -- of a body with more than k entries, entry k was found: its place and, in versions 2 and 3, that of its name
-pub record SeekAnswered (w : ℕ) (v : ℕ) (b work : List ℕ) (k : ℕ) (work' : List ℕ) (r : Sought) : Type 0 where
+pub record SeekAnswered (w : ℕ) (v : ℕ) (b work : List ℕ) (k : ℕ) (work' : List ℕ) (r : Result Sought Fault) : Type 0 where
   pub entry : (count : ℕ) (es : List Entry) (m : ℕ) → EntriesRead w v count b es m → k < count → get_elem? es k ≡ sought_in w v b work' r
-  pub placed : (at : ℕ) (st : Step) → r ≡ S.Good at st → EntryPlaced w b at st
-  pub place : (at : ℕ) (st : Step) → r ≡ S.Good at st → at ≡ entry_place w v k b
-  pub name : (at : ℕ) (st : Step) → r ≡ S.Good at st → eqb v 4 ≡ false → st.next.start ≡ name_place w at b
+  pub placed : (s : Sought) → r ≡ Ok s → EntryPlaced w b s.at s.step
+  pub place : (s : Sought) → r ≡ Ok s → s.at ≡ entry_place w v k b
+  pub name : (s : Sought) → r ≡ Ok s → eqb v 4 ≡ false → s.step.next.start ≡ name_place w s.at b
   pub frame : Frame work work'

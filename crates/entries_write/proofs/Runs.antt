@@ -6,6 +6,7 @@ use Prim.Native.Nat.{ℕ, ◌+◌, ◌-◌, ◌*◌, ◌≤◌, ◌<◌}
 use native.Mathlib.Omega.{arith}
 use lib.ListN.{length, take, drop, length-append}
 use lib.Seq.{take_at, drop_at}
+use Rattle.std.specs.Prelude.{Ok}
 use Rattle.format.specs.Records.{Entry}
 use Rattle.format.specs.Reader.{is_set, entry_of}
 use Rattle.format.specs.Writer.{needs_word, write_entry, write_entries}
@@ -17,7 +18,6 @@ use Rattle.output.specs.Output.{Wrote}
 use Rattle.output.proofs.Laws.{wrote_nothing, wrote_then}
 use Rattle.entries_run.specs.declared.Cursor.{Cursor}
 use Rattle.entries_run.specs.declared.Step.{Step}
-use Rattle.entries_run.specs.declared.Next.TheVariants as N
 use Rattle.entries_run.specs.Steps.{key_at, entry_at, Inside, EntryStepped, RunRead, Readable}
 use Rattle.entries_run.proofs.Steps.{entries-good}
 use Rattle.entries_write.specs.Parts.{EntryWritten, last_name, EntriesWritten}
@@ -90,7 +90,7 @@ module _ {w : ℕ} {v : ℕ} {b work₀ : List ℕ} {c₀ : Cursor} {n version :
 
   module _ (more : 0 < left) {work' : List ℕ} where
     -- the next one is read
-    module _ {st : Step} (t : EntryStepped w v b work c work' (N.Good st)) (room : 8192 ≤ length work) where
+    module _ {st : Step} (t : EntryStepped w v b work c work' (Ok st)) (room : 8192 ≤ length work) where
       abbrev entry : Entry
       entry = entry_at w v b work' c.at st
 

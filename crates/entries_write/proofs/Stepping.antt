@@ -4,17 +4,17 @@ use mathlib.Core.List.{List}
 use Prim.Native.Nat.{ℕ, ◌≤◌}
 use native.Mathlib.Omega.{arith}
 use lib.ListN.{length}
+use Rattle.std.specs.Prelude.{Ok}
 use Rattle.format.specs.Records.{Entry}
 use Rattle.format_laws.proofs.Names.{common-le}
 use Rattle.entries_run.specs.declared.Cursor.{Cursor}
 use Rattle.entries_run.specs.declared.Step.{Step}
-use Rattle.entries_run.specs.declared.Next.TheVariants as N
 use Rattle.entries_run.specs.Steps.{name_at, key_at, entry_at, Inside, StepFound, EntryStepped}
 use Rattle.entries_run.proofs.Names.{name_at-length}
 use Rattle.entries_run.proofs.Steps.{entry_at-name}
 use Rattle.entries_write.specs.Parts.{PrefixKept, Beside, StepRead}
 
-module _ {w : ℕ} {v : ℕ} {b work : List ℕ} {c : Cursor} {work' : List ℕ} {st : Step} (t : EntryStepped w v b work c work' (N.Good st)) where
+module _ {w : ℕ} {v : ℕ} {b work : List ℕ} {c : Cursor} {work' : List ℕ} {st : Step} (t : EntryStepped w v b work c work' (Ok st)) where
   abbrev entry : Entry
   entry = entry_at w v b work' c.at st
 

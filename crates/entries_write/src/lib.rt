@@ -10,7 +10,7 @@ ghost use Rattle.output.specs.Output.{Wrote};
 ghost use Rattle.entries_run.specs.Steps.{name_at, entry_at, Inside, Readable};
 ghost use Rattle.entries_write.specs.Parts.{PrefixKept, NameWritten, RestWritten, entry_by, EntryWritten, StepRead, EntriesWritten};
 
-use entries_run::{Cursor, Next, Step};
+use entries_run::{Cursor, Step};
 
 // How far writing is: the cursor in the body, the place in the output, and whether an entry so far needs the extended word.
 #[derive(Clone, Copy)]
@@ -198,26 +198,19 @@ pub fn put_entries(
     let mut cursor = c;
     let mut end = at;
     let mut extended = false;
-    let mut left = n;
-    while 0 < left {
-        let g = entries_run::pass_entry(b, v, &mut *work, cursor, w);
-        match g {
-            Next::Bad(_) => {
-                return Progress {
-                    cursor: cursor,
-                    at: end,
-                    extended: extended,
-                };
-            }
-            Next::Good(st) => {
-                end = put_read(
-                    b, v, &*work, cursor.at, st, version, cursor.len, st.common, &mut *out, end, w,
-                );
-                extended = either(extended, st.word);
-                cursor = st.next;
-            }
-        }
-        left -= 1;
+    for _ in 0..n {
+        let Ok(st) = entries_run::pass_entry(b, v, &mut *work, cursor, w) else {
+            return Progress {
+                cursor: cursor,
+                at: end,
+                extended: extended,
+            };
+        };
+        end = put_read(
+            b, v, &*work, cursor.at, st, version, cursor.len, st.common, &mut *out, end, w,
+        );
+        extended = either(extended, st.word);
+        cursor = st.next;
     }
     Progress {
         cursor: cursor,

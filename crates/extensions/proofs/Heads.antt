@@ -1,7 +1,7 @@
 -- The tests of an extension's head, one after another.
 use mathlib.Core.Path.{◌≡◌, sym, ◌∙◌}
 use mathlib.Core.List.{List}
-use mathlib.Core.Bool.{Bool, true, false}
+use mathlib.Core.Bool.{Bool, true, false, ◌&&◌}
 use Prim.Native.Nat.{ℕ, ◌+◌, ◌-◌, ◌≤◌, ◌<◌}
 use native.Mathlib.Omega.{arith}
 use lib.ListN.{length, take, drop, get_or, length-drop}
@@ -44,21 +44,17 @@ module _ (w : ℕ) (b : List ℕ) (at : ℕ) (inside : at ≤ length b) (ns : Li
       first_byte : get_or (drop at b) 0 0 ≡ get_or b at 0
       first_byte = let e : at + 0 ≡ at = omega arith in get_or-drop at b 0 0 ∙ rw e
 
-      pub head-low : get_or b at 0 < 65 → read_extension w ns k at (drop at b) ≡ bad 13 at
+      pub head-unknown : (leb 65 (get_or b at 0) && leb (get_or b at 0) 90) ≡ false → read_extension w ns k at (drop at b) ≡ bad 13 at
       unfolding read_extension need optional
-      head-low h = rw (eight, size_is, whole, first_byte, lt-leb 65 (get_or b at 0) h)
+      head-unknown h = rw (eight, size_is, whole, first_byte, h)
 
-      pub head-high : 65 ≤ get_or b at 0 → 90 < get_or b at 0 → read_extension w ns k at (drop at b) ≡ bad 13 at
-      unfolding read_extension need optional
-      head-high h i = rw (eight, size_is, whole, first_byte, le-leb 65 (get_or b at 0) h, lt-leb (get_or b at 0) 90 i)
-
-      module _ (low : 65 ≤ get_or b at 0) (high : get_or b at 0 ≤ 90) (end : ℕ) (ends : end ≡ at + 4 + 4 + size) where
+      module _ (letter : (leb 65 (get_or b at 0) && leb (get_or b at 0) 90) ≡ true) (end : ℕ) (ends : end ≡ at + 4 + 4 + size) where
         data_is : take size (drop 8 (drop at b)) ≡ part b (at + 8) end
         data_is = let e : end - (at + 8) ≡ size = omega arith in rw (e, drop-drop 8 at b)
 
         read-rest : read_extension w ns k at (drop at b) ≡ shift 8 (read_data w ns k at (take 4 (drop at b)) (part b (at + 8) end))
         unfolding read_extension need optional
-        read-rest = rw (eight, size_is, whole, first_byte, le-leb 65 (get_or b at 0) low, le-leb (get_or b at 0) 90 high, data_is)
+        read-rest = rw (eight, size_is, whole, first_byte, letter, data_is)
 
         pub head-tree : eq_list (take 4 (drop at b)) TREE ≡ true
             → read_extension w ns k at (drop at b) ≡ known k.cache_tree at (read_tree w ns at (part b (at + 8) end)) cache_tree

@@ -2,6 +2,7 @@
 pub mod Faults
 pub mod Heads
 pub mod Known
+pub mod Mapped
 pub mod Places
 pub mod Runs
 pub mod Trees

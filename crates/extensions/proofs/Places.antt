@@ -1,7 +1,7 @@
 -- Where the data of the first extension with the signature x are: what a loop over the extensions knows of it.
 use mathlib.Core.Path.{◌≡◌, sym, ◌∙◌}
 use mathlib.Core.List.{List}
-use mathlib.Core.Bool.{Bool, true, false, cond}
+use mathlib.Core.Bool.{cond}
 use Prim.Native.Nat.{ℕ, suc, ◌+◌, ◌-◌, ◌≤◌}
 use native.Mathlib.Omega.{arith}
 use lib.ListN.{length, take, drop, length-drop}
@@ -9,24 +9,32 @@ use lib.Seq.{drop-drop}
 use Rattle.format.specs.Bytes.{be32, eq_list}
 use Rattle.format.specs.Places.{data_from, data_place}
 use Rattle.format_laws.proofs.Numbers.{be32-drop}
+use Rattle.std.specs.Prelude as Code
+use Rattle.std.specs.Prelude.{Some, None, IfSome}
+use Rattle.extensions.specs.declared.Place.{Place}
 use Rattle.extensions.specs.Heads.{Inside}
 
--- some extensions, from at to place, have been passed; where one with the signature is among them, its data are at d
-pub record Seeks (x b : List ℕ) (at place : ℕ) (there : Bool) (d : ℕ) : Type 0 where
+-- where the data begin that were found, else the place n
+abbrev pub start_or : Code.Option Place → ℕ → ℕ
+start_or None n = n
+start_or (Some f) n = f.at
+
+-- some extensions, from at to place, have been passed; where one with the signature is among them, its data were found
+pub record Seeks (x b : List ℕ) (at place : ℕ) (f : Code.Option Place) : Type 0 where
   pub passed : ℕ
   pub few : at + passed ≤ place
-  pub same : (fuel : ℕ) → data_from x (passed + fuel) at (drop at b) ≡ cond there d (data_from x fuel place (drop place b))
+  pub same : (fuel : ℕ) → data_from x (passed + fuel) at (drop at b) ≡ start_or f (data_from x fuel place (drop place b))
 
 module _ (x b : List ℕ) (at : ℕ) where
-  pub seeks-none : (d : ℕ) → Seeks x b at at false d
-  seeks-none d = record { passed = 0; few = omega arith; same = λ fuel. let all : 0 + fuel ≡ fuel = omega arith in rw all }
+  pub seeks-none : Seeks x b at at None
+  seeks-none = record { passed = 0; few = omega arith; same = λ fuel. let all : 0 + fuel ≡ fuel = omega arith in rw all }
 
-  module _ (place : ℕ) (there : Bool) (d : ℕ) (h : Seeks x b at place there d) where
+  module _ (place : ℕ) (f : Code.Option Place) (h : Seeks x b at place f) where
     -- one extension more
-    pub seeks-more : (next : ℕ) (there' : Bool) (d' : ℕ) → Inside b place next
-        → ((rest : ℕ) → cond there d (cond (eq_list (take 4 (drop place b)) x) (place + 8) rest) ≡ cond there' d' rest) → Seeks x b at next there' d'
+    pub seeks-more : (next : ℕ) (f' : Code.Option Place) → Inside b place next
+        → ((rest : ℕ) → start_or f (cond (eq_list (take 4 (drop place b)) x) (place + 8) rest) ≡ start_or f' rest) → Seeks x b at next f'
     unfolding data_from
-    seeks-more next there' d' inside kind =
+    seeks-more next f' inside kind =
         let size = be32-drop place b 4 in
         let next-is : place + (8 + be32 (drop place b) 4) ≡ next = omega arith in
         record {
@@ -38,9 +46,10 @@ module _ (x b : List ℕ) (at : ℕ) where
               rw more (h.same (suc fuel) ∙ rw (drop-drop (8 + be32 (drop place b) 4) place b, next-is) (kind (data_from x fuel next (drop next b))));
         }
 
-    pub seeks-end : place ≤ length b → there ≡ true → d ≡ data_place x at b
-    unfolding data_place
-    seeks-end inside found =
-        let l = length-drop at b in
-        let all : h.passed + (length (drop at b) - h.passed) ≡ length (drop at b) = omega arith in
-        sym (rw (all, found) at (h.same (length (drop at b) - h.passed)))
+  pub seeks-end : (place : ℕ) (f : Code.Option Place) → Seeks x b at place f → place ≤ length b → IfSome f (λ p. p.at ≡ data_place x at b)
+  unfolding data_place
+  seeks-end place None h inside = tt
+  seeks-end place (Some f) h inside =
+      let l = length-drop at b in
+      let all : h.passed + (length (drop at b) - h.passed) ≡ length (drop at b) = omega arith in
+      sym (rw all at (h.same (length (drop at b) - h.passed)))

@@ -1,7 +1,7 @@
 -- The extensions one after another: those that have been read are in front of the rest.
 use mathlib.Core.Path.{◌≡◌, refl, sym, ap, ◌∙◌}
 use mathlib.Core.List.{List, [], ◌∷◌, ◌++◌, append-nil}
-use mathlib.Core.Bool.{false}
+use mathlib.Core.Bool.{true}
 use mathlib.Core.Option.{Option, none, some}
 use Prim.Native.Nat.{ℕ, ◌+◌, ◌-◌, ◌≤◌, ◌<◌}
 use native.Mathlib.Omega.{arith}
@@ -15,11 +15,14 @@ use Rattle.format.specs.Reader.{Seen, none_seen, also_seen, read_extension, firs
 use Rattle.format_laws.proofs.Tests.{false-true}
 use Rattle.format_laws.proofs.Readings.{none-some, in_front, front-none, front-one, front-front}
 use Rattle.spelling.proofs.Extensions.{extension-data, extensions_of, extensions_of-end, extensions_of-step}
+use Rattle.std.specs.Prelude as Code
+use Rattle.std.specs.Prelude.{Some, None, is_some, IfSome}
+use Rattle.extensions.specs.declared.Place.{Place}
 use Rattle.extensions.specs.declared.Found.{Found}
 use Rattle.extensions.specs.Heads.{Inside}
-use Rattle.extensions.specs.Found.{TreeFound, UndoFound, nothing, seen_of}
+use Rattle.extensions.specs.Found.{TreeFound, UndoFound, seen_of}
 use Rattle.extensions.specs.Steps.{Added}
-use Rattle.extensions.proofs.Places.{Seeks, seeks-none, seeks-more}
+use Rattle.extensions.proofs.Places.{start_or, Seeks, seeks-none, seeks-more}
 
 -- ---- the trees and the resolve-undo lists of two lists of extensions
 
@@ -43,48 +46,62 @@ first-last (b ∷ l) a e = none-some (sym e)
 
 -- ---- what was found, with one extension more
 
+module _ (w : ℕ) (b : List ℕ) where
+  tree-there : (t : Tree) (f : Code.Option Place) → TreeFound w b (some t) f → is_some f ≡ true
+  tree-there t None h = absurd h
+  tree-there t (Some f) h = refl
+
+  undo-there : (us : List Undo) (f : Code.Option Place) → UndoFound w b (some us) f → is_some f ≡ true
+  undo-there us None h = absurd h
+  undo-there us (Some f) h = refl
+
+  no-tree : (o : Option Tree) (f : Code.Option Place) → TreeFound w b o f → f ≡ None → o ≡ none
+  no-tree none f h e = refl
+  no-tree (some t) f h e = absurd (rw e at h)
+
+  no-undo : (o : Option (List Undo)) (f : Code.Option Place) → UndoFound w b o f → f ≡ None → o ≡ none
+  no-undo none f h e = refl
+  no-undo (some us) f h e = absurd (rw e at h)
+
+  -- the place of what was found
+  at-place : (f : Code.Option Place) (n m : ℕ) → is_some f ≡ true → IfSome f (λ p. p.at ≡ n) → n ≡ start_or f m
+  at-place None n m e h = false-true e
+  at-place (Some f) n m e h = sym h
+
 module _ (w : ℕ) (b : List ℕ) (place : ℕ) (found f : Found) where
   seen-added : (e : Extension) → Added w b place found f e → seen_of f ≡ also_seen e (seen_of found)
-  seen-added (cache_tree t) (new, is, here, same) = rw (same, is.there)
-  seen-added (resolve_undo us) (new, is, here, same) = rw (same, is.there)
+  seen-added (cache_tree t) (new, is, here, same) = rw (same, tree-there w b t f.tree is)
+  seen-added (resolve_undo us) (new, is, here, same) = rw (same, undo-there w b us f.undo is)
   seen-added (other s d) same = rw same
-
-  no-tree : (o : Option Tree) → TreeFound w b o found.tree → found.tree.there ≡ false → o ≡ none
-  no-tree none h e = refl
-  no-tree (some t) h e = false-true (sym e ∙ h.there)
-
-  no-undo : (o : Option (List Undo)) → UndoFound w b o found.undo → found.undo.there ≡ false → o ≡ none
-  no-undo none h e = refl
-  no-undo (some us) h e = false-true (sym e ∙ h.there)
 
   module _ (xs : List Extension) where
     tree-found : (e : Extension) → TreeFound w b (first (trees xs)) found.tree → Added w b place found f e → TreeFound w b (first (trees (xs ++ (e ∷ [])))) f.tree
     unfolding trees
-    tree-found (cache_tree t) h (new, is, here, same) = rw (trees-append xs (cache_tree t ∷ []), first-last (trees xs) t (no-tree (first (trees xs)) h new)) is
+    tree-found (cache_tree t) h (new, is, here, same) = rw (trees-append xs (cache_tree t ∷ []), first-last (trees xs) t (no-tree w b (first (trees xs)) found.tree h new)) is
     tree-found (resolve_undo us) h (new, is, here, same) = rw (trees-append xs (resolve_undo us ∷ []), append-nil (trees xs), same) h
     tree-found (other s d) h same = rw (trees-append xs (other s d ∷ []), append-nil (trees xs), same) h
 
     undo-found : (e : Extension) → UndoFound w b (first (undos xs)) found.undo → Added w b place found f e → UndoFound w b (first (undos (xs ++ (e ∷ [])))) f.undo
     unfolding undos
     undo-found (cache_tree t) h (new, is, here, same) = rw (undos-append xs (cache_tree t ∷ []), append-nil (undos xs), same) h
-    undo-found (resolve_undo us) h (new, is, here, same) = rw (undos-append xs (resolve_undo us ∷ []), first-last (undos xs) us (no-undo (first (undos xs)) h new)) is
+    undo-found (resolve_undo us) h (new, is, here, same) = rw (undos-append xs (resolve_undo us ∷ []), first-last (undos xs) us (no-undo w b (first (undos xs)) found.undo h new)) is
     undo-found (other s d) h same = rw (undos-append xs (other s d ∷ []), append-nil (undos xs), same) h
 
   -- the signature in front tells the kind; ns and d are any
   module _ (ns : List (List ℕ)) (d : List ℕ) (at next : ℕ) (inside : Inside b place next) where
     tree-sought : (e : Extension) → Says w ns e (take 4 (drop place b)) d → Added w b place found f e
-        → Seeks TREE b at place found.tree.there found.tree.at → Seeks TREE b at next f.tree.there f.tree.at
+        → Seeks TREE b at place found.tree → Seeks TREE b at next f.tree
     unfolding eq_list
-    tree-sought (cache_tree t) says (new, is, here, same) h = seeks-more TREE b at place _ _ h next _ _ inside λ rest. rw (new, says.0, is.there, here)
-    tree-sought (resolve_undo us) says (new, is, here, same) h = seeks-more TREE b at place _ _ h next _ _ inside λ rest. rw (says.0, same)
-    tree-sought (other s c) says same h = seeks-more TREE b at place _ _ h next _ _ inside λ rest. rw (says.4, same)
+    tree-sought (cache_tree t) says (new, is, here, same) h = seeks-more TREE b at place _ h next _ inside λ rest. rw (new, says.0) (at-place w b f.tree _ rest (tree-there w b t f.tree is) here)
+    tree-sought (resolve_undo us) says (new, is, here, same) h = seeks-more TREE b at place _ h next _ inside λ rest. rw (says.0, same)
+    tree-sought (other s c) says same h = seeks-more TREE b at place _ h next _ inside λ rest. rw (says.4, same)
 
     undo-sought : (e : Extension) → Says w ns e (take 4 (drop place b)) d → Added w b place found f e
-        → Seeks REUC b at place found.undo.there found.undo.at → Seeks REUC b at next f.undo.there f.undo.at
+        → Seeks REUC b at place found.undo → Seeks REUC b at next f.undo
     unfolding eq_list
-    undo-sought (cache_tree t) says (new, is, here, same) h = seeks-more REUC b at place _ _ h next _ _ inside λ rest. rw (says.0, same)
-    undo-sought (resolve_undo us) says (new, is, here, same) h = seeks-more REUC b at place _ _ h next _ _ inside λ rest. rw (new, says.0, is.there, here)
-    undo-sought (other s c) says same h = seeks-more REUC b at place _ _ h next _ _ inside λ rest. rw (says.5, same)
+    undo-sought (cache_tree t) says (new, is, here, same) h = seeks-more REUC b at place _ h next _ inside λ rest. rw (says.0, same)
+    undo-sought (resolve_undo us) says (new, is, here, same) h = seeks-more REUC b at place _ h next _ inside λ rest. rw (new, says.0) (at-place w b f.undo _ rest (undo-there w b us f.undo is) here)
+    undo-sought (other s c) says same h = seeks-more REUC b at place _ h next _ inside λ rest. rw (says.5, same)
 
 -- ---- one reading after another
 
@@ -107,11 +124,11 @@ pub record Behind (w : ℕ) (b : List ℕ) (ns : List (List ℕ)) (at place : �
   pub whole : extensions_of w ns none_seen at (drop at b) ≡ in_front list (place - at) (extensions_of w ns (seen_of found) place (drop place b))
   pub tree : TreeFound w b (first (trees list)) found.tree
   pub undo : UndoFound w b (first (undos list)) found.undo
-  pub tree_at : Seeks TREE b at place found.tree.there found.tree.at
-  pub undo_at : Seeks REUC b at place found.undo.there found.undo.at
+  pub tree_at : Seeks TREE b at place found.tree
+  pub undo_at : Seeks REUC b at place found.undo
 
 module _ (w : ℕ) (b : List ℕ) (ns : List (List ℕ)) (at : ℕ) where
-  pub behind-none : Behind w b ns at at nothing
+  pub behind-none : Behind w b ns at at (record { tree = None; undo = None })
   unfolding trees undos
   behind-none =
       let none : at - at ≡ 0 = omega arith in
@@ -119,10 +136,10 @@ module _ (w : ℕ) (b : List ℕ) (ns : List (List ℕ)) (at : ℕ) where
         list = [];
         order = omega arith;
         whole = rw none (sym (front-none _));
-        tree = refl;
-        undo = refl;
-        tree_at = seeks-none TREE b at 0;
-        undo_at = seeks-none REUC b at 0;
+        tree = tt;
+        undo = tt;
+        tree_at = seeks-none TREE b at;
+        undo_at = seeks-none REUC b at;
       }
 
   module _ (place : ℕ) (found : Found) (h : Behind w b ns at place found) where

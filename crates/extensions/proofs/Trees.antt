@@ -12,12 +12,11 @@ use Rattle.format.specs.Reading.{Read, bad, good, need, shift, bind}
 use Rattle.format.specs.Reader.{read_nodes, read_tree}
 use Rattle.format_laws.proofs.Lists.{part_length}
 use Rattle.format_laws.proofs.Readings.{good-inv, need-inv, bind_inv, same_size}
-use Rattle.cache_tree.specs.declared.TreeRead.TheVariants as T
 use Rattle.cache_tree.specs.Shape.{read_shape, tree_of, placed}
 use Rattle.cache_tree.proofs.Shape.{tree-counts}
 use Rattle.cache_tree.proofs.Faults.{shape-placed, tree-fault}
 use Rattle.extensions.specs.declared.Found.{Found}
-use Rattle.extensions.specs.declared.One.TheVariants as O
+use Rattle.std.specs.Prelude.{Ok, Some, None, is_some}
 use Rattle.extensions.specs.Heads.{part, known, Inside}
 use Rattle.extensions.specs.Steps.{OneAnswered}
 use Rattle.extensions.proofs.Known.{known-bad, known-good, data-sized}
@@ -34,7 +33,7 @@ shape-inv w d t m e f =
     let all : i ≡ length d = eqb-true _ _ whole in
     f (omega arith) (nodes ∙ cc) (rw is at differ)
 
-tree-inv {ℓ} : {X : Type ℓ} (n : ℕ) (r : Read Tree) → T.Good n ≡ tree_of r → ((t : Tree) (m : ℕ) → r ≡ good t m → n ≡ length (tree_items t) → X) → X
+tree-inv {ℓ} : {X : Type ℓ} (n : ℕ) (r : Read Tree) → Some n ≡ tree_of r → ((t : Tree) (m : ℕ) → r ≡ good t m → n ≡ length (tree_items t) → X) → X
 unfolding tree_of
 tree-inv n (bad a p) e f = let z : ◌≡◌ {A = ℕ} 0 1 = cc in absurd (omega arith)
 tree-inv n (good t m) e f = f t m refl (cc)
@@ -47,29 +46,29 @@ tree-read : (w : ℕ) (ns : List (List ℕ)) (p : ℕ) (d : List ℕ) (t : Tree)
 unfolding bind
 tree-read w ns p d t m e = tree-counts w ns p d ∙ rw (shape_at w p d t m e)
 
-module _ (w : ℕ) (b : List ℕ) (at end : ℕ) (inside : Inside b at end) (found : Found) (new : found.tree.there ≡ false) (ns : List (List ℕ)) where
-  pub tree-refused : ((p : ℕ) → T.Bad ≡ tree_of (read_shape w p (part b (at + 8) end)))
-      → known found.tree.there at (read_tree w ns at (part b (at + 8) end)) cache_tree ≡ bad 15 at
+module _ (w : ℕ) (b : List ℕ) (at end : ℕ) (inside : Inside b at end) (found : Found) (new : found.tree ≡ None) (ns : List (List ℕ)) where
+  pub tree-refused : ((p : ℕ) → None ≡ tree_of (read_shape w p (part b (at + 8) end)))
+      → known (is_some found.tree) at (read_tree w ns at (part b (at + 8) end)) cache_tree ≡ bad 15 at
   unfolding bind
   tree-refused e =
       let d : List ℕ = part b (at + 8) end in
-      known-bad at _ cache_tree _ new 15 (tree-counts w ns at d ∙ rw (tree-fault w at d (e at)))
+      known-bad at _ cache_tree _ (ap is_some new) 15 (tree-counts w ns at d ∙ rw (tree-fault w at d (e at)))
 
   -- counted is what the test of the counts says of the tree in the data
-  module _ (n : ℕ) (counted : Bool) (e : (p : ℕ) → T.Good n ≡ tree_of (read_shape w p (part b (at + 8) end)))
+  module _ (n : ℕ) (counted : Bool) (e : (p : ℕ) → Some n ≡ tree_of (read_shape w p (part b (at + 8) end)))
       (test : (t : Tree) (m : ℕ) → read_nodes w 0 (part b (at + 8) end) ≡ good t m → distinct t.subtrees ≡ true → counted ≡ ok_tree_counts ns t) where
-    pub tree-miscounted : counted ≡ false → known found.tree.there at (read_tree w ns at (part b (at + 8) end)) cache_tree ≡ bad 16 at
+    pub tree-miscounted : counted ≡ false → known (is_some found.tree) at (read_tree w ns at (part b (at + 8) end)) cache_tree ≡ bad 16 at
     unfolding shift need
     tree-miscounted wrong =
         let d : List ℕ = part b (at + 8) end in
         tree-inv n (read_shape w 0 d) (e 0) λ t m q number.
         shape-inv w d t m q λ size nodes differ.
         let miscounts : ok_tree_counts ns t ≡ false = sym (test t _ nodes differ) ∙ wrong in
-        known-bad at _ cache_tree _ new 16 (tree-read w ns at d t m q ∙ rw miscounts)
+        known-bad at _ cache_tree _ (ap is_some new) 16 (tree-read w ns at d t m q ∙ rw miscounts)
 
     pub tree-added : counted ≡ true
-        → OneAnswered w b at found (known found.tree.there at (read_tree w ns at (part b (at + 8) end)) cache_tree)
-        (O.Good end (record { tree = record { there = true; at = at + 8; end = end; nodes = n }; undo = found.undo }))
+        → OneAnswered w b at found (known (is_some found.tree) at (read_tree w ns at (part b (at + 8) end)) cache_tree)
+        (Ok (end, record { tree = Some (record { at = at + 8; end = end; count = n }); undo = found.undo }))
     unfolding shift need
     tree-added right =
         let d : List ℕ = part b (at + 8) end in
@@ -79,11 +78,10 @@ module _ (w : ℕ) (b : List ℕ) (at end : ℕ) (inside : Inside b at end) (fou
         let counts : ok_tree_counts ns t ≡ true = sym (test t _ nodes differ) ∙ right in
         let reads : read_tree w ns at d ≡ good t (m + 0) = tree-read w ns at d t m q ∙ rw counts in (
           cache_tree t,
-          known-good at _ cache_tree _ new t (m + 0) reads ∙ same_size (omega arith),
+          known-good at _ cache_tree _ (ap is_some new) t (m + 0) reads ∙ same_size (omega arith),
           (
             new,
             record {
-              there = refl;
               order = omega arith;
               inside = inside.1;
               sized = data-sized b at end inside;

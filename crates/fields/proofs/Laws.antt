@@ -1,16 +1,19 @@
 -- Laws of texts and names at a place of a list, and of the workspace.
 use mathlib.Core.Path.{◌≡◌, refl, sym, ap, ◌∙◌}
 use mathlib.Core.List.{List, [], ◌∷◌, ◌++◌, append_assoc}
-use mathlib.Core.Bool.{Bool, true, false, ◌&&◌, and-true}
-use Prim.Native.Nat.{ℕ, zero, suc, ◌+◌, ◌-◌, ◌*◌, ◌≤◌, ◌<◌}
-use native.Mathlib.Nat.{sub_self, add_assoc}
+use mathlib.Core.Bool.{Bool, true, false, cond, not, ◌&&◌, and-true}
+use Prim.Native.Nat.{ℕ, zero, suc, ◌+◌, ◌-◌, ◌*◌, ◌≤◌, ◌<◌, zero-le}
+use native.Mathlib.Nat.{add_assoc}
 use native.Mathlib.Numerals.{add-one, unary_clauses}
 use native.Mathlib.Omega.{arith}
-use lib.ListN.{length, get_or, take, drop, set, replicate, drop_of_length-le, length-append, length-drop, length-replicate, get_or-replicate, take-append-drop}
-use lib.Seq.{drop-cons, take_all, take-length, take-add, paste, paste-zero, paste-suc}
-use lib.Dec.{eqb, leb, ltb}
-use borrow.Author.Tests.{eq-eqb, ne_eqb, eqb-true, eqb-false, leb-true, leb-false, ltb-true, ltb-false, le-leb, lt-ltb, le-ltb}
-use Rattle.format.specs.declared.Order.TheVariants.{Below, Same, Above}
+use lib.ListN.{length, get_or, take, drop, drop_of_length-le, length-append, length-drop, take-append-drop}
+use lib.Seq.{drop-cons, take-length, take-add, paste}
+use lib.Dec.{eqb, ltb}
+use borrow.Author.Tests.{eq-eqb, ne_eqb, eqb-true, eqb-false, ltb-true, ltb-false, le-leb, lt-ltb, le-ltb}
+use Rattle.std.proofs.Common.{Less, Equal, Greater}
+use Rattle.std.specs.Prelude.{Option, Some, None}
+use Rattle.std.specs.Cmp.Lexicographic.{pointwise}
+use Rattle.std.specs.List.{list_all, position_or_len}
 use Rattle.format.specs.Bytes.{Bytes, eq_list, before, lacks, zeros}
 use Rattle.format.specs.Names.{components_from, components, ok_component, ok_components, ok_name, compare, common}
 use Rattle.format_laws.proofs.Tests.{by-test, clash, and-inv, else-inv, and-left-comm}
@@ -38,19 +41,6 @@ long-component c h =
 
 -- ---- texts, from a place on
 
-module _ (b : ℕ) (s : List ℕ) (i : ℕ) where
-  pub before-end : length s ≤ i → before b (drop i s) ≡ 0
-  unfolding before
-  before-end h = rw (drop_of_length-le s h)
-
-  pub before_here : i < length s → get_or s i 0 ≡ b → before b (drop i s) ≡ 0
-  unfolding before
-  before_here h e = rw (drop-cons s i 0 h, eq-eqb _ _ e)
-
-  pub before-later : i < length s → (get_or s i 0 ≡ b → ⊥) → before b (drop i s) ≡ before b (drop (i + 1) s) + 1
-  unfolding before
-  before-later h e = rw (drop-cons s i 0 h, ne_eqb _ _ e, add-one i) (sym (add-one _))
-
 module _ (b : ℕ) (s : List ℕ) (i e : ℕ) where
   pub lacks-end : e ≤ i → lacks b (take (e - i) (drop i s)) ≡ true
   unfolding lacks
@@ -60,32 +50,14 @@ module _ (b : ℕ) (s : List ℕ) (i e : ℕ) where
   unfolding lacks
   lacks-step inside within h = rw (part-cons s i e inside within, ne_eqb _ _ h)
 
-module _ (s : List ℕ) (i e : ℕ) where
-  pub zeros-end : e ≤ i → zeros (take (e - i) (drop i s)) ≡ true
-  unfolding zeros
-  zeros-end h = let z : e - i ≡ 0 = omega arith in rw z
-
-  module _ (inside : i < e) (within : e ≤ length s) where
-    pub zeros-step : get_or s i 0 ≡ 0 → zeros (take (e - i) (drop i s)) ≡ zeros (take (e - (i + 1)) (drop (i + 1) s))
-    unfolding zeros
-    zeros-step z = rw (part-cons s i e inside within, eq-eqb _ _ z)
-
-    pub zeros_differ : (get_or s i 0 ≡ 0 → ⊥) → zeros (take (e - i) (drop i s)) ≡ false
-    unfolding zeros
-    zeros_differ z = rw (part-cons s i e inside within, ne_eqb _ _ z)
-
 -- two texts, each from the place i on
 module _ (s t : List ℕ) (i : ℕ) where
   module _ (more : i < length s) (short : length t ≤ i) where
-    pub eq_list-short : eq_list (drop i s) (drop i t) ≡ false
-    unfolding eq_list
-    eq_list-short = rw (drop-cons s i 0 more, drop_of_length-le t short)
-
     pub common-short : common (drop i s) (drop i t) ≡ 0
     unfolding common
     common-short = rw (drop-cons s i 0 more, drop_of_length-le t short)
 
-    pub compare-short : compare (drop i s) (drop i t) ≡ Above
+    pub compare-short : compare (drop i s) (drop i t) ≡ Greater
     unfolding compare
     compare-short = rw (drop-cons s i 0 more, drop_of_length-le t short)
 
@@ -94,19 +66,11 @@ module _ (s t : List ℕ) (i : ℕ) where
     unfolding common
     common-end = rw (drop_of_length-le s end)
 
-    pub eq_list-long : i < length t → eq_list (drop i s) (drop i t) ≡ false
-    unfolding eq_list
-    eq_list-long l = rw (drop-cons t i 0 l, drop_of_length-le s end)
-
-    pub compare-long : i < length t → compare (drop i s) (drop i t) ≡ Below
+    pub compare-long : i < length t → compare (drop i s) (drop i t) ≡ Less
     unfolding compare
     compare-long l = rw (drop-cons t i 0 l, drop_of_length-le s end)
 
-    pub eq_list-end : length t ≤ i → eq_list (drop i s) (drop i t) ≡ true
-    unfolding eq_list
-    eq_list-end l = rw (drop_of_length-le s end, drop_of_length-le t l)
-
-    pub compare-end : length t ≤ i → compare (drop i s) (drop i t) ≡ Same
+    pub compare-end : length t ≤ i → compare (drop i s) (drop i t) ≡ Equal
     unfolding compare
     compare-end l = rw (drop_of_length-le s end, drop_of_length-le t l)
 
@@ -118,14 +82,6 @@ module _ (s t : List ℕ) (i : ℕ) where
       (λ e. common-end (ltb-false i (length s) e))
 
   module _ (more : i < length s) (also : i < length t) where
-    pub eq_list-step : get_or s i 0 ≡ get_or t i 0 → eq_list (drop i s) (drop i t) ≡ eq_list (drop (i + 1) s) (drop (i + 1) t)
-    unfolding eq_list
-    eq_list-step e = rw (drop-cons s i 0 more, drop-cons t i 0 also, eq-eqb _ _ e, add-one)
-
-    pub eq_list-differ : (get_or s i 0 ≡ get_or t i 0 → ⊥) → eq_list (drop i s) (drop i t) ≡ false
-    unfolding eq_list
-    eq_list-differ e = rw (drop-cons s i 0 more, drop-cons t i 0 also, ne_eqb _ _ e)
-
     pub common-step : get_or s i 0 ≡ get_or t i 0 → common (drop i s) (drop i t) ≡ common (drop (i + 1) s) (drop (i + 1) t) + 1
     unfolding common
     common-step e = rw (drop-cons s i 0 more, drop-cons t i 0 also, eq-eqb _ _ e, add-one i) (sym (add-one _))
@@ -134,30 +90,82 @@ module _ (s t : List ℕ) (i : ℕ) where
     unfolding common
     common-differ e = rw (drop-cons s i 0 more, drop-cons t i 0 also, ne_eqb _ _ e)
 
-    pub compare-below : get_or s i 0 < get_or t i 0 → compare (drop i s) (drop i t) ≡ Below
+    pub compare-below : get_or s i 0 < get_or t i 0 → compare (drop i s) (drop i t) ≡ Less
     unfolding compare
     compare-below e = rw (drop-cons s i 0 more, drop-cons t i 0 also, lt-ltb _ _ e)
 
-    pub compare-above : get_or t i 0 < get_or s i 0 → compare (drop i s) (drop i t) ≡ Above
+    pub compare-above : get_or t i 0 < get_or s i 0 → compare (drop i s) (drop i t) ≡ Greater
     unfolding compare
     compare-above e =
         let g : get_or t i 0 ≤ get_or s i 0 = omega arith in
         rw (drop-cons s i 0 more, drop-cons t i 0 also, le-ltb _ _ g, lt-ltb _ _ e)
 
-  eq_list-by : (b : Bool) → leb (length t) i ≡ b → length s ≤ i → b ≡ eq_list (drop i s) (drop i t)
-  eq_list-by true e h = sym (eq_list-end h (leb-true _ _ e))
-  eq_list-by false e h = sym (eq_list-long h (leb-false _ _ e))
+-- ---- the definitions of the format in the words of the library
 
-  pub eq_list-tail : length s ≤ i → leb (length t) i ≡ eq_list (drop i s) (drop i t)
-  eq_list-tail h = eq_list-by (leb (length t) i) refl h
+-- a test and the rest, both ways of writing it
+and-cond : (b c : Bool) → (b && c) ≡ cond b c false
+and-cond true c = refl
+and-cond false c = refl
+
+-- equality of slices
+pub eq_list-pointwise : (s t : List ℕ) → pointwise eqb s t ≡ eq_list s t
+unfolding eq_list
+eq_list-pointwise [] [] = refl
+eq_list-pointwise [] (y ∷ t) = refl
+eq_list-pointwise (x ∷ s) [] = refl
+eq_list-pointwise (x ∷ s) (y ∷ t) = and-cond (eqb x y) (pointwise eqb s t) ∙ ap (λ (r : Bool). cond (eqb x y) r false) (eq_list-pointwise s t)
+
+-- whether all bytes pass a test
+pub zeros-all : (s : List ℕ) → list_all (λ (x : ℕ). eqb x 0) s ≡ zeros s
+unfolding zeros
+zeros-all [] = refl
+zeros-all (x ∷ s) = ap (λ (r : Bool). eqb x 0 && r) (zeros-all s)
+
+-- where a byte is first
+cond-not : (b : Bool) (n : ℕ) → cond (not b) (1 + n) 0 ≡ cond b 0 (suc n)
+cond-not true n = refl
+cond-not false n = let e : 1 + n ≡ suc n = omega arith in e
+
+pub before-position : (b : ℕ) (s : List ℕ) → position_or_len (λ (x : ℕ). eqb x b) s ≡ before b s
+unfolding before
+before-position b [] = refl
+before-position b (x ∷ s) = cond-not (eqb x b) (position_or_len (λ (x : ℕ). eqb x b) s) ∙ ap (λ (n : ℕ). cond (eqb x b) 0 (suc n)) (before-position b s)
+
+pub before-within : (b : ℕ) (s : List ℕ) → before b s ≤ length s
+unfolding before
+before-within b [] = zero-le
+before-within b (x ∷ s) = by-test (eqb x b) (λ e. rw e zero-le) (λ e. rw e (let h = before-within b s in omega arith))
+
+-- what a search answers: a place, or none
+search-some : (t : Bool) (k p : ℕ) → Some k ≡ cond t (Some p) None → k ≡ p
+search-some true k p e = cc
+search-some false k p e = cc
+
+search-none : (t : Bool) (p : ℕ) → None ≡ cond t (Some p) None → t ≡ false
+search-none true p e = cc
+search-none false p e = refl
+
+module _ (b : ℕ) (s : List ℕ) where
+  abbrev found : Option ℕ
+  found =
+      let p = position_or_len (λ (x : ℕ). eqb x b) s in
+      cond (ltb p (length s)) (Some p) None
+
+  pub before-some : (k : ℕ) → Some k ≡ found → k ≡ before b s
+  before-some k e = search-some (ltb _ (length s)) k _ e ∙ before-position b s
+
+  pub before-none : None ≡ found → before b s ≡ length s
+  before-none e =
+      let past : length s ≤ position_or_len (λ (x : ℕ). eqb x b) s = ltb-false _ _ (search-none (ltb _ (length s)) _ e) in
+      omega (arith, before-position b s, before-within b s)
 
 -- ---- numbers of several bytes
 
--- four bytes, and the number of those after them
-pub little-four : (n : ℕ) (s : List ℕ) (a : ℕ)
-    → little (suc (suc (suc (suc n)))) s a ≡ get_or s a 0 + 256 * get_or s (a + 1) 0 + 65536 * get_or s (a + 2) 0 + 16777216 * get_or s (a + 3) 0 + 4294967296 * little n s (a + 4)
+-- the number of eight bytes
+pub little-eight : (s : List ℕ) (a : ℕ)
+    → little 8 s a ≡ get_or s a 0 + 256 * get_or s (a + 1) 0 + 65536 * get_or s (a + 2) 0 + 16777216 * get_or s (a + 3) 0 + 4294967296 * get_or s (a + 4) 0 + 1099511627776 * get_or s (a + 5) 0 + 281474976710656 * get_or s (a + 6) 0 + 72057594037927936 * get_or s (a + 7) 0
 unfolding little
-little-four n s a = simp add_assoc (omega arith)
+little-eight s a = simp add_assoc (omega arith)
 
 -- a number shows its low byte and what is above it
 low_byte : (a b x y : ℕ) → a < 256 → b < 256 → a + 256 * x ≡ b + 256 * y → (a ≡ b) × (x ≡ y)
@@ -179,31 +187,6 @@ common-many (suc n) s t i p q h l e =
 -- s, copied whole to a place of d
 pub copied : (d s : List ℕ) (at : ℕ) → paste d at s (length s) ≡ take at d ++ (s ++ drop (at + length s) d)
 copied d s at = rw (take-length, append_assoc)
-
--- a list that is zero from n to e, as far as i
-module _ (d : List ℕ) (n e : ℕ) where
-  pub fill_none : d ≡ paste d n (replicate (e - n) 0) (n - n)
-  fill_none = rw sub_self (paste-zero d n (replicate (e - n) 0))
-
-  pub fill_step : (i : ℕ) → n ≤ i → i < e → e ≤ length d → set (paste d n (replicate (e - n) 0) (i - n)) i 0 ≡ paste d n (replicate (e - n) 0) (i + 1 - n)
-  fill_step i h l w =
-      let z : List ℕ = replicate (e - n) 0 in
-      let m : i + 1 - n ≡ suc (i - n) = omega arith in
-      let at : n + (i - n) ≡ i = omega arith in
-      let b : i - n < e - n = omega arith in
-      let p : n + (i - n) < length d = omega arith in
-      let q : i - n < length z = simp length-replicate (omega arith) in
-      rw
-      m
-      (ap (λ (k : ℕ). set (paste d n z (i - n)) k 0) (sym at) ∙ ap (set (paste d n z (i - n)) (n + (i - n))) (sym (get_or-replicate {A = ℕ} (e - n) (i - n) 0 0 b))
-      ∙ paste-suc d n z (i - n) 0 p q)
-
-  pub fill-all : n ≤ e → paste d n (replicate (e - n) 0) (e - n) ≡ take n d ++ (replicate (e - n) 0 ++ drop e d)
-  fill-all h =
-      let z : List ℕ = replicate (e - n) 0 in
-      let at : n + (e - n) ≡ e = omega arith in
-      let q : length z ≤ e - n = simp length-replicate (omega arith) in
-      rw (take_all (e - n) z q, at, append_assoc)
 
 -- ---- names
 

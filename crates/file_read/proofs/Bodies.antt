@@ -5,6 +5,9 @@ use Prim.Native.Nat.{ℕ, ◌+◌, ◌-◌, ◌≤◌}
 use native.Mathlib.Omega.{arith}
 use lib.ListN.{length, drop}
 use lib.Seq.{drop-drop}
+use Rattle.std.specs.Prelude.{Ok, Err}
+use Rattle.format.specs.declared.Fault.{Fault}
+use Rattle.format.specs.Refusals.{number_of, numbered_at}
 use Rattle.format.specs.Bytes.{be32}
 use Rattle.format.specs.Records as F
 use Rattle.format.specs.Layout.{Extension, trees, undos, names}
@@ -12,11 +15,9 @@ use Rattle.format.specs.Checksum as M
 use Rattle.format.specs.Reading.{bad, good, shift, bind}
 use Rattle.format.specs.Reader.{Contents, none_seen, read_entries, read_extensions, read_body, first}
 use Rattle.answers.specs.Answers.{checksum_as}
-use Rattle.entries_run.specs.declared.Run.TheVariants as R
 use Rattle.entries_run.specs.Steps.{EntriesRead, run_of}
 use Rattle.entries_run.proofs.Steps.{entries-length, run_of-bad, run_of-good}
 use Rattle.extensions.specs.declared.Found.{Found}
-use Rattle.extensions.specs.declared.Extended.TheVariants as X
 use Rattle.extensions.specs.Steps as E
 use Rattle.file_read.specs.Contents.{Contains}
 
@@ -27,8 +28,8 @@ module _ (w : ℕ) (v : ℕ) (sum : M.Checksum) (b : List ℕ) (count : ℕ) (co
   unfolding read_body bind shift
   no-entries n p e = rw (← counted, e)
 
-  pub body-no-entries : (n p : ℕ) → R.Bad n p ≡ run_of (read_entries w v count F.start 12 (drop 12 b)) → read_body w v sum b ≡ bad n p
-  body-no-entries n p e = no-entries n p (run_of-bad _ n p e)
+  pub body-no-entries : (f : Fault) → numbered_at (Err f) ≡ run_of (read_entries w v count F.start 12 (drop 12 b)) → read_body w v sum b ≡ bad (number_of f.refusal) f.place
+  body-no-entries f e = no-entries _ _ (run_of-bad _ _ _ e)
 
   module _ (es : List F.Entry) (m : ℕ) (entries : EntriesRead w v count b es m) where
     module _ (end : ℕ) (last : end ≡ 12 + m) where
@@ -71,10 +72,10 @@ module _ (w : ℕ) (v : ℕ) (sum : M.Checksum) (b : List ℕ) (count : ℕ) (co
           }
 
   -- after the run of entries, which ends at a place
-  module _ (end : ℕ) (run : R.Good end ≡ run_of (read_entries w v count F.start 12 (drop 12 b))) (work work' : List ℕ) where
-    pub body_refused : (n p : ℕ) → E.ExtensionsPassed w v count b work end work' (X.Bad n p) → read_body w v sum b ≡ bad n p
-    body_refused n p h = run_of-good _ end run λ es m e last. body-no-extensions es m e end last n p (h.answered es m e)
+  module _ (end : ℕ) (run : Ok end ≡ run_of (read_entries w v count F.start 12 (drop 12 b))) (work work' : List ℕ) where
+    pub body_refused : (f : Fault) → E.ExtensionsPassed w v count b work end work' (Err f) → read_body w v sum b ≡ bad (number_of f.refusal) f.place
+    body_refused f h = run_of-good _ end run λ es m e last. body-no-extensions es m e end last _ _ (h.answered es m e)
 
-    pub body-accepted : (found : Found) → 12 ≤ length b → length b ≤ 16777216 → E.ExtensionsPassed w v count b work end work' (X.Good found)
+    pub body-accepted : (found : Found) → 12 ≤ length b → length b ≤ 16777216 → E.ExtensionsPassed w v count b work end work' (Ok found)
         → Contains w (read_body w v sum b) b (record { version = v; count = count; end = end; found = found; checksum = checksum_as sum })
     body-accepted found least most h = run_of-good _ end run λ es m e last. body-contains es m e end last least most found (h.answered es m e)

@@ -14,6 +14,10 @@ use Rattle.format.specs.Checksum.{Checksum, matches, left_out, wrong, checksum_o
 use Rattle.format.specs.Reading.{bad, need}
 use Rattle.format.specs.Reader.{read_body, read_file}
 use Rattle.format_laws.proofs.Tests.{and-inv}
+use denote.Enum.Bare.{sameb}
+use Rattle.answers.specs.contracts.Checksum.{the_type}
+use Rattle.answers.specs.declared.Checksum as C
+use Rattle.answers.specs.declared.Checksum.TheVariants.{Matches, LeftOut, Wrong}
 use Rattle.answers.specs.Answers.{checksum_as}
 use Rattle.file_read.specs.Header.{is_version, is_wrong}
 
@@ -41,6 +45,12 @@ module _ (w : ℕ) (hash : List ℕ → List ℕ) (f : List ℕ) where
     pub checksum-wrong : zeros (drop (length f - w) f) ≡ false → checksum_in w hash f ≡ wrong
     unfolding checksum_in checksum_of
     checksum-wrong h = rw (differ, h)
+
+-- as the code tests it
+pub wrong-same : (c : C.Checksum) → sameb the_type c Wrong ≡ is_wrong c
+wrong-same Matches = refl
+wrong-same LeftOut = refl
+wrong-same Wrong = refl
 
 -- as the code answers it
 wrong-unsound : (c : Checksum) → is_wrong (checksum_as c) ≡ true → is_sound c ≡ false

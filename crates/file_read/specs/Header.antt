@@ -1,15 +1,15 @@
 -- What an answer of read_header says of the file f. w is the width of an object name and of the checksum, hash the checksum's function.
-use Rattle.std.specs.Prelude.{◌≡◌, List, Bool, true, false, ◌&&◌, ℕ, ◌+◌, ◌-◌, ◌≤◌, length, take, leb}
+use Rattle.std.specs.Prelude.{◌≡◌, List, Bool, true, false, ◌&&◌, ℕ, ◌+◌, ◌-◌, ◌≤◌, length, take, leb, Result, Ok, Err}
 use Rattle.format.specs.Bytes.{be32}
 use Rattle.format.specs.Checksum.{checksum_in}
+use Rattle.format.specs.declared.Fault.{Fault}
+use Rattle.format.specs.Refusals.{number_of}
 use Rattle.format.specs.Reading.{bad}
 use Rattle.format.specs.Reader.{read_body, read_file}
 use Rattle.answers.specs.declared.Checksum.{Checksum}
 use Rattle.answers.specs.declared.Checksum.TheVariants.{Matches, LeftOut, Wrong}
 use Rattle.answers.specs.Answers.{checksum_as}
 use Rattle.file_read.specs.declared.header.Opening.{Opening}
-use Rattle.file_read.specs.declared.header.Header.{Header}
-use Rattle.file_read.specs.declared.header.Header.TheVariants.{Bad, Good}
 
 -- whether the format has the version v
 unfoldable pub is_version : ℕ → Bool
@@ -30,6 +30,6 @@ pub record Opened (w : ℕ) (hash : List ℕ → List ℕ) (f : List ℕ) (h : O
   pub checked : h.checksum ≡ checksum_as (checksum_in w hash f)
   pub read : read_file w hash f ≡ read_body w h.version (checksum_in w hash f) (take (length f - w) f)
 
-abbrev pub HeaderOf : ℕ → (List ℕ → List ℕ) → List ℕ → Header → Type 0
-HeaderOf w hash f (Bad n p) = read_file w hash f ≡ bad n p
-HeaderOf w hash f (Good h) = Opened w hash f h
+abbrev pub HeaderOf : ℕ → (List ℕ → List ℕ) → List ℕ → Result Opening Fault → Type 0
+HeaderOf w hash f (Err e) = read_file w hash f ≡ bad (number_of e.refusal) e.place
+HeaderOf w hash f (Ok h) = Opened w hash f h

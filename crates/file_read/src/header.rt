@@ -3,9 +3,10 @@ ghost use Rattle.std.specs.Prelude.{◌≡◌, ◌≤◌, length};
 ghost use Rattle.format.specs.Checksum.{checksum_in};
 ghost use Rattle.answers.specs.Answers.{checksum_as};
 ghost use Rattle.kinds.specs.Kinds.{width_of, hash_of};
-ghost use Rattle.file_read.specs.Header.{is_version, is_wrong, HeaderOf};
+ghost use Rattle.file_read.specs.Header.{is_version, HeaderOf};
 
 use answers::Checksum;
+use format::{Fault, Refusal};
 
 // The most bytes that a file has.
 pub const LARGEST: usize = 16777216;
@@ -18,21 +19,12 @@ pub struct Opening {
     pub checksum: Checksum,
 }
 
-// A refusal's number and place, or what an accepted header says.
-#[derive(Clone, Copy)]
-pub enum Header {
-    Bad(u32, usize),
-    Good(Opening),
-}
-
 // Whether the format has the version v.
+#[tactic(auto, unfolding(crate::specs::Header::is_version))]
 fn version_ok(v: u32) -> bool
     ensures { result ≡ is_version v }
 {
-    if v < 2 {
-        return false;
-    }
-    v <= 4
+    2 <= v && v <= 4
 }
 
 // The check of the last w bytes.
@@ -51,43 +43,33 @@ fn checksum_in(file: &[u8], kind: u32, w: usize) -> Checksum
     Checksum::Wrong
 }
 
-fn is_wrong(checksum: Checksum) -> bool
-    ensures { result ≡ is_wrong checksum }
-{
-    match checksum {
-        Checksum::Matches => false,
-        Checksum::LeftOut => false,
-        Checksum::Wrong => true,
-    }
-}
-
 // The refusals 1 to 5 in their order, or what the header says. w is the width of the kind's object names and of its checksum.
-pub fn read_header(file: &[u8], kind: u32, w: usize) -> Header
+pub fn read_header(file: &[u8], kind: u32, w: usize) -> Result<Opening, Fault>
     requires { (w ≡ width_of kind) × (w ≤ 32) }
     ensures { HeaderOf w (hash_of kind) file.now result }
 {
     if file.len() < 12 + w {
-        return Header::Bad(1, 0);
+        return Err(Refusal::TooShort.at(0));
     }
     if LARGEST < file.len() {
-        return Header::Bad(2, 0);
+        return Err(Refusal::TooLong.at(0));
     }
     let signed = fields::same(&file[..4], b"DIRC");
     let version = fields::read32(file, 4);
     let known = version_ok(version);
     if !signed {
-        return Header::Bad(3, 0);
+        return Err(Refusal::Signature.at(0));
     }
     if !known {
-        return Header::Bad(4, 0);
+        return Err(Refusal::Version.at(0));
     }
     let checksum = checksum_in(file, kind, w);
-    if is_wrong(checksum) {
-        return Header::Bad(5, file.len() - w);
+    if checksum == Checksum::Wrong {
+        return Err(Refusal::Checksum.at(file.len() - w));
     }
-    Header::Good(Opening {
-        version: version,
+    Ok(Opening {
+        version,
         count: fields::read32(file, 8),
-        checksum: checksum,
+        checksum,
     })
 }

@@ -15,10 +15,10 @@ ghost use Rattle.entries_run.specs.Steps.{Room};
 ghost use Rattle.answers.specs.Answers.{checksum_as, in_room, cleared};
 ghost use Rattle.file_read.specs.Contents.{WholeOf};
 
-use crate::header::Header;
+use crate::header::read_header;
 use answers::Checksum;
-use entries_run::Run;
-use extensions::{Extended, Found};
+use extensions::Found;
+use format::{Fault, Refusal};
 
 // What an accepted file has; end is the byte where entries end.
 #[derive(Clone, Copy)]
@@ -30,63 +30,56 @@ pub struct Parts {
     pub checksum: Checksum,
 }
 
-// A refusal's number and place, or what the file has.
-#[derive(Clone, Copy)]
-pub enum Whole {
-    Bad(u32, usize),
-    Good(Parts),
-}
-
 // The body b of version v with count entries, of a file whose checksum is known.
-fn read_body(b: &[u8], v: u32, count: u32, work: &mut [u8], w: usize, checksum: Checksum) -> Whole
+fn read_body(
+    b: &[u8],
+    v: u32,
+    count: u32,
+    work: &mut [u8],
+    w: usize,
+    checksum: Checksum,
+) -> Result<Parts, Fault>
     requires { Room b.now work.old × (count ≡ be32 b.now 8) × (1 ≤ w) × (w ≤ 32) }
     ensures { ((sum : F.Checksum) → checksum ≡ checksum_as sum → WholeOf w (read_body w v sum b.now) b.now result) × Frame work.old work.new }
 {
-    let run = entries_run::run_entries(b, v, &mut *work, count, w);
-    match run {
-        Run::Bad(n, p) => Whole::Bad(n, p),
-        Run::Good(end) => {
-            let read = extensions::read_extensions(b, end, v, count, work, w);
-            match read {
-                Extended::Bad(n, p) => Whole::Bad(n, p),
-                Extended::Good(found) => Whole::Good(Parts {
-                    version: v,
-                    count: count,
-                    end: end,
-                    found: found,
-                    checksum: checksum,
-                }),
-            }
-        }
-    }
+    let end = entries_run::run_entries(b, v, &mut *work, count, w)?;
+    let found = extensions::read_extensions(b, end, v, count, work, w)?;
+    Ok(Parts {
+        version: v,
+        count,
+        end,
+        found,
+        checksum,
+    })
 }
 
 // The whole file. An unknown kind is refused with 29.
-pub fn read_whole(file: &[u8], work: &mut [u8], kind: u32) -> Whole
+pub fn read_whole(file: &[u8], work: &mut [u8], kind: u32) -> Result<Parts, Fault>
     requires { 8192 ≤ length work.old }
     ensures { WholeOf (width_of kind) (read_kind kind file.now) (body_in (width_of kind) file.now) result × Frame work.old work.new }
 {
     if !kinds::is_known(kind) {
-        return Whole::Bad(29, 0);
+        return Err(Refusal::Kind.at(0));
     }
     let w = kinds::width_of(kind);
-    let header = crate::header::read_header(file, kind, w);
-    match header {
-        Header::Bad(n, p) => Whole::Bad(n, p),
-        Header::Good(h) => {
-            let n = file.len() - w;
-            let checksum = h.checksum;
-            read_body(&file[..n], h.version, h.count, work, w, checksum)
-        }
-    }
+    let header = read_header(file, kind, w)?;
+    let n = file.len() - w;
+    read_body(
+        &file[..n],
+        header.version,
+        header.count,
+        work,
+        w,
+        header.checksum,
+    )
 }
 
 // The same for any workspace, which is cleared afterwards; one below 8,192 bytes is refused with 19 and left as it is.
-pub fn read_cleared(file: &[u8], work: &mut [u8], kind: u32) -> Whole
+pub fn read_cleared(file: &[u8], work: &mut [u8], kind: u32) -> Result<Parts, Fault>
     ensures { WholeOf (width_of kind) (in_room work.old (read_kind kind file.now)) (body_in (width_of kind) file.now) result × (work.new ≡ cleared work.old) }
 {
     if work.len() < fields::LONGEST {
-        return Whole::Bad(19, 0);
+        return Err(Refusal::WorkspaceShort.at(0));
     }
     let whole = read_whole(file, &mut *work, kind);
     fields::clear_from(work, 0);

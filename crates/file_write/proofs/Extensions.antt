@@ -1,5 +1,5 @@
 -- The header and the extensions that are written.
-use mathlib.Core.Path.{◌≡◌, refl, sym, ap, ◌∙◌}
+use mathlib.Core.Path.{◌≡◌, refl, sym, ◌∙◌}
 use mathlib.Core.List.{List, [], ◌++◌, append_assoc}
 use mathlib.Core.Bool.{Bool, true, false, cond}
 use mathlib.Core.Option.{Option, none, some}
@@ -15,10 +15,9 @@ use Rattle.format.specs.Writer.{write_tree, write_undos, write_extension, write_
 use Rattle.format.specs.Requests.{invalid_tree, invalid_cache_tree}
 use Rattle.format_laws.proofs.Lists.{part_length}
 use Rattle.format_laws.proofs.Numbers.{length-put32}
-use Rattle.format_laws.proofs.Tests.{clash}
 use Rattle.writing.proofs.Copies.{undos-copied}
-use Rattle.extensions.specs.declared.TreePlace.{TreePlace}
-use Rattle.extensions.specs.declared.UndoPlace.{UndoPlace}
+use Rattle.std.specs.Prelude.{Some, None}
+use Rattle.extensions.specs.declared.Place.{Place}
 use Rattle.extensions.specs.Heads.{part}
 use Rattle.extensions.specs.Found.{TreeFound, UndoFound}
 use Rattle.output.specs.Output.{Wrote}
@@ -62,10 +61,21 @@ extension-after signature content out out₁ out' at after r four x y =
 
 -- ---- the cache tree
 
-module _ (w : ℕ) (b name : List ℕ) (tree : TreePlace) where
-  pub tree-within : (o : Option Tree) → TreeFound w b o tree → tree.there ≡ true → Within b tree.at tree.end
-  tree-within none h t = clash t (ap (λ (x : TreePlace). x.there) h)
-  tree-within (some s) h t = record { order = h.order; inside = h.inside }
+module _ (w : ℕ) (b name : List ℕ) where
+  no-tree-text : (touched : Bool) → write_cache_tree (tree_after w touched name none) ≡ []
+  unfolding write_cache_tree tree_after invalid_cache_tree
+  no-tree-text true = refl
+  no-tree-text false = refl
+
+  pub no-tree-wrote : (touched : Bool) (out : List ℕ) (at : ℕ) (o : Option Tree) → TreeFound w b o None
+      → Wrote out at (write_cache_tree (tree_after w touched name o)) out at
+  no-tree-wrote touched out at none h = rw (no-tree-text touched) (wrote_nothing out at)
+  no-tree-wrote touched out at (some s) h = absurd h
+
+module _ (w : ℕ) (b name : List ℕ) (tree : Place) where
+  pub tree-within : (o : Option Tree) → TreeFound w b o (Some tree) → Within b tree.at tree.end
+  tree-within none h = absurd h
+  tree-within (some s) h = record { order = h.order; inside = h.inside }
 
   -- what put_tree ensures of the data
   abbrev pub TreeWrote : Bool → List ℕ → ℕ → List ℕ → ℕ → Type 0
@@ -78,47 +88,38 @@ module _ (w : ℕ) (b name : List ℕ) (tree : TreePlace) where
   tree-text true t = refl
   tree-text false t = refl
 
-  no-tree-text : (touched : Bool) → write_cache_tree (tree_after w touched name none) ≡ []
-  unfolding write_cache_tree tree_after invalid_cache_tree
-  no-tree-text true = refl
-  no-tree-text false = refl
-
-  pub tree-grown : (touched : Bool) (out out₁ : List ℕ) (at after : ℕ) (o : Option Tree) → TreeFound w b o tree → SiblingsDiffer o → tree.there ≡ true
+  pub tree-grown : (touched : Bool) (out out₁ : List ℕ) (at after : ℕ) (o : Option Tree) → TreeFound w b o (Some tree) → SiblingsDiffer o
       → TreeWrote touched out at out₁ after → (at ≤ after) × (length out₁ ≡ length out)
-  tree-grown touched out out₁ at after none h d t wrote = clash t (ap (λ (x : TreePlace). x.there) h)
-  tree-grown touched out out₁ at after (some s) h d t wrote = let x = wrote s _ h.reads (d s refl) in (omega (arith, x.end), x.long)
+  tree-grown touched out out₁ at after none h d wrote = absurd h
+  tree-grown touched out out₁ at after (some s) h d wrote = let x = wrote s _ h.reads (d s refl) in (omega (arith, x.end), x.long)
 
-  pub tree-wrote : (touched : Bool) (out out₁ out' : List ℕ) (at after r : ℕ) (o : Option Tree) → TreeFound w b o tree → SiblingsDiffer o → tree.there ≡ true
+  pub tree-wrote : (touched : Bool) (out out₁ out' : List ℕ) (at after r : ℕ) (o : Option Tree) → TreeFound w b o (Some tree) → SiblingsDiffer o
       → TreeWrote touched out (at + 8) out₁ after → Wrote out₁ at (TREE ++ put32 (after - (at + 8))) out' r
       → Wrote out at (write_cache_tree (tree_after w touched name o)) out' after
-  tree-wrote touched out out₁ out' at after r none h d t wrote y = clash t (ap (λ (x : TreePlace). x.there) h)
-  tree-wrote touched out out₁ out' at after r (some s) h d t wrote y = rw (tree-text touched s) (extension-after TREE _ out out₁ out' at after r refl (wrote s _ h.reads (d s refl)) y)
-
-  pub no-tree-wrote : (touched : Bool) (out : List ℕ) (at : ℕ) (o : Option Tree) → TreeFound w b o tree → tree.there ≡ false
-      → Wrote out at (write_cache_tree (tree_after w touched name o)) out at
-  no-tree-wrote touched out at none h t = rw (no-tree-text touched) (wrote_nothing out at)
-  no-tree-wrote touched out at (some s) h t = clash h.there t
+  tree-wrote touched out out₁ out' at after r none h d wrote y = absurd h
+  tree-wrote touched out out₁ out' at after r (some s) h d wrote y = rw (tree-text touched s) (extension-after TREE _ out out₁ out' at after r refl (wrote s _ h.reads (d s refl)) y)
 
 -- ---- resolve undo
 
-module _ (w : ℕ) (b : List ℕ) (undo : UndoPlace) where
-  pub undo-within : (o : Option (List Undo)) → UndoFound w b o undo → undo.there ≡ true → Within b undo.at undo.end
-  undo-within none h t = clash t (ap (λ (x : UndoPlace). x.there) h)
-  undo-within (some us) h t = record { order = h.order; inside = h.inside }
+module _ (w : ℕ) (b : List ℕ) where
+  pub no-undo-wrote : (out : List ℕ) (at : ℕ) (o : Option (List Undo)) → UndoFound w b o None → Wrote out at (write_resolve_undo o) out at
+  unfolding write_resolve_undo
+  no-undo-wrote out at none h = wrote_nothing out at
+  no-undo-wrote out at (some us) h = absurd h
 
-  pub undo-wrote : (out out₁ out' : List ℕ) (at p r : ℕ) (o : Option (List Undo)) → UndoFound w b o undo → undo.there ≡ true
+module _ (w : ℕ) (b : List ℕ) (undo : Place) where
+  pub undo-within : (o : Option (List Undo)) → UndoFound w b o (Some undo) → Within b undo.at undo.end
+  undo-within none h = absurd h
+  undo-within (some us) h = record { order = h.order; inside = h.inside }
+
+  pub undo-wrote : (out out₁ out' : List ℕ) (at p r : ℕ) (o : Option (List Undo)) → UndoFound w b o (Some undo)
       → Wrote out at (REUC ++ put32 (undo.end - undo.at)) out₁ p → Wrote out₁ p (part b undo.at undo.end) out' r
       → Wrote out at (write_resolve_undo o) out' r
   unfolding write_resolve_undo write_extension
-  undo-wrote out out₁ out' at p r none h t x y = clash t (ap (λ (z : UndoPlace). z.there) h)
-  undo-wrote out out₁ out' at p r (some us) h t x y =
+  undo-wrote out out₁ out' at p r none h x y = absurd h
+  undo-wrote out out₁ out' at p r (some us) h x y =
       let d : List ℕ = part b undo.at undo.end in
       let copied : write_undos us ≡ d = (undos-copied w 0 (length d) d us (length d) h.reads).1 in
       let size : undo.end - undo.at ≡ length d = sym (part_length b undo.at undo.end h.inside) in
       let head : Wrote out at (REUC ++ put32 (length d)) out₁ p = rw size at x in
       rw (copied, ← append_assoc REUC (put32 (length d)) d) (wrote_then out (REUC ++ put32 (length d)) d out₁ out' at p r head y)
-
-  pub no-undo-wrote : (out : List ℕ) (at : ℕ) (o : Option (List Undo)) → UndoFound w b o undo → undo.there ≡ false → Wrote out at (write_resolve_undo o) out at
-  unfolding write_resolve_undo
-  no-undo-wrote out at none h t = wrote_nothing out at
-  no-undo-wrote out at (some us) h t = clash h.there t

@@ -1,6 +1,7 @@
 -- The file that is written: the tests of its length, the checksum, the answer.
 use mathlib.Core.Path.{◌≡◌, sym, ap, ◌∙◌}
 use mathlib.Core.List.{List, ◌++◌}
+use Rattle.std.specs.Prelude.{Ok}
 use mathlib.Core.Bool.{true, false, ◌&&◌}
 use Prim.Native.Nat.{ℕ, ◌+◌, ◌≤◌, ◌<◌}
 use native.Mathlib.Omega.{arith}
@@ -10,13 +11,13 @@ use lib.Dec.{eqb}
 use borrow.Author.Tests.{le-leb, lt-leb}
 use Rattle.format.specs.Records.{Entry, Records}
 use Rattle.format.specs.Reading.{Read, bad, good, need}
+use Rattle.format.specs.Refusals.{denied}
 use Rattle.format.specs.Writer.{write_body, write_file}
 use Rattle.format.specs.Requests.{any_word, version_of, version_for, fitting, writing}
 use Rattle.versions.proofs.Laws.{four-known}
 use Rattle.fields.proofs.Workspace.{frame_then}
 use Rattle.output.specs.Output.{with_at, Wrote}
 use Rattle.output.proofs.Laws.{wrote_then}
-use Rattle.answers.specs.declared.Written.TheVariants as W
 use Rattle.file_read.specs.declared.Parts.{Parts}
 use Rattle.entries_edit.specs.declared.Edit.{Edit}
 use Rattle.entries_edit.specs.declared.rest.WriteEnd.{WriteEnd}
@@ -84,11 +85,11 @@ appended w hash v r out out₁ out₂ n m x y fits =
 
 -- ---- the answer
 
-pub answers-bad : (x : Read (List ℕ)) (n p : ℕ) (out : List ℕ) → x ≡ bad n p → Answers x out out (W.Refused n p)
+pub answers-bad : (x : Read (List ℕ)) (n p : ℕ) (out : List ℕ) → x ≡ bad n p → Answers x out out (denied n p)
 answers-bad x n p out e = record { said = rw e; filled = rw e }
 
 pub answers-good : (x : Read (List ℕ)) (s out out' : List ℕ) (m : ℕ) → x ≡ good s (length s) → Wrote out 0 s out' m → length s ≤ length out
-    → Answers x out out' (W.Done m)
+    → Answers x out out' (Ok m)
 answers-good x s out out' m e wrote fits =
     let size : m ≡ length s = omega (arith, wrote.end) in
     record { said = rw (e, size); filled = rw e (wrote.held (omega arith) ∙ with-start out s) }
@@ -98,7 +99,7 @@ answers-good x s out out' m e wrote fits =
 module _ (w : ℕ) (hash : List ℕ → List ℕ) (width : (m : List ℕ) → length (hash m) ≡ w)
     (b work work₁ : List ℕ) (parts : Parts) (asked : ℕ) (edit : Edit) (e : Entry) (sized : WriteEnd) (m : Measured w b parts work edit e (version_of asked true) work₁ sized)
     (out : List ℕ) where
-  pub file-worded : (eqb asked 2 && sized.extended) ≡ true → FileWritten w hash b parts work asked edit e out work₁ out (W.Refused 21 0)
+  pub file-worded : (eqb asked 2 && sized.extended) ≡ true → FileWritten w hash b parts work asked edit e out work₁ out (denied 21 0)
   file-worded h = record {
     answers = λ x has there. answers-bad _ 21 0 out (answer-worded w hash width asked (length out) _ (rw (m.extended x has there) at h));
     frame = m.frame;
@@ -108,14 +109,14 @@ module _ (w : ℕ) (hash : List ℕ → List ℕ) (width : (m : List ℕ) → le
     free_of : (x : Records) → BodyHas w b parts x → Replaces edit e.name x.entries → (eqb asked 2 && any_word (changed w edit e x).entries) ≡ false
     free_of x has there = rw (m.extended x has there) at free
 
-    pub file-long-refused : 16777216 < sized.at + w → FileWritten w hash b parts work asked edit e out work₁ out (W.Refused 2 0)
+    pub file-long-refused : 16777216 < sized.at + w → FileWritten w hash b parts work asked edit e out work₁ out (denied 2 0)
     file-long-refused h = record {
       answers = λ x has there. answers-bad _ 2 0 out (answer-long w hash width asked (length out) _ (free_of x has there) sized.at (m.size x has there) h);
       frame = m.frame;
     }
 
     module _ (short : sized.at + w ≤ 16777216) where
-      pub file-small-refused : length out < sized.at + w → FileWritten w hash b parts work asked edit e out work₁ out (W.Refused 20 0)
+      pub file-small-refused : length out < sized.at + w → FileWritten w hash b parts work asked edit e out work₁ out (denied 20 0)
       file-small-refused h = record {
         answers = λ x has there. answers-bad _ 20 0 out (answer-small w hash width asked (length out) _ (free_of x has there) sized.at (m.size x has there) short h);
         frame = m.frame;
@@ -135,7 +136,7 @@ module _ (w : ℕ) (hash : List ℕ → List ℕ) (width : (m : List ℕ) → le
             omega (arith, wrote.end)
 
         pub file-done : (out₂ : List ℕ) (r : ℕ) → Wrote out₁ written.at (hash (take written.at out₁)) out₂ r
-            → FileWritten w hash b parts work asked edit e out work₂ out₂ (W.Done r)
+            → FileWritten w hash b parts work asked edit e out work₂ out₂ (Ok r)
         file-done out₂ r checksum = record {
           answers = λ x has there.
               let y : Records = changed w edit e x in

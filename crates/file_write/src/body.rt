@@ -14,11 +14,11 @@ ghost use Rattle.file_write.specs.Bodies.{changes, tree_after, count_after, Sibl
 use entries::record::Fields;
 use entries_edit::Edit;
 use entries_edit::rest::WriteEnd;
-use extensions::{TreePlace, UndoPlace};
+use extensions::Place;
 use file_read::Parts;
 use output::{put_32, put_bytes, put_part};
 
-// Whether an edit changes entries.
+// Whether an edit changes entries. A match and no test of equality, so that a new kind of edit is looked at here.
 fn is_change(edit: Edit) -> bool
     ensures { result ≡ changes edit }
 {
@@ -67,7 +67,7 @@ fn put_head(out: &mut [u8], at: usize, signature: &[u8], size: u32) -> usize
 // The cache tree, made invalid on the path to a name or not. Its size is known once its data are written.
 fn put_cache_tree(
     b: &[u8],
-    tree: TreePlace,
+    tree: Option<Place>,
     touched: bool,
     name: &[u8],
     out: &mut [u8],
@@ -77,29 +77,29 @@ fn put_cache_tree(
     requires { (length b.now ≤ 16777216) × (at < 562949953421304) × ((o : Option Tree) × TreeFound w b.now o tree × SiblingsDiffer o) × (1 ≤ w) }
     ensures { ((o : Option Tree) → TreeFound w b.now o tree → SiblingsDiffer o → Wrote out.old at (write_cache_tree (tree_after w touched name.now o)) out.new result) × (result ≤ at + 16777224) × (length out.new ≡ length out.old) }
 {
-    if tree.there {
-        let from = tree.at;
-        let end = tree.end;
-        let content = at + 8;
-        let after = tree_write::put_tree(&b[from..end], touched, name, &mut *out, content, w);
-        put_head(out, at, b"TREE", (after - content) as u32);
-        return after;
-    }
-    at
+    let Some(place) = tree else {
+        return at;
+    };
+    let from = place.at;
+    let end = place.end;
+    let content = at + 8;
+    let after = tree_write::put_tree(&b[from..end], touched, name, &mut *out, content, w);
+    put_head(out, at, b"TREE", (after - content) as u32);
+    after
 }
 
 // The resolve-undo records, whose data are copied.
-fn put_resolve_undo(b: &[u8], undo: UndoPlace, out: &mut [u8], at: usize, w: usize) -> usize
+fn put_resolve_undo(b: &[u8], undo: Option<Place>, out: &mut [u8], at: usize, w: usize) -> usize
     requires { (length b.now ≤ 16777216) × (at ≤ 562949970198528) × ((o : Option (List Undo)) × UndoFound w b.now o undo) }
     ensures { ((o : Option (List Undo)) → UndoFound w b.now o undo → Wrote out.old at (write_resolve_undo o) out.new result) × (result ≤ at + 16777224) × (length out.new ≡ length out.old) }
 {
-    if undo.there {
-        let from = undo.at;
-        let end = undo.end;
-        let content = put_head(&mut *out, at, b"REUC", (end - from) as u32);
-        return put_part(out, content, b, from, end);
-    }
-    at
+    let Some(place) = undo else {
+        return at;
+    };
+    let from = place.at;
+    let end = place.end;
+    let content = put_head(&mut *out, at, b"REUC", (end - from) as u32);
+    put_part(out, content, b, from, end)
 }
 
 // The whole body.

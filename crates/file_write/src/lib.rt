@@ -8,15 +8,16 @@ ghost use Rattle.std.specs.Prelude.{◌≡◌, ◌+◌, ◌≤◌, ◌<◌, leng
 ghost use Rattle.entries.specs.Record.{entry_with};
 ghost use Rattle.output.specs.Output.{Wrote};
 ghost use Rattle.kinds.specs.Kinds.{width_of, hash_of};
+ghost use Rattle.format.specs.Refusals.{numbered_at};
 ghost use Rattle.file_write.specs.Bodies.{WriteReady};
 ghost use Rattle.file_write.specs.Results.{Measured, FileWritten};
 
 use crate::body::put_body;
-use answers::Written;
 use entries::record::Fields;
 use entries_edit::Edit;
 use entries_edit::rest::WriteEnd;
 use file_read::Parts;
+use format::{Fault, Refusal};
 use output::put_part;
 use versions::{is_barred, version_for};
 
@@ -59,9 +60,9 @@ pub fn write(
     out: &mut [u8],
     kind: u32,
     w: usize,
-) -> Written
+) -> Result<usize, Fault>
     requires { WriteReady w b.now work.old parts edit fields name.now × (w ≡ width_of kind) × (1 ≤ w) × (w ≤ 32) }
-    ensures { FileWritten w (hash_of kind) b.now parts work.old asked edit (entry_with w fields name.now) out.old work.new out.new result }
+    ensures { FileWritten w (hash_of kind) b.now parts work.old asked edit (entry_with w fields name.now) out.old work.new out.new (numbered_at result) }
 {
     let sized = measure(
         b,
@@ -74,17 +75,16 @@ pub fn write(
         w,
     );
     if is_barred(asked, sized.extended) {
-        return Written::Refused(21, 0);
+        return Err(Refusal::NeedsVersion3.at(0));
     }
     let long = sized.at + w;
     if 16777216 < long {
-        return Written::Refused(2, 0);
+        return Err(Refusal::TooLong.at(0));
     }
     if out.len() < long {
-        return Written::Refused(20, 0);
+        return Err(Refusal::OutputShort.at(0));
     }
     let version = version_for(asked, sized.extended);
     let written = put_body(b, parts, work, edit, fields, name, version, &mut *out, w);
-    let n = append_checksum(out, written.at, kind, w);
-    Written::Done(n)
+    Ok(append_checksum(out, written.at, kind, w))
 }

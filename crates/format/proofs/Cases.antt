@@ -5,7 +5,7 @@ use mathlib.Core.Bool.{Bool, true, false}
 use mathlib.Core.Option.{none, some}
 use Prim.Native.Nat.{ℕ}
 use lib.ListN.{length, replicate}
-use Rattle.format.specs.declared.Order.TheVariants.{Below, Above}
+use Rattle.std.proofs.Common.{Less, Greater}
 use Rattle.format.specs.Bytes.{put16, put32, put32s, put_n, be16, be32, be32s, two, eq_list, before, lacks, zeros, digits, decimal, value_from, value}
 use Rattle.format.specs.Names.{components_from, components, ok_component, ok_components, ok_name, length_field, compare, common}
 use Rattle.format.specs.Records.{mode_of, valid, invalid, nil, tree, Tree, width, Records}
@@ -100,9 +100,9 @@ Table =
     × (put_n 8192 ≡ 0xbf ∷ 0x00 ∷ [])
     × (joined cut 4 (rest ++ (0 ∷ [])) ≡ cutter)
     × (write_packed cut cutter ≡ 4 ∷ (rest ++ (0 ∷ [])))
-    × (compare a-b a/b ≡ Below)
-    × (compare a/b (97 ∷ 48 ∷ []) ≡ Below)
-    × (compare a/b a-b ≡ Above)
+    × (compare a-b a/b ≡ Less)
+    × (compare a/b (97 ∷ 48 ∷ []) ≡ Less)
+    × (compare a/b a-b ≡ Greater)
     × (length whole_bytes ≡ 51)
     × (write_tree whole ≡ whole_bytes)
     × (read_file 20 hash (index_bytes 5 whole_bytes) ≡ good (record { version = 2; checksum = matches; end = 228; records = index 5 whole }) 287)

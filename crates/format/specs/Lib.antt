@@ -7,6 +7,7 @@ pub mod Places
 pub mod Reader
 pub mod Reading
 pub mod Records
+pub mod Refusals
 pub mod Requests
 pub mod Tails
 pub mod Writer

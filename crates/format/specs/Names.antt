@@ -1,7 +1,7 @@
 -- Which lists of bytes are names of entries, and the order of names.
 use Rattle.std.specs.Prelude.{List, [], ◌∷◌, ◌++◌, Bool, true, false, cond, not, ◌&&◌, ℕ, suc, min, length, eqb, leb, ltb}
-use Rattle.format.specs.declared.Order.{Order}
-use Rattle.format.specs.declared.Order.TheVariants.{Below, Same, Above}
+use Rattle.std.specs.declared.cmp.Ordering.{Ordering}
+use Rattle.std.specs.declared.cmp.Ordering.TheVariants.{Less, Equal, Greater}
 use Rattle.format.specs.Bytes.{eq_list, lacks}
 
 -- the parts of a name between its slashes; part is what was read of the one in hand
@@ -29,11 +29,11 @@ unfoldable pub length_field : ℕ → ℕ
 length_field n = min n 4095
 
 -- as unsigned bytes; a proper beginning comes first
-unfoldable pub compare : List ℕ → List ℕ → Order
-compare [] [] = Same
-compare [] (y ∷ t) = Below
-compare (x ∷ s) [] = Above
-compare (x ∷ s) (y ∷ t) = cond (ltb x y) Below (cond (ltb y x) Above (compare s t))
+unfoldable pub compare : List ℕ → List ℕ → Ordering
+compare [] [] = Equal
+compare [] (y ∷ t) = Less
+compare (x ∷ s) [] = Greater
+compare (x ∷ s) (y ∷ t) = cond (ltb x y) Less (cond (ltb y x) Greater (compare s t))
 
 -- how many bytes two names have in common at their beginning
 unfoldable pub common : List ℕ → List ℕ → ℕ
@@ -41,21 +41,21 @@ common [] t = 0
 common (x ∷ s) [] = 0
 common (x ∷ s) (y ∷ t) = cond (eqb x y) (suc (common s t)) 0
 
-abbrev pub is_below : Order → Bool
-is_below Below = true
-is_below Same = false
-is_below Above = false
+abbrev pub is_below : Ordering → Bool
+is_below Less = true
+is_below Equal = false
+is_below Greater = false
 
 -- what may follow in a file: an entry of stage t after one of stage s, whose name compares so to the later one's. Stage 0 is a merged path, the
 -- others are sides of a conflict: after stage 0 the name must differ
-abbrev pub rises : Order → ℕ → ℕ → Bool
-rises Below s t = true
-rises Same s t = ltb 0 s && ltb s t
-rises Above s t = false
+abbrev pub rises : Ordering → ℕ → ℕ → Bool
+rises Less s t = true
+rises Equal s t = ltb 0 s && ltb s t
+rises Greater s t = false
 
 -- the order by which a place among entries is found, by name, then by stage: whether stage s of a name comes before stage t of another, to which it
 -- compares so. Of any two keys one comes first, unless they are the same; the rule above is no such order
-abbrev pub precedes : Order → ℕ → ℕ → Bool
-precedes Below s t = true
-precedes Same s t = ltb s t
-precedes Above s t = false
+abbrev pub precedes : Ordering → ℕ → ℕ → Bool
+precedes Less s t = true
+precedes Equal s t = ltb s t
+precedes Greater s t = false

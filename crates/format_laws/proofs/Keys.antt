@@ -7,8 +7,8 @@ use native.Mathlib.Omega.{arith}
 use lib.ListN.{length}
 use lib.Dec.{eqb, ltb}
 use borrow.Author.Tests.{ltb-true, ltb-false, lt-ltb, le-ltb, eqb-true, eqb-false, eq-eqb, ne_eqb}
-use Rattle.format.specs.declared.Order.{Order}
-use Rattle.format.specs.declared.Order.TheVariants.{Below, Same, Above}
+use Rattle.std.specs.declared.cmp.Ordering.{Ordering}
+use Rattle.std.proofs.Common.{Less, Equal, Greater}
 use Rattle.format.specs.Bytes.{eq_list}
 use Rattle.format.specs.Names.{ok_name, compare, rises, precedes}
 use Rattle.format.specs.Records.{Key, start}
@@ -18,21 +18,21 @@ use Rattle.format_laws.proofs.Lists.{eq_list-true, eq-eq_list}
 use Rattle.format_laws.proofs.Names.{ok_name-length}
 use Rattle.format_laws.proofs.Orders.{through, names-through, compare_self, compare_same, other-orders, opposite, compare-opposite}
 
-precedes-most : (o : Order) (s t : ℕ) → precedes o s t ≡ true → o ≡ Above → ⊥
-precedes-most Below s t h e = let z : ◌≡◌ {A = ℕ} 0 1 = cc in omega arith
-precedes-most Same s t h e = let z : ◌≡◌ {A = ℕ} 0 1 = cc in omega arith
-precedes-most Above s t h e = false-true h
+precedes-most : (o : Ordering) (s t : ℕ) → precedes o s t ≡ true → o ≡ Greater → ⊥
+precedes-most Less s t h e = let z : ◌≡◌ {A = ℕ} 0 1 = cc in omega arith
+precedes-most Equal s t h e = let z : ◌≡◌ {A = ℕ} 0 1 = cc in omega arith
+precedes-most Greater s t h e = false-true h
 
-precedes-through : (o p : Order) (s t u : ℕ) → precedes o s t ≡ true → precedes p t u ≡ true → precedes (through o p) s u ≡ true
+precedes-through : (o p : Ordering) (s t u : ℕ) → precedes o s t ≡ true → precedes p t u ≡ true → precedes (through o p) s u ≡ true
 unfolding through
-precedes-through Below p s t u h k = refl
-precedes-through Same Below s t u h k = refl
-precedes-through Same Same s t u h k = lt-ltb s u (omega (arith, ltb-true s t h, ltb-true t u k))
-precedes-through Same Above s t u h k = false-true k
-precedes-through Above p s t u h k = false-true h
+precedes-through Less p s t u h k = refl
+precedes-through Equal Less s t u h k = refl
+precedes-through Equal Equal s t u h k = lt-ltb s u (omega (arith, ltb-true s t h, ltb-true t u k))
+precedes-through Equal Greater s t u h k = false-true k
+precedes-through Greater p s t u h k = false-true h
 
 -- an entry's name is not above that of one that it goes before
-pub before-name : (a b : Key) → goes_before a b ≡ true → compare a.name b.name ≡ Above → ⊥
+pub before-name : (a b : Key) → goes_before a b ≡ true → compare a.name b.name ≡ Greater → ⊥
 unfolding goes_before
 before-name a b h = precedes-most _ _ _ h
 
@@ -62,10 +62,10 @@ before-other a k h =
     (λ e. e)
 
 -- where the names are the same, the stages decide
-total-by : (o : Order) (i j : ℕ) → precedes o i j ≡ false → (o ≡ Same → i ≡ j → ⊥) → precedes (opposite o) j i ≡ true
-total-by Below i j h other = false-true (sym h)
-total-by Same i j h other = let differ : i ≡ j → ⊥ = other refl in lt-ltb j i (omega (arith, ltb-false i j h))
-total-by Above i j h other = refl
+total-by : (o : Ordering) (i j : ℕ) → precedes o i j ≡ false → (o ≡ Equal → i ≡ j → ⊥) → precedes (opposite o) j i ≡ true
+total-by Less i j h other = false-true (sym h)
+total-by Equal i j h other = let differ : i ≡ j → ⊥ = other refl in lt-ltb j i (omega (arith, ltb-false i j h))
+total-by Greater i j h other = refl
 
 before-total : (a b : Key) → goes_before a b ≡ false → same_key a b ≡ false → goes_before b a ≡ true
 unfolding goes_before same_key
@@ -83,12 +83,12 @@ before-total a b h l =
 abbrev pub may_follow : Key → Key → Bool
 may_follow a b = rises (compare a.name b.name) a.stage b.stage
 
-rises-inv {ℓ} : {X : Type ℓ} (o : Order) (s t : ℕ) → rises o s t ≡ true → (o ≡ Below → X) → (o ≡ Same → 0 < s → s < t → X) → X
-rises-inv Below s t h below same = below refl
-rises-inv Same s t h below same = let i = and-inv (ltb 0 s) (ltb s t) h in same refl (ltb-true 0 s i.0) (ltb-true s t i.1)
-rises-inv Above s t h below same = false-true h
+rises-inv {ℓ} : {X : Type ℓ} (o : Ordering) (s t : ℕ) → rises o s t ≡ true → (o ≡ Less → X) → (o ≡ Equal → 0 < s → s < t → X) → X
+rises-inv Less s t h below same = below refl
+rises-inv Equal s t h below same = let i = and-inv (ltb 0 s) (ltb s t) h in same refl (ltb-true 0 s i.0) (ltb-true s t i.1)
+rises-inv Greater s t h below same = false-true h
 
-rises-same : (s t : ℕ) → 0 < s → s < t → rises Same s t ≡ true
+rises-same : (s t : ℕ) → 0 < s → s < t → rises Equal s t ≡ true
 rises-same s t some less = rw (lt-ltb 0 s some, lt-ltb s t less) refl
 
 -- it comes after it in the order of keys
@@ -99,16 +99,16 @@ follow-before a b h =
     (λ e. rw e refl)
     (λ e some less. rw e (lt-ltb a.stage b.stage less))
 
-rises-through : (o p : Order) (s t u : ℕ) → rises o s t ≡ true → rises p t u ≡ true → rises (through o p) s u ≡ true
+rises-through : (o p : Ordering) (s t u : ℕ) → rises o s t ≡ true → rises p t u ≡ true → rises (through o p) s u ≡ true
 unfolding through
-rises-through Below p s t u h k = refl
-rises-through Same Below s t u h k = refl
-rises-through Same Same s t u h k =
+rises-through Less p s t u h k = refl
+rises-through Equal Less s t u h k = refl
+rises-through Equal Equal s t u h k =
     let (some, less) = and-inv (ltb 0 s) (ltb s t) h in
     let more = (and-inv (ltb 0 t) (ltb t u) k).1 in
     rises-same s u (ltb-true 0 s some) (omega (arith, ltb-true s t less, ltb-true t u more))
-rises-through Same Above s t u h k = false-true k
-rises-through Above p s t u h k = false-true h
+rises-through Equal Greater s t u h k = false-true k
+rises-through Greater p s t u h k = false-true h
 
 pub follow-trans : (a b c : Key) → may_follow a b ≡ true → may_follow b c ≡ true → may_follow a c ≡ true
 follow-trans a b c h k =
@@ -146,10 +146,10 @@ mixes-turned a b h =
     (λ p. p)
 
 -- of two keys in order the later may follow, unless they mix
-rises_by : (o : Order) (s t : ℕ) → precedes o s t ≡ true → (o ≡ Same → s < t → 0 < s) → rises o s t ≡ true
-rises_by Below s t h some = refl
-rises_by Same s t h some = let less : s < t = ltb-true s t h in rises-same s t (some refl less) less
-rises_by Above s t h some = false-true h
+rises_by : (o : Ordering) (s t : ℕ) → precedes o s t ≡ true → (o ≡ Equal → s < t → 0 < s) → rises o s t ≡ true
+rises_by Less s t h some = refl
+rises_by Equal s t h some = let less : s < t = ltb-true s t h in rises-same s t (some refl less) less
+rises_by Greater s t h some = false-true h
 
 pub follow-by : (a b : Key) → goes_before a b ≡ true → mixes a b ≡ false → may_follow a b ≡ true
 unfolding goes_before

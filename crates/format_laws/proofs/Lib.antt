@@ -5,5 +5,6 @@ pub mod Names
 pub mod Numbers
 pub mod Orders
 pub mod Readings
+pub mod Refusals
 pub mod Tests
 pub mod Texts

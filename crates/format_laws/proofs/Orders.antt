@@ -6,8 +6,8 @@ use Prim.Native.Nat.{ℕ, suc, ◌≤◌, ◌<◌, min}
 use native.Mathlib.Omega.{arith}
 use lib.Dec.{ltb}
 use borrow.Author.Tests.{ltb-true, ltb-false, lt-ltb, le-ltb, eq-eqb, ne_eqb}
-use Rattle.format.specs.declared.Order.{Order}
-use Rattle.format.specs.declared.Order.TheVariants.{Below, Same, Above}
+use Rattle.std.specs.declared.cmp.Ordering.{Ordering}
+use Rattle.std.proofs.Common.{Less, Equal, Greater}
 use Rattle.format.specs.Names.{compare, common}
 use Rattle.format_laws.proofs.Tests.{by-test}
 
@@ -20,11 +20,11 @@ by_order x y less same more =
     (λ p. by-test (ltb y x) (λ q. more (ltb-true y x q)) (λ q. same (omega (arith, ltb-false x y p, ltb-false y x q))))
 
 module _ (x y : ℕ) (s t : List ℕ) where
-  pub compare-less : x < y → compare (x ∷ s) (y ∷ t) ≡ Below
+  pub compare-less : x < y → compare (x ∷ s) (y ∷ t) ≡ Less
   unfolding compare
   compare-less h = rw (lt-ltb x y h)
 
-  pub compare-more : y < x → compare (x ∷ s) (y ∷ t) ≡ Above
+  pub compare-more : y < x → compare (x ∷ s) (y ∷ t) ≡ Greater
   unfolding compare
   compare-more h = let l : y ≤ x = omega arith in rw (le-ltb x y l, lt-ltb y x h)
 
@@ -43,15 +43,15 @@ module _ (x y : ℕ) (s t : List ℕ) where
   unfolding common
   common-next e = rw (eq-eqb x y e)
 
-pub compare_self : (s : List ℕ) → compare s s ≡ Same
+pub compare_self : (s : List ℕ) → compare s s ≡ Equal
 unfolding compare
 compare_self [] = refl
 compare_self (x ∷ s) = compare-next x x s s refl ∙ compare_self s
 
-pub other-orders {ℓ} : {X : Type ℓ} {o : Order} → o ≡ Below → o ≡ Same → X
+pub other-orders {ℓ} : {X : Type ℓ} {o : Ordering} → o ≡ Less → o ≡ Equal → X
 other-orders p q = let z : ◌≡◌ {A = ℕ} 0 1 = cc in absurd (omega arith)
 
-pub compare_same : (s t : List ℕ) → compare s t ≡ Same → s ≡ t
+pub compare_same : (s t : List ℕ) → compare s t ≡ Equal → s ≡ t
 unfolding compare
 compare_same [] [] e = refl
 compare_same [] (y ∷ t) e = other-orders refl e
@@ -65,16 +65,16 @@ compare_same (x ∷ s) (y ∷ t) e =
 -- ---- three names
 
 -- how the first compares to the third, from how it compares to the second and the second to the third, neither being above
-unfoldable pub through : Order → Order → Order
-through Below o = Below
-through Same o = o
-through Above o = o
+unfoldable pub through : Ordering → Ordering → Ordering
+through Less o = Less
+through Equal o = o
+through Greater o = o
 
-through-below : (o : Order) → through o Below ≡ Below
+through-below : (o : Ordering) → through o Less ≡ Less
 unfolding through
-through-below Below = refl
-through-below Same = refl
-through-below Above = refl
+through-below Less = refl
+through-below Equal = refl
+through-below Greater = refl
 
 pub record Through (a b c : List ℕ) : Type 0 where
   pub order : compare a c ≡ through (compare a b) (compare b c)
@@ -101,7 +101,7 @@ module _ (x y z : ℕ) (a b c : List ℕ) where
         shared = rw (common-next x z a c (p ∙ q), common-next x y a b p, common-next y z b c q) (omega arith);
       }
 
-pub names-through : (a b c : List ℕ) → (compare a b ≡ Above → ⊥) → (compare b c ≡ Above → ⊥) → Through a b c
+pub names-through : (a b c : List ℕ) → (compare a b ≡ Greater → ⊥) → (compare b c ≡ Greater → ⊥) → Through a b c
 unfolding compare common through
 names-through [] [] c h k = record { order = refl; shared = omega arith }
 names-through [] (y ∷ b) [] h k = absurd (k refl)
@@ -123,18 +123,18 @@ names-through (x ∷ a) (y ∷ b) (z ∷ c) h k =
     (λ p. absurd (h (compare-more x y a b p)))
 
 -- what the first and the third have in common, where none is above the next
-pub common-through : (a b c : List ℕ) → (compare a b ≡ Above → ⊥) → (compare b c ≡ Above → ⊥) → common a c ≡ min (common a b) (common b c)
+pub common-through : (a b c : List ℕ) → (compare a b ≡ Greater → ⊥) → (compare b c ≡ Greater → ⊥) → common a c ≡ min (common a b) (common b c)
 common-through a b c h k = (names-through a b c h k).shared
 
 -- ---- two names, the other way round
 
 -- how t compares to s, where s compares so to t
-abbrev pub opposite : Order → Order
-opposite Below = Above
-opposite Same = Same
-opposite Above = Below
+abbrev pub opposite : Ordering → Ordering
+opposite Less = Greater
+opposite Equal = Equal
+opposite Greater = Less
 
-opposite-by : (a b : Bool) (o p : Order) → (a ≡ true → b ≡ true → ⊥) → p ≡ opposite o → cond b Below (cond a Above p) ≡ opposite (cond a Below (cond b Above o))
+opposite-by : (a b : Bool) (o p : Ordering) → (a ≡ true → b ≡ true → ⊥) → p ≡ opposite o → cond b Less (cond a Greater p) ≡ opposite (cond a Less (cond b Greater o))
 opposite-by true true o p h e = absurd (h refl refl)
 opposite-by true false o p h e = refl
 opposite-by false true o p h e = refl

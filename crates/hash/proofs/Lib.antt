@@ -1,5 +1,4 @@
 -- Laws that several proofs cite.
 pub mod Blocks
 pub mod Bytes
-pub mod Quarters
 pub mod Schedule

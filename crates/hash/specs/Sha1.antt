@@ -1,8 +1,8 @@
 -- SHA-1, FIPS 180-4. A state is the five words H_0 .. H_4, or the working variables a .. e.
-use Rattle.std.specs.Prelude.{cond, List, [], ◌∷◌, ◌++◌, ℕ, zero, suc, ◌+◌, ◌-◌, ◌*◌, ◌/◌, ltb, length, get_or}
+use Rattle.std.specs.Prelude.{cond, List, [], ◌∷◌, ◌++◌, ℕ, zero, suc, ◌+◌, ◌-◌, ltb, get_or}
 use Rattle.std.specs.Int.Bits.{bit_xor}
-use Rattle.hash_words.specs.Padding.{pad, padded}
-use Rattle.hash_words.specs.Words.{add32, rotl, ch, maj, words, bytes4}
+use Rattle.hash_words.specs.Blocks as Blocks
+use Rattle.hash_words.specs.Words.{add32, rotl, ch, maj, bytes4}
 use Rattle.hash.specs.declared.State.{State}
 
 -- what belongs to round t, where the rounds come in quarters of twenty
@@ -68,18 +68,17 @@ unfoldable pub block : State → List ℕ → State
 block h m = chain h (rounds h (schedule m) 80)
 
 -- 6.1.2: the first n blocks of the bytes p, from the state h
-unfoldable pub absorb : State → List ℕ → ℕ → State
-absorb h p zero = h
-absorb h p (suc n) = block (absorb h p n) (words p (n * 64) 16)
+abbrev pub absorb : State → List ℕ → ℕ → State
+absorb = Blocks.absorb block
 
 -- 6.1.2: the message digest, H_0 ‖ H_1 ‖ H_2 ‖ H_3 ‖ H_4
 unfoldable pub digest : State → List ℕ
 digest h = bytes4 h.a ++ (bytes4 h.b ++ (bytes4 h.c ++ (bytes4 h.d ++ bytes4 h.e)))
 
 -- the digest of a message of n bytes whose last piece is m, from the state h after what is before m
-unfoldable pub finish : State → List ℕ → ℕ → List ℕ
-finish h m n = digest (absorb h (padded n m) (length (padded n m) / 64))
+abbrev pub finish : State → List ℕ → ℕ → List ℕ
+finish = Blocks.finish block digest
 
 -- 6.1: the SHA-1 of a message
-unfoldable pub sha1 : List ℕ → List ℕ
-sha1 m = digest (absorb H0 (pad m) (length (pad m) / 64))
+abbrev pub sha1 : List ℕ → List ℕ
+sha1 = Blocks.digest_of block H0 digest

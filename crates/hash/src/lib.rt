@@ -5,13 +5,16 @@
 
 pub mod buffered;
 
-ghost use Rattle.std.specs.Prelude.{◌≡◌, List, ℕ, ◌+◌, ◌/◌, ◌<◌, ◌≤◌, length, get_or};
+ghost use Rattle.std.specs.Prelude.{◌≡◌, List, ℕ, ◌+◌, ◌<◌, ◌≤◌, length, get_or};
 ghost use Rattle.hash_words.specs.Window.{Holds};
-ghost use Rattle.hash_words.specs.Words.{words};
 ghost use Rattle.hash.specs.Sha1 as F;
 ghost use Rattle.hash.specs.Window.{At};
 
-use hash_words::{add, ch, load, maj, put_word, rotl, tail};
+use hash_words::block_hash::{BlockHash, digest_of};
+use hash_words::{ch, load, maj, put_word, rotl};
+
+// With a state of this hash, `absorb` and `finish` are SHA-1's.
+pub use hash_words::block_hash::{absorb, finish};
 
 // The hash value H_0 .. H_4 between blocks, and the working variables a .. e within one.
 #[derive(Clone, Copy)]
@@ -31,6 +34,7 @@ fn parity(x: u32, y: u32, z: u32) -> u32
 }
 
 // The function of round t (4.1.1).
+#[tactic(auto, unfolding(crate::specs::Sha1::f, crate::specs::Sha1::quarter))]
 fn mix(t: usize, x: u32, y: u32, z: u32) -> u32
     ensures { result ≡ F.f t x y z }
 {
@@ -47,6 +51,7 @@ fn mix(t: usize, x: u32, y: u32, z: u32) -> u32
 }
 
 // The constant of round t (4.2.1).
+#[tactic(auto, unfolding(crate::specs::Sha1::K, crate::specs::Sha1::quarter))]
 fn constant(t: usize) -> u32
     ensures { result ≡ F.K t }
 {
@@ -79,16 +84,15 @@ fn word_of(w: &mut [u32; 16], t: usize) -> u32
 }
 
 // Round t with the word x (6.1.2, step 3).
+#[tactic(auto, unfolding(crate::specs::Sha1::round))]
 fn step(s: State, t: usize, x: u32) -> State
     ensures { result ≡ F.round t x s }
 {
-    let sum = add(
-        add(
-            add(add(rotl(s.a, 5), mix(t, s.b, s.c, s.d)), s.e),
-            constant(t),
-        ),
-        x,
-    );
+    let sum = rotl(s.a, 5)
+        .wrapping_add(mix(t, s.b, s.c, s.d))
+        .wrapping_add(s.e)
+        .wrapping_add(constant(t))
+        .wrapping_add(x);
     State {
         a: sum,
         b: s.a,
@@ -120,96 +124,85 @@ fn five(s: State, w: &mut [u32; 16], t: usize) -> State
 }
 
 // The sums that end a block (6.1.2, step 4).
+#[tactic(auto, unfolding(crate::specs::Sha1::chain))]
 fn chain(h: State, s: State) -> State
     ensures { result ≡ F.chain h s }
 {
     State {
-        a: add(h.a, s.a),
-        b: add(h.b, s.b),
-        c: add(h.c, s.c),
-        d: add(h.d, s.d),
-        e: add(h.e, s.e),
+        a: h.a.wrapping_add(s.a),
+        b: h.b.wrapping_add(s.b),
+        c: h.c.wrapping_add(s.c),
+        d: h.d.wrapping_add(s.d),
+        e: h.e.wrapping_add(s.e),
     }
 }
 
-// The block at a byte (6.1.2). Straight-line code, so that every round's number is a constant once the calls are inlined.
-fn block(h: State, p: &[u8], at: usize) -> State
-    requires { at + 64 ≤ length p.now }
-    ensures { result ≡ F.block h (words p.now at 16) }
-{
-    let mut w = load(p, at);
-    let s5 = five(h, &mut w, 0);
-    let s10 = five(s5, &mut w, 5);
-    let s15 = five(s10, &mut w, 10);
-    let s20 = five(s15, &mut w, 15);
-    let s25 = five(s20, &mut w, 20);
-    let s30 = five(s25, &mut w, 25);
-    let s35 = five(s30, &mut w, 30);
-    let s40 = five(s35, &mut w, 35);
-    let s45 = five(s40, &mut w, 40);
-    let s50 = five(s45, &mut w, 45);
-    let s55 = five(s50, &mut w, 50);
-    let s60 = five(s55, &mut w, 55);
-    let s65 = five(s60, &mut w, 60);
-    let s70 = five(s65, &mut w, 65);
-    let s75 = five(s70, &mut w, 70);
-    let s80 = five(s75, &mut w, 75);
-    chain(h, s80)
+impl BlockHash for State {
+    type Digest = [u8; 20];
+
+    ghost start = { F.H0 };
+
+    ghost block = { F.block };
+
+    ghost digest = { F.digest };
+
+    // The state before any block (5.3.1).
+    #[tactic(auto, unfolding(crate::specs::Sha1::H0))]
+    fn start() -> State {
+        State {
+            a: 0x67452301,
+            b: 0xefcdab89,
+            c: 0x98badcfe,
+            d: 0x10325476,
+            e: 0xc3d2e1f0,
+        }
+    }
+
+    // A block (6.1.2). Straight-line code, so that every round's number is a constant once the calls are inlined.
+    fn block(self, bytes: &[u8]) -> State {
+        let mut w = load(bytes, 0);
+        let s5 = five(self, &mut w, 0);
+        let s10 = five(s5, &mut w, 5);
+        let s15 = five(s10, &mut w, 10);
+        let s20 = five(s15, &mut w, 15);
+        let s25 = five(s20, &mut w, 20);
+        let s30 = five(s25, &mut w, 25);
+        let s35 = five(s30, &mut w, 30);
+        let s40 = five(s35, &mut w, 35);
+        let s45 = five(s40, &mut w, 40);
+        let s50 = five(s45, &mut w, 45);
+        let s55 = five(s50, &mut w, 50);
+        let s60 = five(s55, &mut w, 55);
+        let s65 = five(s60, &mut w, 60);
+        let s70 = five(s65, &mut w, 65);
+        let s75 = five(s70, &mut w, 70);
+        let s80 = five(s75, &mut w, 75);
+        chain(self, s80)
+    }
+
+    // The bytes of the five words (6.1.2).
+    #[tactic(auto, unfolding(crate::specs::Sha1::digest, hash_words::specs::Words::bytes4))]
+    fn digest(self) -> [u8; 20] {
+        let mut out = [0u8; 20];
+        put_word(&mut out, 0, self.a);
+        put_word(&mut out, 4, self.b);
+        put_word(&mut out, 8, self.c);
+        put_word(&mut out, 12, self.d);
+        put_word(&mut out, 16, self.e);
+        out
+    }
 }
 
-// The bytes of the five words (6.1.2).
-fn digest(h: State) -> [u8; 20]
-    ensures { result ≡ F.digest h }
-{
-    let mut out = [0u8; 20];
-    put_word(&mut out, 0, h.a);
-    put_word(&mut out, 4, h.b);
-    put_word(&mut out, 8, h.c);
-    put_word(&mut out, 12, h.d);
-    put_word(&mut out, 16, h.e);
-    out
-}
-
-// The state before any block (5.3.1).
+// The state before any block: the trait's, under the name that callers have for it.
 pub fn start() -> State
     ensures { result ≡ F.H0 }
 {
-    State {
-        a: 0x67452301,
-        b: 0xefcdab89,
-        c: 0x98badcfe,
-        d: 0x10325476,
-        e: 0xc3d2e1f0,
-    }
-}
-
-// The state after every whole block of a piece. Bytes after the last whole block are not read.
-pub fn absorb(h: State, bytes: &[u8]) -> State
-    ensures { result ≡ F.absorb h bytes.now (length bytes.now / 64) }
-{
-    let full = bytes.len() / 64;
-    let mut s = h;
-    let mut i: usize = 0;
-    while i < full {
-        s = block(s, bytes, i * 64);
-        i += 1;
-    }
-    s
-}
-
-// The digest of a message of length bytes whose last piece is rest, from the state after the whole blocks before it.
-pub fn finish(h: State, rest: &[u8], length: u64) -> [u8; 20]
-    ensures { result ≡ F.finish h rest.now length }
-{
-    let g = absorb(h, rest);
-    let t = tail(rest, length);
-    let end: usize = if rest.len() % 64 < 56 { 64 } else { 128 };
-    digest(absorb(g, &t[..end]))
+    State::start()
 }
 
 // The SHA-1 of a message.
 pub fn sha1(bytes: &[u8]) -> [u8; 20]
     ensures { result ≡ F.sha1 bytes.now }
 {
-    finish(start(), bytes, bytes.len() as u64)
+    digest_of::<State>(bytes)
 }

@@ -6,15 +6,14 @@
 
 #![tactic(auto)]
 
+mod examples;
 mod print;
-mod with_sha1;
-mod with_sha256;
 
 use std::io;
 
 fn main(rt: HostRuntime) -> io::Result<()> {
-    with_sha1::whole(&rt)?;
-    with_sha1::pieces(&rt)?;
-    with_sha256::whole(&rt)?;
-    with_sha256::pieces(&rt)
+    examples::whole::<hash::State, _>(&rt, "SHA-1")?;
+    examples::pieces::<hash::State, _>(&rt, "SHA-1")?;
+    examples::whole::<sha256::State, _>(&rt, "SHA-256")?;
+    examples::pieces::<sha256::State, _>(&rt, "SHA-256")
 }

@@ -1,9 +1,15 @@
 // Writes a line: a description, two spaces, the digest as lower-case hexadecimal digits.
+use std::convert::AsSlice;
 use std::{fmt, io};
 
-pub fn line(rt: &impl Print, description: &str, digest: &[u8]) -> io::Result<()> {
-    let digits = Digits(digest);
-    println!(rt; "{description}  {digits}")
+pub fn line<D: AsSlice<u8>>(
+    rt: &impl Print,
+    hash: &str,
+    message: &str,
+    digest: &D,
+) -> io::Result<()> {
+    let digits = Digits(digest.as_slice());
+    println!(rt; "{hash} of {message}  {digits}")
 }
 
 #[derive(Clone, Copy)]

@@ -1,5 +1,7 @@
 -- Runs of stores into a list. Assumes nothing.
-use Rattle.std.proofs.Common.{◌≡◌, ℕ, zero, suc, ◌+◌, ◌-◌, ◌<◌, ◌≤◌, List, [], ◌∷◌, ◌++◌, length, get_or, take, drop, set, replicate, sym, ap, ◌∙◌, append_assoc, add-zero, zero-add, add-one, arith, length-drop, take-append-drop, length-take-le, take_all, take-suc, take_at}
+use Rattle.std.proofs.Common.{[], take-suc, ap, ◌∷◌, add-zero, ◌≡◌, ℕ, zero, suc, ◌+◌, ◌-◌, ◌<◌, ◌≤◌, List, ◌++◌, length, get_or, take, drop, set, replicate, refl, sym, ◌∙◌, append_assoc, zero-add, add-one, arith, length-drop, length-take-le, take-append-drop, take_all, take_at}
+use Rattle.std.proofs.lemmas.Slice.{put_mid-paste}
+use borrow.Rule.Slice.PartMut.{put_mid}
 use native.Mathlib.Nat.{sub-zero}
 use lib.Seq.{sets, sets-eq, paste-suc}
 
@@ -24,8 +26,13 @@ rest_of s k = take_all (length s - k) (drop k s) (omega (arith, length-drop k s)
 pub in_parts : (m s : List ℕ) (k : ℕ) → (m ++ take k s) ++ take (length s - k) (drop k s) ≡ m ++ s
 in_parts m s k = rw (rest_of s k) (append_assoc m (take k s) (drop k s) ∙ rw (take-append-drop k s))
 
+-- a run over as many elements, as a slice of b is written
+pub put-run : (b s : List ℕ) (i k : ℕ) → length s ≡ k → i + k ≤ length b → put_mid i k b s ≡ sets b i s
+put-run b s i k l h =
+    put_mid-paste i k b s s (length s) refl l refl ∙ rw (take_all (length s) s (omega arith)) (sym (sets-eq s b i (omega arith)))
+
 -- two runs, the second where the first ends, are one
-pub sets-append : (s t l : List ℕ) (i : ℕ) → sets (sets l i s) (i + length s) t ≡ sets l i (s ++ t)
+sets-append : (s t l : List ℕ) (i : ℕ) → sets (sets l i s) (i + length s) t ≡ sets l i (s ++ t)
 sets-append [] t l i = rw add-zero
 sets-append (a ∷ s) t l i =
     let e : i + suc (length s) ≡ suc i + length s = omega arith in
@@ -37,6 +44,10 @@ sets-next l s j i h =
     let e : length (take i s) ≡ i = length-take-le i s (omega arith) in
     let a = rw e at (sets-append (take i s) (get_or s i 0 ∷ []) l j) in
     rw add-one (a ∙ ap (sets l j) (sym (take-suc s i 0 h)))
+
+-- a run from the start on
+pub sets-first : (l s : List ℕ) → length s ≤ length l → sets l 0 s ≡ s ++ drop (length s) l
+sets-first l s h = rw zero-add at (sets-eq s l 0 (rw zero-add h))
 
 -- a run that starts where p ends
 pub sets-after : (p q s : List ℕ) (i : ℕ) → length p ≡ i → i + length s ≤ length (p ++ q) → sets (p ++ q) i s ≡ p ++ (s ++ drop (i + length s) (p ++ q))

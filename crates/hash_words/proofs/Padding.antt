@@ -2,34 +2,33 @@
 use Rattle.std.proofs.Common.{◌≡◌, ℕ, suc, ◌+◌, ◌-◌, ◌*◌, ◌/◌, ◌%◌, ◌^◌, ◌<◌, ◌≤◌, List, ◌∷◌, ◌++◌, length, get_or, drop, set, replicate, sym, ap, ◌∙◌, append_assoc, arith, length-append, length-drop}
 use lib.ListN.{length-replicate, replicate-append-replicate, get_or-append}
 use lib.Seq.{sets, length-sets, set_at, take-append_seam, drop-append-le}
+use Rattle.std.specs.Int.{w64, to_be_bytes}
 use Rattle.hash_words.specs.Padding.{be64, padded, ending, Tail}
 use Rattle.hash_words.specs.Words.{bytes4}
-use Rattle.hash_words.proofs.Copying.{sets-append, sets-after, drop-replicate}
-use Rattle.hash_words.proofs.Words.{length-bytes4, bytes4-low}
+use Rattle.hash_words.proofs.Copying.{sets-after, drop-replicate}
+use Rattle.hash_words.proofs.Words.{length-bytes4}
 
 pub length-be64 : (x : ℕ) → length (be64 x) ≡ 8
 unfolding be64
 length-be64 x = simp (length-append, length-bytes4)
 
--- a count of bits that is kept to 64 of them, word by word
-pub be64-words : (x : ℕ) → bytes4 (x % 2 ^ 64 / 2 ^ 32) ++ bytes4 (x % 2 ^ 64 % 2 ^ 32) ≡ be64 x
-unfolding be64
-be64-words x =
-    let h : x % 2 ^ 64 / 2 ^ 32 ≡ x / 2 ^ 32 % 2 ^ 32 = omega arith in
-    let l : x % 2 ^ 64 % 2 ^ 32 ≡ x % 2 ^ 32 = omega arith in
-    rw (h, l, bytes4-low (x / 2 ^ 32), bytes4-low x)
+-- the bytes of a count of bits that is kept to 64 of them
+pub be64-bytes : (x : ℕ) → to_be_bytes w64 (x % 2 ^ 64) ≡ be64 x
+unfolding be64 bytes4
+be64-bytes x =
+    let b7 : x % 2 ^ 64 / 256 ^ 7 % 256 ≡ x / 2 ^ 32 / 2 ^ 24 % 256 = omega arith in
+    let b6 : x % 2 ^ 64 / 256 ^ 6 % 256 ≡ x / 2 ^ 32 / 2 ^ 16 % 256 = omega arith in
+    let b5 : x % 2 ^ 64 / 256 ^ 5 % 256 ≡ x / 2 ^ 32 / 2 ^ 8 % 256 = omega arith in
+    let b4 : x % 2 ^ 64 / 256 ^ 4 % 256 ≡ x / 2 ^ 32 % 256 = omega arith in
+    let b3 : x % 2 ^ 64 / 256 ^ 3 % 256 ≡ x / 2 ^ 24 % 256 = omega arith in
+    let b2 : x % 2 ^ 64 / 256 ^ 2 % 256 ≡ x / 2 ^ 16 % 256 = omega arith in
+    let b1 : x % 2 ^ 64 / 256 ^ 1 % 256 ≡ x / 2 ^ 8 % 256 = omega arith in
+    let b0 : x % 2 ^ 64 % 256 ≡ x % 256 = omega arith in
+    rw (b7, b6, b5, b4, b3, b2, b1, b0)
 
 -- the low 64 bits of a number decide
 be64-low : (x y : ℕ) → x % 2 ^ 64 ≡ y % 2 ^ 64 → be64 x ≡ be64 y
-be64-low x y e = sym (be64-words x) ∙ rw e (be64-words y)
-
--- two stores of a word are one of a count of bits
-pub put-words : (l a b : List ℕ) (i x : ℕ) → a ≡ sets l i (bytes4 (x % 2 ^ 64 / 2 ^ 32)) → b ≡ sets a (i + 4) (bytes4 (x % 2 ^ 64 % 2 ^ 32))
-    → b ≡ sets l i (be64 x)
-put-words l a b i x p q =
-    let h : List ℕ = bytes4 (x % 2 ^ 64 / 2 ^ 32) in
-    let f : List ℕ = bytes4 (x % 2 ^ 64 % 2 ^ 32) in
-    q ∙ rw p (rw (length-bytes4 (x % 2 ^ 64 / 2 ^ 32)) at (sets-append h f l i)) ∙ ap (sets l i) (be64-words x)
+be64-low x y e = sym (be64-bytes x) ∙ rw e (be64-bytes y)
 
 -- ---- the padded message
 pub length-padded : (n : ℕ) (m : List ℕ) → length (padded n m) ≡ length m + 1 + (119 - length m % 64) % 64 + 8

@@ -1,5 +1,5 @@
 -- The words of a block, and the bytes of a word. Assumes nothing.
-use Rattle.std.proofs.Common.{◌≡◌, ℕ, zero, suc, ◌+◌, ◌*◌, ◌/◌, ◌%◌, ◌^◌, ◌<◌, List, ◌∷◌, length, get_or, refl, ap, ap₂, add-zero, add_assoc, arith}
+use Rattle.std.proofs.Common.{◌≡◌, ℕ, zero, suc, ◌+◌, ◌*◌, ◌<◌, List, ◌∷◌, length, get_or, refl, ap, ap₂, add-zero, add_assoc, arith}
 use Rattle.hash_words.specs.Words.{be32, bytes4, words}
 
 pub length-words : (p : List ℕ) (i n : ℕ) → length (words p i n) ≡ n
@@ -28,13 +28,3 @@ words_same p q i j (suc n) h =
 pub length-bytes4 : (x : ℕ) → length (bytes4 x) ≡ 4
 unfolding bytes4
 length-bytes4 x = refl
-
--- a word's bytes are those of its low 32 bits
-pub bytes4-low : (x : ℕ) → bytes4 (x % 2 ^ 32) ≡ bytes4 x
-unfolding bytes4
-bytes4-low x =
-    let a : x % 2 ^ 32 / 2 ^ 24 % 256 ≡ x / 2 ^ 24 % 256 = omega arith in
-    let b : x % 2 ^ 32 / 2 ^ 16 % 256 ≡ x / 2 ^ 16 % 256 = omega arith in
-    let c : x % 2 ^ 32 / 2 ^ 8 % 256 ≡ x / 2 ^ 8 % 256 = omega arith in
-    let d : x % 2 ^ 32 % 256 ≡ x % 256 = omega arith in
-    cc

@@ -8,9 +8,11 @@ use native.Mathlib.Omega.{arith}
 use lib.ListN.{length, take, drop, replicate, length-append, length-take, length-drop}
 use lib.Seq.{length-take-le}
 use lib.Dec.{eqb}
+use Rattle.std.specs.Prelude.{Result, Ok}
 use Rattle.format.specs.Records as F
 use Rattle.format.specs.Reader as R
 use Rattle.format.specs.Places.{body_in}
+use Rattle.format.specs.Refusals.{Numbered}
 use Rattle.fields.specs.Workspace.{Frame}
 use Rattle.entries_run.specs.declared.Step.{Step}
 use Rattle.entries_run.specs.Steps.{name_at, entry_at}
@@ -49,7 +51,7 @@ module _ (w : ℕ) (v : ℕ) (f written : List ℕ) (at : ℕ) (st : Step) (o : 
 
   -- versions 2 and 3: the name is a part of the file
   pub shown-file : eqb v 4 ≡ false → st.next.start + st.next.len ≤ length (body_in w f) → work' ≡ cleared work
-      → st.next.start ≡ place → EntryShows w place (pick (eqb v 4) o) f work work' (record { shown = S.InFile st.next.start st.next.len; fields = x })
+      → st.next.start ≡ place → EntryShows w place (pick (eqb v 4) o) f work work' (Ok (record { shown = S.InFile st.next.start st.next.len; fields = x }))
   unfolding entry_said name_in name_at entry
   shown-file old inside after placed =
       let b : length (body_in w f) ≤ length f - w = simp length-take (omega arith) in
@@ -70,7 +72,7 @@ module _ (w : ℕ) (v : ℕ) (f written : List ℕ) (at : ℕ) (st : Step) (o : 
   -- version 4: the name is first in the workspace
   pub shown-work : eqb v 4 ≡ true → st.next.len ≤ 8192 → 8192 ≤ length work → Frame work written
       → work' ≡ take st.next.len written ++ (replicate (8192 - st.next.len) 0 ++ drop 8192 written)
-      → EntryShows w place (pick (eqb v 4) o) f work work' (record { shown = S.InWorkspace st.next.len; fields = x })
+      → EntryShows w place (pick (eqb v 4) o) f work work' (Ok (record { shown = S.InWorkspace st.next.len; fields = x }))
   unfolding entry_said name_at entry
   shown-work new short room frame held =
       let fits : st.next.len ≤ length written = omega (arith, frame) in
@@ -99,7 +101,7 @@ after_same (refused n p) work written room frame = cleared-same work written roo
 after_same (in_file e) work written room frame = cleared-same work written room frame
 after_same (in_workspace e) work written room frame = rw frame.past
 
-pub shown-again : (w : ℕ) (v u : View F.Entry) (f work written work' : List ℕ) (at : ℕ) (r : EntryAnswer) → v ≡ u → EntryShows w at u f written work' r
+pub shown-again : (w : ℕ) (v u : View F.Entry) (f work written work' : List ℕ) (at : ℕ) (r : Result EntryAnswer Numbered) → v ≡ u → EntryShows w at u f written work' r
     → written ≡ cleared work → 8192 ≤ length work → EntryShows w at v f work work' r
 shown-again w v u f work written work' at r e h clean room =
     rw e (record { shows = h.shows; after = h.after ∙ after_same u work written room (rw clean (cleared-frame work room)) })

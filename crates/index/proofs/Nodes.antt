@@ -7,6 +7,8 @@ use Prim.Native.Nat.{ℕ, ◌+◌, ◌-◌, ◌≤◌, ◌<◌}
 use native.Mathlib.Omega.{arith}
 use lib.ListN.{length, take, drop, get_or, replicate, length-take, length-drop, length-replicate}
 use lib.Seq.{drop-drop}
+use Rattle.std.specs.Prelude as P
+use Rattle.std.specs.Prelude.{Ok, Some, None, is_some, IsSome, IfSome}
 use Rattle.format.specs.Records as F
 use Rattle.format.specs.Layout.{is_valid, ObjectBytes}
 use Rattle.format.specs.Reading.{good}
@@ -15,7 +17,6 @@ use Rattle.format.specs.Reader.{Head, read_text, read_count, read_subtrees, read
 use Rattle.format_laws.proofs.Tests.{false-true}
 use Rattle.format_laws.proofs.Readings.{bind_inv}
 use Rattle.tree_nodes.specs.declared.node.Node as Code
-use Rattle.tree_nodes.specs.declared.node.NodeRead.TheVariants as N
 use Rattle.tree_nodes.specs.Answers.{counted, object_length, node_of, node_at}
 use Rattle.format.specs.Places.{body_in, data_in, node_start}
 use Rattle.tree_nodes.proofs.Readings.{node-took}
@@ -29,9 +30,9 @@ use Rattle.entries.proofs.Fields.{wide-narrow}
 use Rattle.resolve_undo.proofs.Laws.{wide-zeros}
 use Rattle.spelling.proofs.Tree.{node-read}
 use Rattle.answers.specs.declared.Shown.TheVariants as S
-use Rattle.answers.specs.Answers.{View, refused, in_file, listed, items_of, part_in, name_in, count_with, node_said, count_number}
+use Rattle.answers.specs.Answers.{View, refused, in_file, listed, items_of, part_in, name_in, count_with, count_shown, node_said}
 use Rattle.answers.proofs.Laws.{part_in_lem, part-within, item-none}
-use Rattle.extensions.specs.declared.TreePlace.{TreePlace}
+use Rattle.extensions.specs.declared.Place.{Place}
 use Rattle.extensions.specs.Heads.{part}
 use Rattle.extensions.specs.Found.{TreeIs, TreeFound}
 use Rattle.index.specs.Calls.{NodeShows}
@@ -43,20 +44,20 @@ root : F.Tree → F.Item
 root t = record { node = t.root; level = 1; subtrees = 0 }
 
 -- where the data are
-pub record Within (f : List ℕ) (tree : TreePlace) : Type 0 where
+pub record Within (f : List ℕ) (tree : Place) : Type 0 where
   pub order : tree.at ≤ tree.end
   pub inside : tree.end ≤ length f
   pub long : length (part f tree.at tree.end) ≡ tree.end - tree.at
 
 -- the node that was found in them, and the item that it is
-pub record ItemHere (w : ℕ) (k : ℕ) (f : List ℕ) (tree : TreePlace) (node : NodePlace) (i : F.Item) : Type 0 where
+pub record ItemHere (w : ℕ) (k : ℕ) (f : List ℕ) (tree : Place) (node : NodePlace) (i : F.Item) : Type 0 where
   pub within : Within f tree
   pub place : tree.at + node_start w k (data_in tree.at (body_in w f)) ≡ tree.at + node.place
   pub level : i.level ≡ node.level
   pub taken : ℕ
   pub reads : read_node w 0 (drop node.place (part f tree.at tree.end)) ≡ good (record { node = i.node; subtrees = i.subtrees }) taken
 
-module _ (w : ℕ) (k : ℕ) (f : List ℕ) (tree : TreePlace) where
+module _ (w : ℕ) (k : ℕ) (f : List ℕ) (tree : Place) where
   within-is : (t : F.Tree) → TreeIs w (body_in w f) t tree → Within f tree
   within-is t is =
       let b : length (body_in w f) ≤ length f = simp length-take (omega arith) in
@@ -64,13 +65,9 @@ module _ (w : ℕ) (k : ℕ) (f : List ℕ) (tree : TreePlace) where
       let inside = is.inside in
       record { order = order; inside = omega arith; long = simp (length-take, length-drop) (omega arith) }
 
-  pub within : (o : Option F.Tree) → TreeFound w (body_in w f) o tree → k < tree.nodes → Within f tree
-  within none is more = let z : tree.nodes ≡ 0 = ap (λ (x : TreePlace). x.nodes) is in absurd (omega arith)
-  within (some t) is more = within-is t is
-
-  pub no-node-there : (o : Option F.Tree) → TreeFound w (body_in w f) o tree → tree.nodes ≤ k → listed (items_of o) k ≡ refused 18 0
-  no-node-there none is few = refl
-  no-node-there (some t) is few = pick-none false _ (item-none (F.tree_items t) k (omega (arith, is.nodes)))
+  pub within : (o : Option F.Tree) → TreeFound w (body_in w f) o (Some tree) → Within f tree
+  within none is = absurd is
+  within (some t) is = within-is t is
 
   module _ (node : NodePlace) (found : NodeFound w (part f tree.at tree.end) k node) where
     item-here-is : (t : F.Tree) → TreeIs w (body_in w f) t tree → k < length (F.tree_items t) → ItemHere w k f tree node (get_or (F.tree_items t) k (root t))
@@ -88,12 +85,18 @@ module _ (w : ℕ) (k : ℕ) (f : List ℕ) (tree : TreePlace) where
         }
 
     -- by what was read of the file
-    pub item-here {ℓ} : {X : Type ℓ} (o : Option F.Tree) → TreeFound w (body_in w f) o tree → k < tree.nodes
-        → ((i : F.Item) → listed (items_of o) k ≡ in_file i → tree.there ≡ true → ItemHere w k f tree node i → X) → X
-    item-here none is more g = let z : tree.nodes ≡ 0 = ap (λ (x : TreePlace). x.nodes) is in absurd (omega arith)
+    pub item-here {ℓ} : {X : Type ℓ} (o : Option F.Tree) → TreeFound w (body_in w f) o (Some tree) → k < tree.count
+        → ((i : F.Item) → listed (items_of o) k ≡ in_file i → ItemHere w k f tree node i → X) → X
+    item-here none is more g = absurd is
     item-here (some t) is more g =
         let few : k < length (F.tree_items t) = omega (arith, is.nodes) in
-        g (get_or (F.tree_items t) k (root t)) (pick-file false _ _ refl (item-some (F.tree_items t) k (root t) few)) is.there (item-here-is t is few)
+        g (get_or (F.tree_items t) k (root t)) (pick-file false _ _ refl (item-some (F.tree_items t) k (root t) few)) (item-here-is t is few)
+
+-- where there is no node k
+pub no-node-there : (w : ℕ) (k : ℕ) (f : List ℕ) (place : P.Option Place) (o : Option F.Tree) → TreeFound w (body_in w f) o place → IfSome place (λ p. p.count ≤ k) → listed (items_of o) k ≡ refused 18 0
+no-node-there w k f place none is few = refl
+no-node-there w k f None (some t) is few = absurd is
+no-node-there w k f (Some p) (some t) is few = pick-none false _ (item-none (F.tree_items t) k (omega (arith, is.nodes)))
 
 -- ---- what is read there
 
@@ -103,19 +106,22 @@ pub record NodeParts (w : ℕ) (d : List ℕ) (at : ℕ) (i : F.Item) (n : Code.
   pub inside : n.nul ≤ length d
   pub size : n.nul - at ≡ length i.node.name
   pub name : i.node.name ≡ take (n.nul - at) (drop at d)
-  pub valid : n.valid ≡ is_valid i.node.count
-  pub count : n.count ≡ count_number i.node.count
+  pub count : n.count ≡ count_shown i.node.count
   pub subtrees : n.subtrees ≡ i.subtrees
-  pub there : n.valid ≡ true → n.object + w ≤ length d
-  pub object : i.node.object ≡ cond n.valid (take w (drop n.object d)) (replicate w 0)
+  pub there : IsSome n.count → n.object + w ≤ length d
+  pub object : i.node.object ≡ cond (is_some n.count) (take w (drop n.object d)) (replicate w 0)
 
-count-number : (c : F.Count) → counted c ≡ count_number c
-count-number (F.valid n) = refl
-count-number F.invalid = refl
+count-shown : (c : F.Count) → counted c ≡ count_shown c
+count-shown (F.valid n) = refl
+count-shown F.invalid = refl
 
-with-count : (c : F.Count) → count_with (is_valid c) (count_number c) ≡ c
+with-count : (c : F.Count) → count_with (count_shown c) ≡ c
 with-count (F.valid n) = refl
 with-count F.invalid = refl
+
+count-valid : (c : F.Count) → is_some (counted c) ≡ is_valid c
+count-valid (F.valid n) = refl
+count-valid F.invalid = refl
 
 valid-length : (w : ℕ) (c : F.Count) → is_valid c ≡ true → object_length w c ≡ w
 valid-length w (F.valid n) e = refl
@@ -135,9 +141,9 @@ node-takes w p s h m e v =
 
 module _ (w : ℕ) (d : List ℕ) (at : ℕ) (i : F.Item) (taken : ℕ)
     (reads : read_node w 0 (drop at d) ≡ good (record { node = i.node; subtrees = i.subtrees }) taken) where
-  pub node-there : N.Bad ≡ node_at w at (read_node w 0 (drop at d)) → ⊥
+  pub node-there : None ≡ node_at w at (read_node w 0 (drop at d)) → ⊥
   unfolding node_at
-  node-there e = let q = rw reads at e in let z : ◌≡◌ {A = ℕ} 0 1 = cc in omega arith
+  node-there e = let q = rw reads at e in absurd (cc)
 
   object-at : (t : Bool) → is_valid i.node.count ≡ t
       → i.node.object ≡ cond t (take w (drop (at + taken - object_length w i.node.count) d)) (replicate w 0)
@@ -161,27 +167,27 @@ module _ (w : ℕ) (d : List ℕ) (at : ℕ) (i : F.Item) (taken : ℕ)
         inside = omega arith;
         size = omega arith;
         name = g.0 ∙ rw end;
-        valid = refl;
-        count = count-number i.node.count;
+        count = count-shown i.node.count;
         subtrees = refl;
-        there = λ v.
+        there = λ e.
+            let v = rw (count-valid i.node.count) at e in
             let long = node-takes w 0 (drop at d) _ taken reads v in
             let o = valid-length w i.node.count v in omega arith;
-        object = object-at (is_valid i.node.count) refl;
+        object = rw (count-valid i.node.count) (object-at (is_valid i.node.count) refl);
       }
 
-  pub node-parts : (n : Code.Node) → N.Good n ≡ node_at w at (read_node w 0 (drop at d)) → NodeParts w d at i n
+  pub node-parts : (n : Code.Node) → Some n ≡ node_at w at (read_node w 0 (drop at d)) → NodeParts w d at i n
   unfolding node_at
   node-parts n e =
       let q = rw reads at e in
       let is : n ≡ node_of w at (record { node = i.node; subtrees = i.subtrees }) taken = cc in rw is parts_are
 
 -- the places of the node that was found
-pub places : (w : ℕ) (k : ℕ) (f : List ℕ) (tree : TreePlace) (node : NodePlace) → NodeFound w (part f tree.at tree.end) k node → (o : Option F.Tree) → TreeFound w (body_in w f) o tree → k < tree.nodes
-    → (n : Code.Node) → N.Good n ≡ node_at w node.place (read_node w 0 (drop node.place (part f tree.at tree.end)))
-    → (node.place ≤ n.nul) × (n.valid ≡ true → n.object + w ≤ length (part f tree.at tree.end))
+pub places : (w : ℕ) (k : ℕ) (f : List ℕ) (tree : Place) (node : NodePlace) → NodeFound w (part f tree.at tree.end) k node → (o : Option F.Tree) → TreeFound w (body_in w f) o (Some tree) → k < tree.count
+    → (n : Code.Node) → Some n ≡ node_at w node.place (read_node w 0 (drop node.place (part f tree.at tree.end)))
+    → (node.place ≤ n.nul) × (IsSome n.count → n.object + w ≤ length (part f tree.at tree.end))
 places w k f tree node found o is more n e =
-    item-here w k f tree node found o is more λ i v there h.
+    item-here w k f tree node found o is more λ i v h.
     let p = node-parts w (part f tree.at tree.end) node.place i h.taken h.reads n e in (p.named, p.there)
 
 -- ---- the answer
@@ -199,19 +205,18 @@ object-long w F.invalid o a h = ap length h.0 ∙ length-replicate {A = ℕ} w 0
 node-long : (w : ℕ) (p : ℕ) (s : List ℕ) (h : Head) (m : ℕ) → read_node w p s ≡ good h m → length h.node.object ≡ w
 node-long w p s h m e = object-long w h.node.count h.node.object _ (node-read w p s h m e).1.object
 
-pub node-shows : (w : ℕ) (k : ℕ) (f : List ℕ) (tree : TreePlace) (node : NodePlace) (at : ℕ) (v : View F.Item) (i : F.Item) → v ≡ in_file i → ItemHere w k f tree node i → w ≤ 32
+pub node-shows : (w : ℕ) (k : ℕ) (f : List ℕ) (tree : Place) (node : NodePlace) (at : ℕ) (v : View F.Item) (i : F.Item) → v ≡ in_file i → ItemHere w k f tree node i → w ≤ 32
     → tree.at + node_start w k (data_in tree.at (body_in w f)) ≡ at
     → (n : Code.Node) → NodeParts w (part f tree.at tree.end) node.place i n
-    → (object : List ℕ) → object ≡ cond n.valid (wide_object (take w (drop n.object (part f tree.at tree.end)))) (replicate 32 0)
+    → (object : List ℕ) → object ≡ cond (is_some n.count) (wide_object (take w (drop n.object (part f tree.at tree.end)))) (replicate 32 0)
     → NodeShows w at v f
-    (record {
+    (Ok (record {
       shown = S.InFile (tree.at + node.place) (n.nul - node.place);
       level = node.level;
-      valid = n.valid;
       count = n.count;
       subtrees = n.subtrees;
       object = object;
-    })
+    }))
 unfolding node_said name_in
 node-shows w k f tree node at v i is h narrow placed n p object o =
     let d : List ℕ = part f tree.at tree.end in
@@ -226,12 +231,12 @@ node-shows w k f tree node at v i is h narrow placed n p object o =
     ∙ part-within (tree.end - tree.at) node.place (n.nul - node.place) (drop tree.at f) (omega arith)
     ∙ ap (take (n.nul - node.place)) (drop-drop node.place tree.at f)) in
     let own : tree.at + node.place ≡ at = sym h.place ∙ placed in
-    let same : object ≡ wide_object i.node.object = o ∙ wide-choice w n.valid _ narrow ∙ ap wide_object (sym p.object) in
+    let same : object ≡ wide_object i.node.object = o ∙ wide-choice w (is_some n.count) _ narrow ∙ ap wide_object (sym p.object) in
     let narrowed : take w object ≡ i.node.object = ap (take w) same ∙ wide-narrow w i.node.object (node-long w 0 _ _ _ h.reads) in
     record {
       shows = λ work. record {
-        whole = rw (is, own, p.size, same, p.valid, p.count, p.subtrees, ← h.level) refl;
-        said = rw (name, narrowed, p.valid, p.count, with-count i.node.count, p.subtrees, ← h.level, is) refl;
+        whole = rw (is, own, p.size, same, p.count, p.subtrees, ← h.level) refl;
+        said = rw (name, narrowed, p.count, with-count i.node.count, p.subtrees, ← h.level, is) refl;
         inside = fits;
       };
       zeros = λ e. o ∙ rw e;

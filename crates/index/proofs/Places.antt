@@ -1,10 +1,11 @@
 -- Where the parts of an accepted file are, as the code finds them.
 use mathlib.Core.Path.{◌≡◌, sym, ap, ◌∙◌}
 use mathlib.Core.List.{List, []}
-use mathlib.Core.Bool.{true}
 use Prim.Native.Nat.{ℕ, ◌+◌, ◌-◌, ◌≤◌}
 use native.Mathlib.Omega.{arith}
 use lib.ListN.{length}
+use Rattle.std.specs.Prelude.{IfSome}
+use Rattle.std.proofs.lemmas.Option.{IfSome_then}
 use borrow.Author.Tests.{leb-true}
 use Rattle.format.specs.Bytes.{be32}
 use Rattle.format.specs.Records.{Entry}
@@ -48,12 +49,10 @@ module _ (kind : ℕ) (work f : List ℕ) (parts : Parts) (h : Contains (width_o
   data-of x at e = e ∙ ap (λ n. data_place x n (body_in width f)) (sym h.end ∙ (read-places width (hash_of kind) f _ _ read).1)
 
   module _ (k : ℕ) where
-    pub node-place : parts.found.tree.there ≡ true
-        → parts.found.tree.at + node_start width k (data_in parts.found.tree.at (body_in width f)) ≡ node_place width k f
+    pub node-place : IfSome parts.found.tree (λ p. p.at + node_start width k (data_in p.at (body_in width f)) ≡ node_place width k f)
     unfolding node_place
-    node-place there = ap (λ n. n + node_start width k (data_in n (body_in width f))) (data-of TREE _ (h.tree_at there))
+    node-place = IfSome_then parts.found.tree h.tree_at (λ p at. ap (λ n. n + node_start width k (data_in n (body_in width f))) (data-of TREE _ at))
 
-    pub undo-place : parts.found.undo.there ≡ true
-        → parts.found.undo.at + undo_start width 0 k [] (data_in parts.found.undo.at (body_in width f)) ≡ undo_place width k f
+    pub undo-place : IfSome parts.found.undo (λ p. p.at + undo_start width 0 k [] (data_in p.at (body_in width f)) ≡ undo_place width k f)
     unfolding undo_place
-    undo-place there = ap (λ n. n + undo_start width 0 k [] (data_in n (body_in width f))) (data-of REUC _ (h.undo_at there))
+    undo-place = IfSome_then parts.found.undo h.undo_at (λ p at. ap (λ n. n + undo_start width 0 k [] (data_in n (body_in width f))) (data-of REUC _ at))

@@ -1,5 +1,5 @@
 -- Laws of parts of lists, of the answers' views, and of refusals.
-use mathlib.Core.Path.{◌≡◌, refl, sym, ap, ◌∙◌}
+use mathlib.Core.Path.{◌≡◌, refl, sym, ap}
 use mathlib.Core.List.{List, [], ◌∷◌}
 use mathlib.Core.Bool.{Bool, true, false}
 use mathlib.Core.Option.{Option, none, some}
@@ -10,10 +10,8 @@ use Rattle.format.specs.Records as F
 use Rattle.format.specs.Reading.{Read}
 use Rattle.format.specs.Reader.{Contents}
 use Rattle.format.specs.Places.{body_in}
-use Rattle.answers.specs.declared.EntryAnswer.{EntryAnswer}
-use Rattle.answers.specs.declared.NodeAnswer.{NodeAnswer}
-use Rattle.answers.specs.declared.UndoAnswer.{UndoAnswer}
-use Rattle.answers.specs.Answers.{in_room, View, refused, in_file, in_workspace, pick, cleared, checked_of, check_answer, entry_of, entry_answer, node_of, node_answer, undo_of, undo_answer, entry_said, node_said, undo_said, refused_entry, refused_node, refused_undo}
+use Rattle.format.specs.Refusals.{denied}
+use Rattle.answers.specs.Answers.{in_room, View, refused, in_file, in_workspace, pick, cleared, checked_of, check_answer, entry_of, entry_answer, node_of, node_answer, undo_of, undo_answer, entry_said, node_said, undo_said}
 use Rattle.answers.proofs.Laws.{part-within}
 use Rattle.extensions.specs.Heads.{part}
 use Rattle.index.specs.Calls.{EntryShows, NodeShows, UndoShows}
@@ -66,19 +64,14 @@ module _ (work : List ℕ) (k : ℕ) (x y : Read Contents) (e : in_room work x �
 -- ---- refusals
 
 module _ (w n p : ℕ) (f : List ℕ) (at : ℕ) where
-  pub entry-refused :
-      (v : View F.Entry) (work work' : List ℕ) (r : EntryAnswer) → v ≡ refused n p →
-      ((u : ℕ) (file work : List ℕ) → entry_said u r file work ≡ refused n p) × (r ≡ refused_entry n p) → work' ≡ cleared work →
-      EntryShows w at v f work work' r
-  entry-refused v work work' r e (said, is) after =
-      record { shows = record { whole = rw e is; said = said w f work' ∙ sym e; inside = rw is tt }; after = rw e after }
+  pub entry-refused : (v : View F.Entry) (work work' : List ℕ) → v ≡ refused n p → work' ≡ cleared work → EntryShows w at v f work work' (denied n p)
+  unfolding entry_said
+  entry-refused v work work' e after = record { shows = record { whole = rw e refl; said = sym e; inside = tt }; after = rw e after }
 
-  pub node-refused :
-      (v : View F.Item) (r : NodeAnswer) → v ≡ refused n p → ((u : ℕ) (file work : List ℕ) → node_said u r file work ≡ refused n p) × (r ≡ refused_node n p) →
-      NodeShows w at v f r
-  node-refused v r e (said, is) = record { shows = λ work. record { whole = rw e is; said = said w f work ∙ sym e; inside = rw is tt }; zeros = λ _. rw is refl }
+  pub node-refused : (v : View F.Item) → v ≡ refused n p → NodeShows w at v f (denied n p)
+  unfolding node_said
+  node-refused v e = record { shows = λ work. record { whole = rw e refl; said = sym e; inside = tt }; zeros = tt }
 
-  pub undo-refused :
-      (v : View F.Undo) (r : UndoAnswer) → v ≡ refused n p → ((u : ℕ) (file work : List ℕ) → undo_said u r file work ≡ refused n p) × (r ≡ refused_undo n p) →
-      UndoShows w at v f r
-  undo-refused v r e (said, is) = record { shows = λ work. record { whole = rw e is; said = said w f work ∙ sym e; inside = rw is tt }; zeros = (λ _. rw is refl, λ _. rw is refl, λ _. rw is refl) }
+  pub undo-refused : (v : View F.Undo) → v ≡ refused n p → UndoShows w at v f (denied n p)
+  unfolding undo_said
+  undo-refused v e = record { shows = λ work. record { whole = rw e refl; said = sym e; inside = tt }; zeros = tt }

@@ -11,7 +11,9 @@ use Rattle.format.specs.Bytes.{Bytes, fit32}
 use Rattle.format.specs.Names.{ok_name}
 use Rattle.format.specs.Records.{mode_of, Key, Records}
 use Rattle.format.specs.Layout.{ok_mode}
+use Rattle.std.specs.Prelude.{Result}
 use Rattle.format.specs.Reading.{Read, bad, good, need}
+use Rattle.format.specs.Refusals.{Numbered, denied}
 use Rattle.format.specs.Reader.{Contents}
 use Rattle.format.specs.Places.{body_in}
 use Rattle.format.specs.Requests.{ok_asked, mixed, put_record, remove_record, holds, writing, rewrite_request, put_request, remove_request}
@@ -20,8 +22,6 @@ use Rattle.format_laws.proofs.Readings.{good-inv}
 use Rattle.kinds.specs.Kinds.{width_of, hash_of, read_kind}
 use Rattle.fields.specs.Workspace.{Frame}
 use Rattle.entries.specs.declared.record.Fields.{Fields}
-use Rattle.answers.specs.declared.Written.{Written}
-use Rattle.answers.specs.declared.Written.TheVariants as W
 use Rattle.answers.specs.Answers.{in_room, cleared}
 use Rattle.entries.specs.Record.{entry_with}
 use Rattle.answers.specs.Writing.{requested}
@@ -44,11 +44,11 @@ fit_append (n ∷ a) b h k = let (own, rest) = and-inv (ltb n 4294967296) (fit32
 
 -- ---- the answer's parts
 
-pub writes-bad : (x : Read (List ℕ)) (n p : ℕ) (out work work' : List ℕ) → x ≡ bad n p → work' ≡ cleared work → Writes x out work out work' (W.Refused n p)
+pub writes-bad : (x : Read (List ℕ)) (n p : ℕ) (out work work' : List ℕ) → x ≡ bad n p → work' ≡ cleared work → Writes x out work out work' (denied n p)
 writes-bad x n p out work work' e after = record { said = rw e; filled = rw e; after = after }
 
 -- of another answer that is the same, and another workspace of which the same is left
-pub writes_as : (x y : Read (List ℕ)) (out work work₁ out' work' : List ℕ) (r : Written) → x ≡ y → cleared work₁ ≡ cleared work → Writes y out work₁ out' work' r
+pub writes_as : (x y : Read (List ℕ)) (out work work₁ out' work' : List ℕ) (r : Result ℕ Numbered) → x ≡ y → cleared work₁ ≡ cleared work → Writes y out work₁ out' work' r
     → Writes x out work out' work' r
 writes_as x y out work work₁ out' work' r e same h = record { said = rw e h.said; filled = rw e h.filled; after = h.after ∙ same }
 
@@ -137,7 +137,7 @@ sound-record fields name h =
 module _ (kind : ℕ) (f work work₁ : List ℕ) (clear : work₁ ≡ cleared work) where
   -- the file is refused
   pub call-refused : (ask : Records → Read (List ℕ)) (n p : ℕ) (out : List ℕ) → in_room work (read_kind kind f) ≡ bad n p
-      → Writes (requested (in_room work (read_kind kind f)) ask) out work out work₁ (W.Refused n p)
+      → Writes (requested (in_room work (read_kind kind f)) ask) out work out work₁ (denied n p)
   call-refused ask n p out e = writes-bad _ n p out work work₁ (rw e) clear
 
   -- it is accepted
@@ -153,7 +153,7 @@ module _ (kind : ℕ) (f work work₁ : List ℕ) (clear : work₁ ≡ cleared w
         let frame : Frame work work₁ = rw clear (cleared-frame work room) in
         (record { room = omega (arith, frame, room); contains = rw (in-room work (read_kind kind f) room) at h }, clear ∙ sym same)
 
-    pub call-answered : (ask : Records → Read (List ℕ)) (out out' work' : List ℕ) (r : Written)
+    pub call-answered : (ask : Records → Read (List ℕ)) (out out' work' : List ℕ) (r : Result ℕ Numbered)
         → Writes (requested (read_kind kind f) ask) out work₁ out' work' r → Writes (requested (in_room work (read_kind kind f)) ask) out work out' work' r
     call-answered ask out out' work' r written =
         writes_as _ _ out work work₁ out' work' r (ap (λ (x : Read Contents). requested x ask) (in-room work (read_kind kind f) room)) same written
@@ -175,7 +175,7 @@ module _ (kind : ℕ) (f work : List ℕ) (bytes : Bytes f) (parts : Parts) (edi
         there = p.there;
       }
 
-  pub edit-writes : (asked : ℕ) (out work₁ out' work₂ : List ℕ) (r : Written) → FileWritten (width_of kind) (hash_of kind) (body_in (width_of kind) f) parts work asked edit (entry_with (width_of kind) fields name) out work₁ out' r
+  pub edit-writes : (asked : ℕ) (out work₁ out' work₂ : List ℕ) (r : Result ℕ Numbered) → FileWritten (width_of kind) (hash_of kind) (body_in (width_of kind) f) parts work asked edit (entry_with (width_of kind) fields name) out work₁ out' r
       → work₂ ≡ replicate 8192 0 ++ drop 8192 work₁ → (c : Contents) (m : ℕ) → read_kind kind f ≡ good c m
       → Writes (writing (width_of kind) (hash_of kind) asked (length out) (changed (width_of kind) edit (entry_with (width_of kind) fields name) c.records)) out work out' work₂ r
   edit-writes asked out work₁ out' work₂ r written clear c m read =

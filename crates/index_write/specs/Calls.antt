@@ -1,17 +1,18 @@
 -- What the calls that write an index leave behind. kind is the kind of its object names.
-use Rattle.std.specs.Prelude.{◌≡◌, List, [], true, cond, ℕ, ◌≤◌, length, ltb}
+use Rattle.std.specs.Prelude.{◌≡◌, List, [], true, cond, ℕ, ◌≤◌, length, ltb, Result, Ok, Err}
 use Rattle.format.specs.Bytes.{fit32}
 use Rattle.format.specs.Names.{ok_name}
 use Rattle.format.specs.Records.{Records}
 use Rattle.format.specs.Layout.{ok_mode}
 use Rattle.format.specs.Reading.{Read, bad}
+use Rattle.format.specs.declared.Refusal.{Refusal}
+use Rattle.format.specs.Refusals.{number_of, Numbered}
 use Rattle.format.specs.Requests.{ok_asked, writing, rewrite_request, put_request, remove_request}
 use Rattle.format.specs.Places.{body_in}
 use Rattle.kinds.specs.Kinds.{width_of, hash_of, read_kind}
 use Rattle.fields.specs.Workspace.{Frame}
 use Rattle.writing.specs.OneFile.{WritesBack}
 use Rattle.entries.specs.declared.record.Fields.{Fields}
-use Rattle.answers.specs.declared.Written.{Written}
 use Rattle.answers.specs.Answers.{cleared}
 use Rattle.entries.specs.Record.{entry_with}
 use Rattle.answers.specs.Writing.{requested, written_of, output_after}
@@ -22,17 +23,15 @@ use Rattle.entries_edit.specs.Edits.{passes, Replaces}
 use Rattle.file_write.specs.Bodies.{changed}
 use Rattle.index_write.specs.declared.Request.{Request}
 use Rattle.index_write.specs.declared.Request.TheVariants as Q
-use Rattle.index_write.specs.declared.Plan.{Plan}
-use Rattle.index_write.specs.declared.Plan.TheVariants as P
 
 -- the answer x as the code gives it; the output and the workspace after it
-pub record Writes (x : Read (List ℕ)) (out work out' work' : List ℕ) (r : Written) : Type 0 where
+pub record Writes (x : Read (List ℕ)) (out work out' work' : List ℕ) (r : Result ℕ Numbered) : Type 0 where
   pub said : r ≡ written_of x
   pub filled : out' ≡ output_after x out
   pub after : work' ≡ cleared work
 
 -- and what was written: of the file f, in the version asked for, the one file of its records with a change
-pub record Saves (kind : ℕ) (f : List ℕ) (asked : ℕ) (change : Records → Records) (x : Read (List ℕ)) (out work out' work' : List ℕ) (r : Written) : Type 0 where
+pub record Saves (kind : ℕ) (f : List ℕ) (asked : ℕ) (change : Records → Records) (x : Read (List ℕ)) (out work out' work' : List ℕ) (r : Result ℕ Numbered) : Type 0 where
   pub writes : Writes x out work out' work' r
   pub back : WritesBack (width_of kind) (hash_of kind) f asked change x
 
@@ -79,11 +78,11 @@ pub record Changes (kind : ℕ) (f work : List ℕ) (parts : Parts) (request : R
       → requested (read_kind kind f) (request_of kind request name fields asked room)
       ≡ writing (width_of kind) (hash_of kind) asked room (changed (width_of kind) edit (entry_with (width_of kind) fields name) planned.opened.contains.contents.records)
 
-abbrev pub plan_by : ℕ → List ℕ → List ℕ → Parts → Request → List ℕ → Fields → Plan → Type 0
-plan_by kind f work parts request name fields (P.Refused n) = Refuses kind f request name fields n
-plan_by kind f work parts request name fields (P.Change edit) = Changes kind f work parts request name fields edit
+abbrev pub plan_by : ℕ → List ℕ → List ℕ → Parts → Request → List ℕ → Fields → Result Edit Refusal → Type 0
+plan_by kind f work parts request name fields (Err e) = Refuses kind f request name fields (number_of e)
+plan_by kind f work parts request name fields (Ok edit) = Changes kind f work parts request name fields edit
 
-pub record PlanFor (kind : ℕ) (f work : List ℕ) (parts : Parts) (request : Request) (name : List ℕ) (fields : Fields) (work' : List ℕ) (r : Plan) : Type 0 where
+pub record PlanFor (kind : ℕ) (f work : List ℕ) (parts : Parts) (request : Request) (name : List ℕ) (fields : Fields) (work' : List ℕ) (r : Result Edit Refusal) : Type 0 where
   pub frame : Frame work work'
   pub is : plan_by kind f work' parts request name fields r
 

@@ -1,5 +1,6 @@
 // The calls that write an index: rewrite it in a version, put one record, remove one name and stage. kind says which object names it has:
-// 1 is SHA-1, 2 is SHA-256, any other is refused with 29.
+// 1 is SHA-1, 2 is SHA-256, any other is refused with 29. Kinds and versions that are asked for are numbers and no enums, since a call answers for
+// every number.
 
 #![tactic(auto)]
 
@@ -7,6 +8,7 @@ ghost use Rattle.std.specs.Prelude.{◌≡◌, [], ◌∷◌, true, ℕ, ◌≤�
 ghost use Rattle.format.specs.Bytes.{fit32};
 ghost use Rattle.format.specs.Reading.{good};
 ghost use Rattle.format.specs.Reader.{Contents};
+ghost use Rattle.format.specs.Refusals.{numbered_at, refusal_number};
 ghost use Rattle.format.specs.Requests.{put_record, remove_record, writing};
 ghost use Rattle.kinds.specs.Kinds.{width_of, hash_of, read_kind};
 ghost use Rattle.answers.specs.Answers.{in_room, cleared};
@@ -17,11 +19,11 @@ ghost use Rattle.index_write.specs.Calls.{Writes, Saves, Typed, Opened, Planned,
 ghost use Rattle.entries.specs.declared.record.Fields.{Fields};
 ghost use Rattle.index_write.specs.declared.Request.TheVariants as Q;
 
-use answers::Written;
 use entries::record::{Fields, no_fields};
 use entries_edit::Edit;
 use entries_place::find_place;
-use file_read::{Parts, Whole, read_cleared};
+use file_read::{Parts, read_cleared};
+use format::{Fault, Refusal};
 use versions::asked_ok;
 
 // What is asked for: the records as they are, with one put, or without the entry of a name and this stage.
@@ -30,13 +32,6 @@ pub enum Request {
     Rewrite,
     Put,
     Remove(u32),
-}
-
-// A refusal's number, or an edit.
-#[derive(Clone, Copy)]
-pub enum Plan {
-    Refused(u32),
-    Change(Edit),
 }
 
 // ---- the tests of a request
@@ -68,20 +63,21 @@ fn typed(fields: Fields)
     object_typed(&object);
 }
 
-// The refusal of a record that is to be put, 0 where it is sound.
-fn record_number(fields: Fields, name: &[u8]) -> u32
-    ensures { result ≡ record_number fields name.now }
+// Whether a record that is to be put is sound.
+#[tactic(auto, unfolding(crate::specs::Calls::record_number))]
+fn test_record(fields: Fields, name: &[u8]) -> Result<(), Refusal>
+    ensures { refusal_number result ≡ record_number fields name.now }
 {
-    if entries::mode_ok(fields.mode) {
-        if fields.stage < 4 {
-            if fields::name_ok(name) {
-                return 0;
-            }
-            return 9;
-        }
-        return 8;
+    if !entries::mode_ok(fields.mode) {
+        return Err(Refusal::EntryMode);
     }
-    7
+    if 4 <= fields.stage {
+        return Err(Refusal::EntryFlags);
+    }
+    if !fields::name_ok(name) {
+        return Err(Refusal::EntryName);
+    }
+    Ok(())
 }
 
 // ---- the requests on a file that was read
@@ -97,9 +93,9 @@ fn write_edited(
     edit: Edit,
     fields: Fields,
     name: &[u8],
-) -> Written
+) -> Result<usize, Fault>
     requires { Planned kind file.now work.old parts edit fields name.now }
-    ensures { (c : Contents) (m : ℕ) → read_kind kind file.now ≡ good c m → Writes (writing (width_of kind) (hash_of kind) asked (length out.old) (changed (width_of kind) edit (entry_with (width_of kind) fields name.now) c.records)) out.old work.old out.new work.new result }
+    ensures { (c : Contents) (m : ℕ) → read_kind kind file.now ≡ good c m → Writes (writing (width_of kind) (hash_of kind) asked (length out.old) (changed (width_of kind) edit (entry_with (width_of kind) fields name.now) c.records)) out.old work.old out.new work.new (numbered_at result) }
 {
     let w = kinds::width_of(kind);
     let n = file.len() - w;
@@ -127,14 +123,11 @@ fn plan_put(
     work: &mut [u8],
     name: &[u8],
     fields: Fields,
-) -> Plan
+) -> Result<Edit, Refusal>
     requires { Opened kind file.now work.old parts }
     ensures { PlanFor kind file.now work.old parts Q.Put name.now fields work.new result }
 {
-    let refusal = record_number(fields, name);
-    if 0 < refusal {
-        return Plan::Refused(refusal);
-    }
+    test_record(fields, name)?;
     let w = kinds::width_of(kind);
     let n = file.len() - w;
     let place = find_place(
@@ -147,9 +140,9 @@ fn plan_put(
         w,
     );
     if place.mixed {
-        return Plan::Refused(11);
+        return Err(Refusal::EntryOrder);
     }
-    Plan::Change(Edit::Put(place.before, place.there))
+    Ok(Edit::Put(place.before, place.there))
 }
 
 // The place of the entry that is to be removed; 18 where there is none.
@@ -160,7 +153,7 @@ fn plan_remove(
     work: &mut [u8],
     name: &[u8],
     stage: u32,
-) -> Plan
+) -> Result<Edit, Refusal>
     requires { Opened kind file.now work.old parts }
     ensures { (fields : Fields) → fields.stage ≤ 3 → PlanFor kind file.now work.old parts (Q.Remove stage) name.now fields work.new result }
 {
@@ -168,9 +161,9 @@ fn plan_remove(
     let n = file.len() - w;
     let place = find_place(&file[..n], parts.version, work, parts.count, name, stage, w);
     if place.there {
-        return Plan::Change(Edit::Remove(place.before));
+        return Ok(Edit::Remove(place.before));
     }
-    Plan::Refused(18)
+    Err(Refusal::NotThere)
 }
 
 // What a request changes in a file that was read, or why not.
@@ -182,12 +175,12 @@ fn plan_for(
     request: Request,
     name: &[u8],
     fields: Fields,
-) -> Plan
+) -> Result<Edit, Refusal>
     requires { Opened kind file.now work.old parts × RequestFits request name.now fields }
     ensures { PlanFor kind file.now work.old parts request name.now fields work.new result }
 {
     match request {
-        Request::Rewrite => Plan::Change(Edit::Keep),
+        Request::Rewrite => Ok(Edit::Keep),
         Request::Put => plan_put(kind, file, parts, work, name, fields),
         Request::Remove(stage) => plan_remove(kind, file, parts, work, name, stage),
     }
@@ -204,23 +197,21 @@ fn save_read(
     request: Request,
     name: &[u8],
     fields: Fields,
-) -> Written
+) -> Result<usize, Fault>
     requires { Opened kind file.now work.old parts × (work.old ≡ cleared work.old) × RequestFits request name.now fields }
-    ensures { Writes (requested (read_kind kind file.now) (request_of kind request name.now fields asked (length out.old))) out.old work.old out.new work.new result }
+    ensures { Writes (requested (read_kind kind file.now) (request_of kind request name.now fields asked (length out.old))) out.old work.old out.new work.new (numbered_at result) }
 {
-    if asked_ok(asked) {
-        let plan = plan_for(kind, file, parts, &mut *work, request, name, fields);
-        match plan {
-            Plan::Refused(n) => {
-                fields::clear(work);
-                return Written::Refused(n, 0);
-            }
-            Plan::Change(edit) => {
-                return write_edited(kind, file, parts, work, out, asked, edit, fields, name);
-            }
+    if !asked_ok(asked) {
+        return Err(Refusal::Version.at(0));
+    }
+    let plan = plan_for(kind, file, parts, &mut *work, request, name, fields);
+    match plan {
+        Ok(edit) => write_edited(kind, file, parts, work, out, asked, edit, fields, name),
+        Err(refusal) => {
+            fields::clear(work);
+            Err(refusal.at(0))
         }
     }
-    Written::Refused(4, 0)
 }
 
 // A request on a file: what rewrite, put and remove have in common.
@@ -233,22 +224,25 @@ fn save(
     request: Request,
     name: &[u8],
     fields: Fields,
-) -> Written
+) -> Result<usize, Fault>
     requires { RequestFits request name.now fields }
-    ensures { Writes (requested (in_room work.old (read_kind kind file.now)) (request_of kind request name.now fields asked (length out.old))) out.old work.old out.new work.new result }
+    ensures { Writes (requested (in_room work.old (read_kind kind file.now)) (request_of kind request name.now fields asked (length out.old))) out.old work.old out.new work.new (numbered_at result) }
 {
-    let whole = read_cleared(file, &mut *work, kind);
-    match whole {
-        Whole::Bad(n, p) => Written::Refused(n, p),
-        Whole::Good(parts) => save_read(kind, file, parts, work, out, asked, request, name, fields),
-    }
+    let parts = read_cleared(file, &mut *work, kind)?;
+    save_read(kind, file, parts, work, out, asked, request, name, fields)
 }
 
 // ---- the calls
 
 // The same records in a version: 2, 3, 4; 0 for 4; or 1 for the lowest, which is 2 where no record of the result needs the extended word, else 3.
-pub fn rewrite(kind: u32, file: &[u8], work: &mut [u8], out: &mut [u8], asked: u32) -> Written
-    ensures { Saves kind file.now asked (λ q. q) (rewrite_answer (width_of kind) (hash_of kind) work.old asked (length out.old) (read_kind kind file.now)) out.old work.old out.new work.new result }
+pub fn rewrite(
+    kind: u32,
+    file: &[u8],
+    work: &mut [u8],
+    out: &mut [u8],
+    asked: u32,
+) -> Result<usize, Fault>
+    ensures { Saves kind file.now asked (λ q. q) (rewrite_answer (width_of kind) (hash_of kind) work.old asked (length out.old) (read_kind kind file.now)) out.old work.old out.new work.new (numbered_at result) }
 {
     save(
         kind,
@@ -272,8 +266,8 @@ pub fn put(
     asked: u32,
     name: &[u8],
     fields: Fields,
-) -> Written
-    ensures { Saves kind file.now asked (put_record (width_of kind) (entry_with (width_of kind) fields name.now)) (put_answer (width_of kind) (hash_of kind) work.old asked (entry_with (width_of kind) fields name.now) (length out.old) (read_kind kind file.now)) out.old work.old out.new work.new result }
+) -> Result<usize, Fault>
+    ensures { Saves kind file.now asked (put_record (width_of kind) (entry_with (width_of kind) fields name.now)) (put_answer (width_of kind) (hash_of kind) work.old asked (entry_with (width_of kind) fields name.now) (length out.old) (read_kind kind file.now)) out.old work.old out.new work.new (numbered_at result) }
 {
     typed(fields);
     save(kind, file, work, out, asked, Request::Put, name, fields)
@@ -288,8 +282,8 @@ pub fn remove(
     asked: u32,
     name: &[u8],
     stage: u32,
-) -> Written
-    ensures { Saves kind file.now asked (remove_record (width_of kind) (record { name = name.entry.now; stage = stage })) (remove_answer (width_of kind) (hash_of kind) work.old asked (record { name = name.entry.now; stage = stage }) (length out.old) (read_kind kind file.now)) out.old work.old out.new work.new result }
+) -> Result<usize, Fault>
+    ensures { Saves kind file.now asked (remove_record (width_of kind) (record { name = name.entry.now; stage = stage })) (remove_answer (width_of kind) (hash_of kind) work.old asked (record { name = name.entry.now; stage = stage }) (length out.old) (read_kind kind file.now)) out.old work.old out.new work.new (numbered_at result) }
 {
     save(
         kind,

@@ -1,4 +1,5 @@
-// The kinds of object names: 1 is SHA-1, 2 is SHA-256.
+// The kinds of object names: 1 is SHA-1, 2 is SHA-256. A kind is a number and no enum, since callers in C give any number and are told
+// of a kind that there is not.
 
 #![tactic(auto)]
 
@@ -9,13 +10,15 @@ pub const SHA1: u32 = 1;
 
 pub const SHA256: u32 = 2;
 
+#[tactic(auto, unfolding(crate::specs::Kinds::ok_kind))]
 pub fn is_known(kind: u32) -> bool
     ensures { result ≡ ok_kind kind }
 {
-    (kind == SHA1) | (kind == SHA256)
+    matches!(kind, SHA1 | SHA256)
 }
 
 // The bytes of an object name and of the checksum.
+#[tactic(auto, unfolding(crate::specs::Kinds::width_of))]
 pub fn width_of(kind: u32) -> usize
     ensures { (result ≡ width_of kind) × (20 ≤ result) × (result ≤ 32) }
 {
@@ -36,6 +39,6 @@ fn widened(digest: [u8; 20]) -> [u8; 32]
     ensures { take 20 result ≡ digest }
 {
     let mut wide = [0u8; 32];
-    fields::copy_to(&mut wide, 0, &digest);
+    wide[..20].copy_from_slice(&digest);
     wide
 }

@@ -7,7 +7,8 @@ mod name;
 
 ghost use Rattle.std.specs.Prelude.{◌≤◌, IfOk, length};
 
-use answers::{Checked, Checksum, Count};
+use answers::Checksum;
+use format::{Fault, Refusal};
 use name::{Digits, Escaped};
 use std::io;
 use std::io::{ErrorKind, Read};
@@ -22,7 +23,7 @@ fn main(rt: HostRuntime) -> io::Result<()> {
     let mut buffer = [0u8; ROOM];
     let n = read_full(&mut rt.reader(), &mut buffer)?;
     if LIMIT < n {
-        return print_refusal(&rt, 2, 0);
+        return print_refusal(&rt, Refusal::TooLong.at(0));
     }
     let mut work = [0u8; 8192];
     list(&rt, &buffer[..n], &mut work)
@@ -49,18 +50,17 @@ fn read_full(input: &mut impl Read, buffer: &mut [u8]) -> io::Result<usize>
 
 fn list(rt: &impl Print, bytes: &[u8], work: &mut [u8; 8192]) -> io::Result<()> {
     let checked = index::check(kinds::SHA1, bytes, work);
-    match checked {
-        Checked::Refused(number, place) => print_refusal(rt, number, place),
-        Checked::Accepted(summary) => {
-            let version = summary.version;
-            let entries = summary.entries;
-            let checksum = words_of(summary.checksum);
-            println!(rt; "version {version} entries {entries}{checksum}")?;
-            list_entries(rt, bytes, work, entries)?;
-            print_count(rt, "cache tree", summary.nodes, "nodes")?;
-            print_count(rt, "resolve-undo", summary.records, "paths")
-        }
-    }
+    let summary = match checked {
+        Ok(summary) => summary,
+        Err(fault) => return print_refusal(rt, fault),
+    };
+    let version = summary.version;
+    let entries = summary.entries;
+    let checksum = words_of(summary.checksum);
+    println!(rt; "version {version} entries {entries}{checksum}")?;
+    list_entries(rt, bytes, work, entries)?;
+    print_count(rt, "cache tree", summary.nodes, "nodes")?;
+    print_count(rt, "resolve-undo", summary.records, "paths")
 }
 
 fn list_entries(
@@ -75,9 +75,14 @@ fn list_entries(
     Ok(())
 }
 
-// Mode, object name, stage, tab, name. A mode has six octal digits; the first 20 bytes are the name of a SHA-1 object.
+// Mode, object name, stage, tab, name. A mode has six octal digits; the first 20 bytes are the name of a SHA-1 object. No entry of an accepted file is
+// refused.
 fn list_entry(rt: &impl Print, bytes: &[u8], work: &mut [u8; 8192], k: u32) -> io::Result<()> {
-    let answer = index::entry(kinds::SHA1, bytes, work, k);
+    let shown = index::entry(kinds::SHA1, bytes, work, k);
+    let answer = match shown {
+        Ok(answer) => answer,
+        Err(fault) => return print_refusal(rt, fault),
+    };
     let mode = answer.fields.mode;
     let object = answer.fields.object;
     let object = Digits(&object[..20]);
@@ -95,13 +100,15 @@ fn words_of(checksum: Checksum) -> &'static str {
     }
 }
 
-fn print_refusal(rt: &impl Print, number: u32, place: usize) -> io::Result<()> {
+fn print_refusal(rt: &impl Print, fault: Fault) -> io::Result<()> {
+    let number = fault.refusal.number();
+    let place = fault.place;
     println!(rt; "refused {number} at {place}")
 }
 
-fn print_count(rt: &impl Print, what: &str, count: Count, unit: &str) -> io::Result<()> {
+fn print_count(rt: &impl Print, what: &str, count: Option<u32>, unit: &str) -> io::Result<()> {
     match count {
-        Count::Absent => println!(rt; "{what} none"),
-        Count::Present(n) => println!(rt; "{what} {n} {unit}"),
+        None => println!(rt; "{what} none"),
+        Some(n) => println!(rt; "{what} {n} {unit}"),
     }
 }

@@ -14,12 +14,11 @@ use Rattle.format.specs.Reading.{Read, bad, good, need}
 use Rattle.format.specs.Reader.{Contents, read_entry, read_file}
 use Rattle.kinds.specs.Kinds.{ok_kind, width_of, hash_of, of_kind, read_kind}
 use Rattle.answers.specs.declared.Summary.{Summary}
-use Rattle.answers.specs.declared.Checked.{Checked}
-use Rattle.answers.specs.declared.Checked.TheVariants as K
+use Rattle.std.proofs.Common.{Result, Ok, Err}
+use Rattle.format.specs.Refusals.{denied}
+use Rattle.format.specs.Refusals as R
 use Rattle.answers.specs.Answers.{View, refused, in_file, in_workspace, too_small, in_room, pick, listed, items_of, entry_of, node_of, undo_of, checked_of, check_answer, entry_answer, node_answer, undo_answer}
 use Rattle.answers.specs.Writing.{requested, rewrite_answer, put_answer, remove_answer}
-use Rattle.walk.specs.declared.Started.{Started}
-use Rattle.walk.specs.declared.Started.TheVariants as T
 use Rattle.format.specs.Places.{body_in}
 use Rattle.walk.specs.declared.Place.{Place}
 use Rattle.walk.specs.Walks.{or18, view_in, walk_read, step_read, walk_answer, started_of, start_answer}
@@ -105,46 +104,48 @@ step-next w at (in_workspace y) next f reply numbers object h r e = rw r.whole (
 
 -- ---- check, the start of a walk
 
+-- a refusal's number is from 1 on
+abbrev refusal_of : {A : Type 0} → Result A R.Numbered → ℕ
+refusal_of (Err x) = x.number
+refusal_of (Ok a) = 0
+
+number-of : {A : Type 0} (i q n p : ℕ) → 0 < i → denied {A = A} i q ≡ denied n p → 0 < n
+number-of i q n p h e = let same : i ≡ n = ap refusal_of e in omega arith
+
 module _ (kind : ℕ) (work f : List ℕ) where
-  pub check-positive : (n p : ℕ) → check_answer work (read_kind kind f) ≡ K.Refused n p → 0 < n
+  pub check-positive : (n p : ℕ) → check_answer work (read_kind kind f) ≡ denied n p → 0 < n
   unfolding check_answer
   check-positive = by (in_room work (read_kind kind f)) (room-numbered kind work f)
     where
-      number : (i q n p : ℕ) → 0 < i → K.Refused i q ≡ K.Refused n p → 0 < n
-      number i q n p h e = let same : i ≡ n = cc in omega arith
+      by : (x : Read Contents) → Numbered x → (n p : ℕ) → checked_of x ≡ denied n p → 0 < n
+      by (bad i q) h n p e = number-of i q n p (h.positive i q refl) e
+      by (good c m) h n p e = absurd (cc)
 
-      by : (x : Read Contents) → Numbered x → (n p : ℕ) → checked_of x ≡ K.Refused n p → 0 < n
-      by (bad i q) h n p e = number i q n p (h.positive i q refl) e
-      by (good c m) h n p e = let z : ◌≡◌ {A = ℕ} 0 1 = cc in absurd (omega arith)
-
-  pub start-positive : (n p : ℕ) → start_answer work (read_kind kind f) ≡ T.Refused n p → 0 < n
+  pub start-positive : (n p : ℕ) → start_answer work (read_kind kind f) ≡ denied n p → 0 < n
   unfolding start_answer
   start-positive = by (in_room work (read_kind kind f)) (room-numbered kind work f)
     where
-      number : (i q n p : ℕ) → 0 < i → T.Refused i q ≡ T.Refused n p → 0 < n
-      number i q n p h e = let same : i ≡ n = cc in omega arith
+      ready : (t : Bool) (k n p : ℕ) → cond t (denied 4 0) (Ok k) ≡ denied n p → 0 < n
+      ready true k n p e = number-of 4 0 n p (omega arith) e
+      ready false k n p e = absurd (cc)
 
-      ready : (t : Bool) (k n p : ℕ) → cond t (T.Refused 4 0) (T.Ready k) ≡ T.Refused n p → 0 < n
-      ready true k n p e = number 4 0 n p (omega arith) e
-      ready false k n p e = let z : ◌≡◌ {A = ℕ} 0 1 = cc in absurd (omega arith)
-
-      by : (x : Read Contents) → Numbered x → (n p : ℕ) → started_of x ≡ T.Refused n p → 0 < n
-      by (bad i q) h n p e = number i q n p (h.positive i q refl) e
+      by : (x : Read Contents) → Numbered x → (n p : ℕ) → started_of x ≡ denied n p → 0 < n
+      by (bad i q) h n p e = number-of i q n p (h.positive i q refl) e
       by (good c m) h n p e = ready (eqb c.version 4) (length c.records.entries) n p e
 
-  pub check-success : refusal_in (check_reply (check_answer work (read_kind kind f))) ≡ 0 → (s : Summary) × (check_answer work (read_kind kind f) ≡ K.Accepted s)
+  pub check-success : refusal_in (check_reply (check_answer work (read_kind kind f))) ≡ 0 → (s : Summary) × (check_answer work (read_kind kind f) ≡ Ok s)
   check-success = by (check_answer work (read_kind kind f)) check-positive
     where
-      by : (x : Checked) → ((n p : ℕ) → x ≡ K.Refused n p → 0 < n) → refusal_in (check_reply x) ≡ 0 → (s : Summary) × (x ≡ K.Accepted s)
-      by (K.Refused n p) h e = let z : 0 < n = h n p refl in absurd (omega arith)
-      by (K.Accepted s) h e = (s, refl)
+      by : (x : Result Summary R.Numbered) → ((n p : ℕ) → x ≡ denied n p → 0 < n) → refusal_in (check_reply x) ≡ 0 → (s : Summary) × (x ≡ Ok s)
+      by (Err y) h e = let z : 0 < y.number = h y.number y.place refl in absurd (omega arith)
+      by (Ok s) h e = (s, refl)
 
-  pub start-success : refusal_in (start_reply (start_answer work (read_kind kind f))) ≡ 0 → (n : ℕ) × (start_answer work (read_kind kind f) ≡ T.Ready n)
+  pub start-success : refusal_in (start_reply (start_answer work (read_kind kind f))) ≡ 0 → (n : ℕ) × (start_answer work (read_kind kind f) ≡ Ok n)
   start-success = by (start_answer work (read_kind kind f)) start-positive
     where
-      by : (x : Started) → ((n p : ℕ) → x ≡ T.Refused n p → 0 < n) → refusal_in (start_reply x) ≡ 0 → (n : ℕ) × (x ≡ T.Ready n)
-      by (T.Refused n p) h e = let z : 0 < n = h n p refl in absurd (omega arith)
-      by (T.Ready n) h e = (n, refl)
+      by : (x : Result ℕ R.Numbered) → ((n p : ℕ) → x ≡ denied n p → 0 < n) → refusal_in (start_reply x) ≡ 0 → (n : ℕ) × (x ≡ Ok n)
+      by (Err y) h e = let z : 0 < y.number = h y.number y.place refl in absurd (omega arith)
+      by (Ok n) h e = (n, refl)
 
 -- ---- the calls that write
 

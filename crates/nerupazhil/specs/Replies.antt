@@ -1,16 +1,27 @@
 -- What the calls for other languages leave behind: the replies and the object names, the workspace and the output.
-use Rattle.std.specs.Prelude.{◌≡◌, List, false, ℕ, ◌-◌, drop, replicate}
+use Rattle.std.specs.Prelude.{◌≡◌, List, ℕ, ◌-◌, drop, replicate, Option, None, Result, Ok, Err}
 use Rattle.format.specs.Records as F
 use Rattle.format.specs.Reading.{Read}
+use Rattle.format.specs.Refusals.{Numbered}
+use Rattle.answers.specs.declared.NodeAnswer.{NodeAnswer}
 use Rattle.answers.specs.Answers.{View, cleared, work_after, entry_said, node_said, undo_said, entry_shown, node_shown, undo_shown}
 use Rattle.answers.specs.Writing.{written_of, output_after}
 use Rattle.kinds.specs.Kinds.{width_of, hash_of}
 use Rattle.writing.specs.OneFile.{WritesBack}
 use Rattle.walk.specs.declared.Place.{Place}
-use Rattle.replies.specs.Arrays.{shown_reply, field_numbers, node_reply, undo_reply, step_reply, write_reply, NameInside}
+use Rattle.replies.specs.Arrays.{entry_reply, field_numbers, fields_shown, object_shown, node_reply, undo_reply, step_reply, write_reply, NameInside}
 
 -- ---- what the calls that show leave behind: the reply, whole, for the view v; the name that it points at, where it has one, is that of the
 -- item, and it lies in its buffer. A name in the file is at the place at. w is the width of an object name
+
+-- a number of an answer, and the entry count of a node, where it is valid; of a refusal 0 and none
+abbrev pub number_shown : {A : Type 0} → (A → ℕ) → Result A Numbered → ℕ
+number_shown number (Err x) = 0
+number_shown number (Ok a) = number a
+
+abbrev pub count_shown : Result NodeAnswer Numbered → Option ℕ
+count_shown (Err x) = None
+count_shown (Ok a) = a.count
 
 -- an object name that is told in 32 bytes, those of the answer; zeros follow its w bytes
 pub record Told (w : ℕ) (o object : List ℕ) : Type 0 where
@@ -18,20 +29,20 @@ pub record Told (w : ℕ) (o object : List ℕ) : Type 0 where
   pub unused : drop w object ≡ replicate (32 - w) 0
 
 pub record EntryReplies (w at : ℕ) (v : View F.Entry) (f work work' reply numbers object : List ℕ) : Type 0 where
-  pub whole : reply ≡ shown_reply (entry_shown at v).shown
-  pub fields : numbers ≡ field_numbers (entry_shown at v).fields
-  pub object_is : Told w (entry_shown at v).fields.object object
+  pub whole : reply ≡ entry_reply (entry_shown at v)
+  pub fields : numbers ≡ field_numbers (fields_shown (entry_shown at v))
+  pub object_is : Told w (fields_shown (entry_shown at v)).object object
   pub said : entry_said w (entry_shown at v) f work' ≡ v
   pub inside : NameInside reply f work'
   pub after : work' ≡ work_after v work
 
 pub record NodeReplies (w at : ℕ) (v : View F.Item) (f reply object : List ℕ) : Type 0 where
   pub whole : reply ≡ node_reply (node_shown at v)
-  pub object_is : Told w (node_shown at v).object object
+  pub object_is : Told w (object_shown (λ a. a.object) (node_shown at v)) object
   pub said : (work : List ℕ) → node_said w (node_shown at v) f work ≡ v
   pub inside : (work : List ℕ) → NameInside reply f work
   -- of an invalid node
-  pub zeros : (node_shown at v).valid ≡ false → object ≡ replicate 32 0
+  pub zeros : count_shown (node_shown at v) ≡ None → object ≡ replicate 32 0
 
 -- of a missing stage
 abbrev pub StageZeros : ℕ → List ℕ → Type 0
@@ -39,16 +50,16 @@ StageZeros mode object = mode ≡ 0 → object ≡ replicate 32 0
 
 pub record UndoReplies (w at : ℕ) (v : View F.Undo) (f reply first second third : List ℕ) : Type 0 where
   pub whole : reply ≡ undo_reply (undo_shown at v)
-  pub objects : Told w (undo_shown at v).first first × Told w (undo_shown at v).second second × Told w (undo_shown at v).third third
+  pub objects : Told w (object_shown (λ a. a.first) (undo_shown at v)) first × Told w (object_shown (λ a. a.second) (undo_shown at v)) second × Told w (object_shown (λ a. a.third) (undo_shown at v)) third
   pub said : (work : List ℕ) → undo_said w (undo_shown at v) f work ≡ v
   pub inside : (work : List ℕ) → NameInside reply f work
   pub zeros :
-      StageZeros (undo_shown at v).first_mode first × StageZeros (undo_shown at v).second_mode second × StageZeros (undo_shown at v).third_mode third
+      StageZeros (number_shown (λ a. a.first_mode) (undo_shown at v)) first × StageZeros (number_shown (λ a. a.second_mode) (undo_shown at v)) second × StageZeros (number_shown (λ a. a.third_mode) (undo_shown at v)) third
 
 pub record StepReplies (w at : ℕ) (v : View F.Entry) (next : Place) (f reply numbers object : List ℕ) : Type 0 where
-  pub whole : reply ≡ step_reply (entry_shown at v).shown next
-  pub fields : numbers ≡ field_numbers (entry_shown at v).fields
-  pub object_is : Told w (entry_shown at v).fields.object object
+  pub whole : reply ≡ step_reply (entry_shown at v) next
+  pub fields : numbers ≡ field_numbers (fields_shown (entry_shown at v))
+  pub object_is : Told w (fields_shown (entry_shown at v)).object object
   pub said : (work : List ℕ) → entry_said w (entry_shown at v) f work ≡ v
   pub inside : (work : List ℕ) → NameInside reply f work
 

@@ -35,11 +35,10 @@ pub fn nerupazhil_entry(
     ensures { EntryReplies (width_of kind) (entry_name_place (width_of kind) k file.now) (entry_answer work.old k (read_kind kind file.now)) file.now work.old work.new reply.new fields.new object.new }
 {
     let answer = index::entry(kind, file, work, k);
-    let shown = answer.shown;
-    let shown_fields = answer.fields;
-    let name = shown_fields.object;
-    *reply = replies::shown_reply(shown);
-    *fields = replies::field_numbers(shown_fields);
+    let shown = replies::fields_shown(answer);
+    let name = shown.object;
+    *reply = replies::entry_reply(answer);
+    *fields = replies::field_numbers(shown);
     *object = name;
 }
 
@@ -54,9 +53,11 @@ pub fn nerupazhil_tree_node(
     ensures { NodeReplies (width_of kind) (node_place (width_of kind) k file.now) (node_answer work.old k (read_kind kind file.now)) file.now reply.new object.new × (work.new ≡ cleared work.old) }
 {
     let answer = index::tree_node(kind, file, work, k);
-    let name = answer.object;
     *reply = replies::node_reply(answer);
-    *object = name;
+    *object = match answer {
+        Ok(node) => node.object,
+        Err(_) => [0; 32],
+    };
 }
 
 pub fn nerupazhil_undo_record(
@@ -72,13 +73,22 @@ pub fn nerupazhil_undo_record(
     ensures { UndoReplies (width_of kind) (undo_place (width_of kind) k file.now) (undo_answer work.old k (read_kind kind file.now)) file.now reply.new first.new second.new third.new × (work.new ≡ cleared work.old) }
 {
     let answer = index::undo_record(kind, file, work, k);
-    let first_name = answer.first;
-    let second_name = answer.second;
-    let third_name = answer.third;
     *reply = replies::undo_reply(answer);
-    *first = first_name;
-    *second = second_name;
-    *third = third_name;
+    match answer {
+        Ok(record) => {
+            let first_name = record.first;
+            let second_name = record.second;
+            let third_name = record.third;
+            *first = first_name;
+            *second = second_name;
+            *third = third_name;
+        }
+        Err(_) => {
+            *first = [0; 32];
+            *second = [0; 32];
+            *third = [0; 32];
+        }
+    }
 }
 
 // ---- the calls that write
@@ -148,13 +158,10 @@ pub fn nerupazhil_walk_next(
     ensures { StepReplies (width_of kind) (name_place (width_of kind) at (body_in (width_of kind) file.now)) (walk_answer kind file.now at left) (place_after kind file.now at left) file.now reply.new fields.new object.new }
 {
     let step = walk::step_at(kind, file, at, left);
-    let answer = step.answer;
-    let shown = answer.shown;
-    let shown_fields = answer.fields;
-    let name = shown_fields.object;
-    let next = step.next;
-    *reply = replies::step_reply(shown, next);
-    *fields = replies::field_numbers(shown_fields);
+    let shown = replies::fields_shown(step.answer);
+    let name = shown.object;
+    *reply = replies::step_reply(step.answer, step.next);
+    *fields = replies::field_numbers(shown);
     *object = name;
 }
 
@@ -163,13 +170,11 @@ pub fn nerupazhil_walk_next(
 pub fn nerupazhil_sha1(bytes: &[u8], out: &mut [u8; 20])
     ensures { out.new ≡ sha1 bytes.now }
 {
-    let d = hash::sha1(bytes);
-    *out = d;
+    *out = hash::sha1(bytes);
 }
 
 pub fn nerupazhil_sha256(bytes: &[u8], out: &mut [u8; 32])
     ensures { out.new ≡ sha256 bytes.now }
 {
-    let d = sha256::sha256(bytes);
-    *out = d;
+    *out = sha256::sha256(bytes);
 }

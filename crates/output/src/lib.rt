@@ -63,11 +63,10 @@ pub fn put_nuls(out: &mut [u8], at: usize, n: usize) -> usize
     requires { at + n ≤ 1125899906842624 }
     ensures { Wrote out.old at (replicate n 0) out.new result }
 {
-    let mut end = at;
-    let mut left = n;
-    while 0 < left {
-        end = put_byte(&mut *out, end, 0);
-        left -= 1;
+    let end = at + n;
+    if out.len() < end {
+        return end;
     }
+    out[at..end].fill(0);
     end
 }

@@ -18,19 +18,16 @@ use Rattle.replies.specs.Arrays.{shown_reply, refusal_in, place_in, buffer_in, b
 -- the bytes that a reply's name points at are the name that is shown
 name-bytes : (s : Shown) (more file work : List ℕ) → bytes_in (shown_reply s ++ more) file work ≡ name_in s file work
 unfolding bytes_in buffer_in name_in part_in
-name-bytes (S.Refused n p) more file work = refl
 name-bytes (S.InFile at n) more file work = refl
 name-bytes (S.InWorkspace n) more file work = refl
 
 -- the numbers after it, of a node and of a resolve-undo record
 pub after-shown : (s : Shown) (a b c d : ℕ) → let r = shown_reply s ++ (a ∷ b ∷ c ∷ d ∷ []) in
     (get_or r 5 0 ≡ a) × (get_or r 6 0 ≡ b) × (get_or r 7 0 ≡ c) × (get_or r 8 0 ≡ d)
-after-shown (S.Refused n p) a b c d = (refl, refl, refl, refl)
 after-shown (S.InFile at n) a b c d = (refl, refl, refl, refl)
 after-shown (S.InWorkspace n) a b c d = (refl, refl, refl, refl)
 
 pub after-path : (s : Shown) (a b c : ℕ) → let r = shown_reply s ++ (a ∷ b ∷ c ∷ []) in (get_or r 5 0 ≡ a) × (get_or r 6 0 ≡ b) × (get_or r 7 0 ≡ c)
-after-path (S.Refused n p) a b c = (refl, refl, refl)
 after-path (S.InFile at n) a b c = (refl, refl, refl)
 after-path (S.InWorkspace n) a b c = (refl, refl, refl)
 
@@ -51,13 +48,18 @@ pub record Tells {A : Type 0} (v : View A) (refusal place : ℕ) (x : A) : Type 
   pub file : (e : A) → v ≡ in_file e → (refusal ≡ 0) × (x ≡ e)
   pub workspace : (e : A) → v ≡ in_workspace e → (refusal ≡ 0) × (x ≡ e)
 
+-- a refusal, whatever the item
+pub denied-tells : {A : Type 0} (v : View A) (n p : ℕ) (x : A) → refused n p ≡ v → Tells v n p x
+denied-tells v n p x e =
+    rw (← e)
+    (record {
+      refuses = λ i j q. (cc, cc);
+      file = λ y q. let z : ◌≡◌ {A = ℕ} 0 1 = cc in absurd (omega arith);
+      workspace = λ y q. let z : ◌≡◌ {A = ℕ} 0 1 = cc in absurd (omega arith);
+    })
+
 module _ {A : Type 0} (more : List ℕ) where
   tells : (s : Shown) (x : A) → Tells (view_of s x) (refusal_in (shown_reply s ++ more)) (place_in (shown_reply s ++ more)) x
-  tells (S.Refused n p) x = record {
-    refuses = λ i j e. (cc, cc);
-    file = λ y e. let z : ◌≡◌ {A = ℕ} 0 1 = cc in absurd (omega arith);
-    workspace = λ y e. let z : ◌≡◌ {A = ℕ} 0 1 = cc in absurd (omega arith);
-  }
   tells (S.InFile at n) x = record {
     refuses = λ i j e. let z : ◌≡◌ {A = ℕ} 0 1 = cc in absurd (omega arith);
     file = λ y e. (refl, cc);

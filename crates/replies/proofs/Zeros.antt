@@ -4,15 +4,14 @@ use mathlib.Core.List.{List, ◌∷◌, ◌++◌}
 use Prim.Native.Nat.{ℕ, ◌<◌}
 use native.Mathlib.Omega.{arith}
 use lib.ListN.{drop, get_or, replicate}
-use Rattle.answers.specs.declared.Count.{Count}
-use Rattle.answers.specs.declared.Count.TheVariants.{Absent, Present}
-use Rattle.answers.specs.declared.Checked.{Checked}
-use Rattle.answers.specs.declared.Checked.TheVariants as K
+use Rattle.std.proofs.Common.{Option, Some, None, Result, Ok, Err, is_some}
+use Rattle.std.specs.Option.{unwrap_or}
+use Rattle.format.specs.Layout.{bit}
+use Rattle.format.specs.Refusals.{Numbered, denied}
+use Rattle.answers.specs.declared.Summary.{Summary}
 use Rattle.answers.specs.declared.Shown.{Shown}
 use Rattle.answers.specs.declared.Shown.TheVariants as S
-use Rattle.walk.specs.declared.Started.{Started}
-use Rattle.walk.specs.declared.Started.TheVariants as T
-use Rattle.replies.specs.Arrays.{is_present, number_of, shown_reply, check_reply, start_reply, refusal_in, place_in}
+use Rattle.replies.specs.Arrays.{shown_reply, check_reply, start_reply, refusal_in, place_in}
 
 -- ---- the statements
 
@@ -36,16 +35,18 @@ pub record CheckZeros (reply : List ℕ) : Type 0 where
 -- ---- the proofs
 
 -- of a refusal, whose number is not 0, and of a success
-pub denied : (n i p : ℕ) → 0 < i → Zeros n (i ∷ p ∷ replicate n 0)
-denied n i p some = record { success = λ e. absurd (omega arith); refused = λ _. refl }
+pub denied-zeros : (n i p : ℕ) → 0 < i → Zeros n (i ∷ p ∷ replicate n 0)
+denied-zeros n i p some = record { success = λ e. absurd (omega arith); refused = λ _. refl }
 
 pub done : (n : ℕ) (more : List ℕ) → Zeros n (0 ∷ 0 ∷ more)
 done n more = record { success = λ _. refl; refused = λ some. absurd (omega arith) }
 
 pub name-zeros : (s : Shown) (more : List ℕ) → NameZeros (shown_reply s ++ more)
-name-zeros (S.Refused n p) more = record { none = λ e. (refl, refl); workspace = λ e. refl }
 name-zeros (S.InFile at n) more = record { none = λ e. absurd (omega arith); workspace = λ e. absurd (omega arith) }
 name-zeros (S.InWorkspace n) more = record { none = λ e. absurd (omega arith); workspace = λ e. refl }
+
+pub denied-name : (n p : ℕ) (more : List ℕ) → NameZeros (n ∷ p ∷ 0 ∷ 0 ∷ 0 ∷ more)
+denied-name n p more = record { none = λ e. (refl, refl); workspace = λ e. refl }
 
 pub no-refusal {ℓ} : {X : Type ℓ} (reply : List ℕ) → refusal_in reply ≡ 0 → 0 < refusal_in reply → X
 no-refusal reply e some = absurd (omega arith)
@@ -53,15 +54,15 @@ no-refusal reply e some = absurd (omega arith)
 pub succeeded : (n : ℕ) (reply : List ℕ) → (refusal_in reply ≡ 0) × (place_in reply ≡ 0) → Zeros n reply
 succeeded n reply (number, place) = record { success = λ _. place; refused = no-refusal reply number }
 
--- a count that is absent
-number-zero : (c : Count) → is_present c ≡ 0 → number_of c ≡ 0
-number-zero Absent e = refl
-number-zero (Present n) e = absurd (omega arith)
+-- a count that is absent, or invalid
+pub count-zero : (c : Option ℕ) → bit (is_some c) ≡ 0 → unwrap_or c 0 ≡ 0
+count-zero None e = refl
+count-zero (Some n) e = absurd (omega arith)
 
-pub check-by : (x : Checked) → ((n p : ℕ) → x ≡ K.Refused n p → 0 < n) → CheckZeros (check_reply x)
-check-by (K.Refused n p) h = record { zeros = denied 14 n p (h n p refl); nodes = λ _. refl; records = λ _. refl; later = refl }
-check-by (K.Accepted s) h = record { zeros = done 14 _; nodes = number-zero s.nodes; records = number-zero s.records; later = refl }
+pub check-by : (x : Result Summary Numbered) → ((n p : ℕ) → x ≡ denied n p → 0 < n) → CheckZeros (check_reply x)
+check-by (Err y) h = record { zeros = denied-zeros 14 y.number y.place (h y.number y.place refl); nodes = λ _. refl; records = λ _. refl; later = refl }
+check-by (Ok s) h = record { zeros = done 14 _; nodes = count-zero s.nodes; records = count-zero s.records; later = refl }
 
-pub start-by : (x : Started) → ((n p : ℕ) → x ≡ T.Refused n p → 0 < n) → Zeros 2 (start_reply x)
-start-by (T.Refused n p) h = denied 2 n p (h n p refl)
-start-by (T.Ready n) h = done 2 _
+pub start-by : (x : Result ℕ Numbered) → ((n p : ℕ) → x ≡ denied n p → 0 < n) → Zeros 2 (start_reply x)
+start-by (Err y) h = denied-zeros 2 y.number y.place (h y.number y.place refl)
+start-by (Ok n) h = done 2 _

@@ -1,34 +1,28 @@
 -- The answers of the calls as lists of exactly so many numbers, as another language has them behind a pointer. The first number is the refusal, 0 of a success, the
 -- second its place; all that does not apply is 0.
-use Rattle.std.specs.Prelude.{List, [], ◌∷◌, ◌++◌, cond, not, ℕ, ◌+◌, ◌≤◌, length, take, get_or, replicate, eqb}
+use Rattle.std.specs.Prelude.{List, [], ◌∷◌, ◌++◌, cond, not, ℕ, ◌+◌, ◌-◌, ◌≤◌, length, take, get_or, replicate, eqb, is_some, Result, Ok, Err}
+use Rattle.std.specs.Option.{unwrap_or}
 use Rattle.format.specs.Layout.{bit}
+use Rattle.format.specs.Refusals.{Numbered}
 use Rattle.entries.specs.declared.record.Fields.{Fields}
-use Rattle.answers.specs.declared.Count.{Count}
-use Rattle.answers.specs.declared.Count.TheVariants.{Absent, Present}
+use Rattle.entries.specs.Record.{no_fields}
 use Rattle.answers.specs.declared.Checksum.{Checksum}
 use Rattle.answers.specs.declared.Checksum.TheVariants.{Matches, LeftOut, Wrong}
-use Rattle.answers.specs.declared.Checked.{Checked}
-use Rattle.answers.specs.declared.Checked.TheVariants as K
+use Rattle.answers.specs.declared.Summary.{Summary}
 use Rattle.answers.specs.declared.Shown.{Shown}
 use Rattle.answers.specs.declared.Shown.TheVariants as S
+use Rattle.answers.specs.declared.EntryAnswer.{EntryAnswer}
 use Rattle.answers.specs.declared.NodeAnswer.{NodeAnswer}
 use Rattle.answers.specs.declared.UndoAnswer.{UndoAnswer}
-use Rattle.answers.specs.declared.Written.{Written}
-use Rattle.answers.specs.declared.Written.TheVariants as W
 use Rattle.answers.specs.Answers.{part_in}
-use Rattle.walk.specs.declared.Started.{Started}
-use Rattle.walk.specs.declared.Started.TheVariants as T
 use Rattle.walk.specs.declared.Place.{Place}
 
+-- ---- a refusal: its number, its place, zeros; n numbers
+
+abbrev pub refusal_reply : ℕ → Numbered → List ℕ
+refusal_reply n x = x.number ∷ x.place ∷ replicate (n - 2) 0
+
 -- ---- check: 16 numbers, of which 6 are for what check may tell later
-
-abbrev pub is_present : Count → ℕ
-is_present Absent = 0
-is_present (Present n) = 1
-
-abbrev pub number_of : Count → ℕ
-number_of Absent = 0
-number_of (Present n) = n
 
 abbrev pub is_left_out : Checksum → ℕ
 is_left_out Matches = 0
@@ -37,20 +31,38 @@ is_left_out Wrong = 0
 
 -- version, entries, the byte where they end, whether there is a cache tree, its nodes, whether there is a resolve-undo extension, its records,
 -- whether the checksum was left out
-abbrev pub check_reply : Checked → List ℕ
-check_reply (K.Refused n p) = n ∷ p ∷ replicate 14 0
-check_reply (K.Accepted s) =
+abbrev pub check_reply : Result Summary Numbered → List ℕ
+check_reply (Err x) = refusal_reply 16 x
+check_reply (Ok s) =
     0 ∷ 0 ∷ s.version ∷ s.entries ∷ s.end
-    ∷ is_present s.nodes ∷ number_of s.nodes ∷ is_present s.records ∷ number_of s.records ∷ is_left_out s.checksum
+    ∷ bit (is_some s.nodes) ∷ unwrap_or s.nodes 0 ∷ bit (is_some s.records) ∷ unwrap_or s.records 0 ∷ is_left_out s.checksum
     ∷ replicate 6 0
 
 -- ---- what is shown
 
--- where its name is: the buffer, 1 the file, 2 the workspace, 0 none; the offset in it, the length
+-- where its name is: the buffer, 1 the file, 2 the workspace; the offset in it, the length
 abbrev pub shown_reply : Shown → List ℕ
-shown_reply (S.Refused n p) = n ∷ p ∷ 0 ∷ 0 ∷ 0 ∷ []
 shown_reply (S.InFile at n) = 0 ∷ 0 ∷ 1 ∷ at ∷ n ∷ []
 shown_reply (S.InWorkspace n) = 0 ∷ 0 ∷ 2 ∷ 0 ∷ n ∷ []
+
+abbrev pub entry_reply : Result EntryAnswer Numbered → List ℕ
+entry_reply (Err x) = refusal_reply 5 x
+entry_reply (Ok a) = shown_reply a.shown
+
+-- level, whether the count is valid, the count, the number of subtrees
+abbrev pub node_reply : Result NodeAnswer Numbered → List ℕ
+node_reply (Err x) = refusal_reply 9 x
+node_reply (Ok a) = shown_reply a.shown ++ (a.level ∷ bit (is_some a.count) ∷ unwrap_or a.count 0 ∷ a.subtrees ∷ [])
+
+-- the modes of its stages
+abbrev pub undo_reply : Result UndoAnswer Numbered → List ℕ
+undo_reply (Err x) = refusal_reply 8 x
+undo_reply (Ok a) = shown_reply a.shown ++ (a.first_mode ∷ a.second_mode ∷ a.third_mode ∷ [])
+
+-- the place after the entry, and how many remain there
+abbrev pub step_reply : Result EntryAnswer Numbered → Place → List ℕ
+step_reply (Err x) next = refusal_reply 7 x
+step_reply (Ok a) next = shown_reply a.shown ++ (next.at ∷ next.left ∷ [])
 
 -- the fields of an entry but its object name and its name
 abbrev pub field_numbers : Fields → List ℕ
@@ -59,32 +71,25 @@ field_numbers x =
     ∷ bit x.assume_valid ∷ x.stage ∷ bit x.skip_worktree ∷ bit x.intent_to_add
     ∷ []
 
--- level, whether it is valid, its count, its number of subtrees
-abbrev pub node_reply : NodeAnswer → List ℕ
-node_reply a = shown_reply a.shown ++ (a.level ∷ bit a.valid ∷ a.count ∷ a.subtrees ∷ [])
+-- the fields beside a reply: zeros and false of a refusal
+abbrev pub fields_shown : Result EntryAnswer Numbered → Fields
+fields_shown (Err x) = no_fields
+fields_shown (Ok a) = a.fields
 
--- the modes of its stages
-abbrev pub undo_reply : UndoAnswer → List ℕ
-undo_reply a = shown_reply a.shown ++ (a.first_mode ∷ a.second_mode ∷ a.third_mode ∷ [])
-
--- the place after the entry, and how many remain there
-abbrev pub next_numbers : Shown → Place → List ℕ
-next_numbers (S.Refused n p) next = 0 ∷ 0 ∷ []
-next_numbers (S.InFile at n) next = next.at ∷ next.left ∷ []
-next_numbers (S.InWorkspace n) next = next.at ∷ next.left ∷ []
-
-abbrev pub step_reply : Shown → Place → List ℕ
-step_reply shown next = shown_reply shown ++ next_numbers shown next
+-- an object name beside a reply: zeros of a refusal
+abbrev pub object_shown : {A : Type 0} → (A → List ℕ) → Result A Numbered → List ℕ
+object_shown object (Err x) = replicate 32 0
+object_shown object (Ok a) = object a
 
 -- ---- the calls that write, the start of a walk
 
-abbrev pub write_reply : Written → List ℕ
-write_reply (W.Refused n p) = n ∷ p ∷ 0 ∷ []
-write_reply (W.Done n) = 0 ∷ 0 ∷ n ∷ []
+abbrev pub write_reply : Result ℕ Numbered → List ℕ
+write_reply (Err x) = refusal_reply 3 x
+write_reply (Ok n) = 0 ∷ 0 ∷ n ∷ []
 
-abbrev pub start_reply : Started → List ℕ
-start_reply (T.Refused n p) = n ∷ p ∷ 0 ∷ 0 ∷ []
-start_reply (T.Ready n) = 0 ∷ 0 ∷ 12 ∷ n ∷ []
+abbrev pub start_reply : Result ℕ Numbered → List ℕ
+start_reply (Err x) = refusal_reply 4 x
+start_reply (Ok n) = 0 ∷ 0 ∷ 12 ∷ n ∷ []
 
 -- ---- what a program reads from a reply
 

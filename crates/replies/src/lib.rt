@@ -2,55 +2,16 @@
 
 #![tactic(auto)]
 
-ghost use Rattle.std.specs.Prelude.{◌≡◌};
-ghost use Rattle.format.specs.Layout.{bit};
-ghost use Rattle.replies.specs.Arrays.{is_present, number_of, is_left_out, check_reply, shown_reply, field_numbers, given_fields, node_reply, undo_reply, step_reply, write_reply, start_reply};
+ghost use Rattle.std.specs.Prelude.{◌≡◌, ◌++◌, ◌+◌, ◌≤◌};
+ghost use Rattle.format.specs.Refusals.{number_of, numbered_at};
+ghost use Rattle.replies.specs.Arrays.{refusal_reply, is_left_out, check_reply, shown_reply, entry_reply, node_reply, undo_reply, step_reply, field_numbers, fields_shown, given_fields, write_reply, start_reply};
 
-use answers::{Checked, Checksum, Count, NodeAnswer, Shown, UndoAnswer, Written};
+use answers::{Checksum, EntryAnswer, NodeAnswer, Shown, Summary, UndoAnswer};
 use entries::record::Fields;
-use walk::{Place, Started};
+use format::Fault;
+use walk::Place;
 
-// ---- single numbers
-
-fn wide(n: u32) -> u64
-    ensures { result ≡ n }
-{
-    n as u64
-}
-
-fn bit(b: bool) -> u32
-    ensures { result ≡ bit b }
-{
-    b as u32
-}
-
-fn is_present(c: Count) -> u64
-    ensures { result ≡ is_present c }
-{
-    match c {
-        Count::Absent => 0,
-        Count::Present(_) => 1,
-    }
-}
-
-fn number_of(c: Count) -> u32
-    ensures { result ≡ number_of c }
-{
-    match c {
-        Count::Absent => 0,
-        Count::Present(n) => n,
-    }
-}
-
-fn is_left_out(c: Checksum) -> u64
-    ensures { result ≡ is_left_out c }
-{
-    match c {
-        Checksum::Matches => 0,
-        Checksum::LeftOut => 1,
-        Checksum::Wrong => 0,
-    }
-}
+// The types on both sides are of other crates or of the library: so the conversions are functions, and no From.
 
 // ---- the fields of an entry
 
@@ -68,10 +29,10 @@ pub fn field_numbers(f: Fields) -> [u32; 14]
         f.uid,
         f.gid,
         f.size,
-        bit(f.assume_valid),
+        u32::from(f.assume_valid),
         f.stage,
-        bit(f.skip_worktree),
-        bit(f.intent_to_add),
+        u32::from(f.skip_worktree),
+        u32::from(f.intent_to_add),
     ]
 }
 
@@ -98,116 +59,148 @@ pub fn given_fields(numbers: &[u32; 14], object: &[u8; 32]) -> Fields
     }
 }
 
-// ---- replies
-
-pub fn check_reply(checked: Checked) -> [u64; 16]
-    ensures { result ≡ check_reply checked }
+// The fields beside a reply: zeros and false of a refusal.
+pub fn fields_shown(answer: Result<EntryAnswer, Fault>) -> Fields
+    ensures { result ≡ fields_shown (numbered_at answer) }
 {
-    match checked {
-        Checked::Refused(n, p) => [wide(n), p as u64, 0, 0, 0, 0, 0, 0, 0, 0, 0, 0, 0, 0, 0, 0],
-        Checked::Accepted(s) => {
-            let nodes = s.nodes;
-            let records = s.records;
-            let checksum = s.checksum;
-            [
-                0,
-                0,
-                wide(s.version),
-                wide(s.entries),
-                s.end as u64,
-                is_present(nodes),
-                wide(number_of(nodes)),
-                is_present(records),
-                wide(number_of(records)),
-                is_left_out(checksum),
-                0,
-                0,
-                0,
-                0,
-                0,
-                0,
-            ]
-        }
+    match answer {
+        Ok(entry) => entry.fields,
+        Err(_) => entries::record::no_fields(),
     }
 }
 
-pub fn shown_reply(shown: Shown) -> [u64; 5]
+// ---- replies
+
+// Of a refusal: its number, its place, zeros.
+fn refusal_reply<const N: usize>(fault: Fault) -> [u64; N]
+    requires { 2 ≤ N }
+    ensures { result ≡ refusal_reply N (record { number = number_of fault.refusal; place = fault.place }) }
+{
+    let mut reply = [0u64; N];
+    reply[0] = u64::from(fault.refusal.number());
+    reply[1] = fault.place as u64;
+    reply
+}
+
+// A number, since other languages have it.
+fn is_left_out(c: Checksum) -> u64
+    ensures { result ≡ is_left_out c }
+{
+    u64::from(c == Checksum::LeftOut)
+}
+
+pub fn check_reply(checked: Result<Summary, Fault>) -> [u64; 16]
+    ensures { result ≡ check_reply (numbered_at checked) }
+{
+    match checked {
+        Err(fault) => refusal_reply::<16>(fault),
+        Ok(s) => [
+            0,
+            0,
+            u64::from(s.version),
+            u64::from(s.entries),
+            s.end as u64,
+            u64::from(s.nodes.is_some()),
+            u64::from(s.nodes.unwrap_or(0)),
+            u64::from(s.records.is_some()),
+            u64::from(s.records.unwrap_or(0)),
+            is_left_out(s.checksum),
+            0,
+            0,
+            0,
+            0,
+            0,
+            0,
+        ],
+    }
+}
+
+fn shown_reply(shown: Shown) -> [u64; 5]
     ensures { result ≡ shown_reply shown }
 {
     match shown {
-        Shown::Refused(n, p) => [wide(n), p as u64, 0, 0, 0],
         Shown::InFile(at, n) => [0, 0, 1, at as u64, n as u64],
         Shown::InWorkspace(n) => [0, 0, 2, 0, n as u64],
     }
 }
 
-pub fn node_reply(a: NodeAnswer) -> [u64; 9]
-    ensures { result ≡ node_reply a }
+// And more numbers after it.
+fn shown_then<const K: usize, const N: usize>(shown: Shown, more: [u64; K]) -> [u64; N]
+    requires { N ≡ 5 + K }
+    ensures { result ≡ shown_reply shown ++ more.entry }
 {
-    let shown = a.shown;
-    let name = shown_reply(shown);
-    [
-        name[0],
-        name[1],
-        name[2],
-        name[3],
-        name[4],
-        wide(a.level),
-        wide(bit(a.valid)),
-        wide(a.count),
-        wide(a.subtrees),
-    ]
+    let mut reply = [0u64; N];
+    let (first, rest) = reply[..].split_at_mut(5);
+    first.copy_from_slice(&shown_reply(shown));
+    rest.copy_from_slice(&more);
+    reply
 }
 
-pub fn undo_reply(a: UndoAnswer) -> [u64; 8]
-    ensures { result ≡ undo_reply a }
+pub fn entry_reply(answer: Result<EntryAnswer, Fault>) -> [u64; 5]
+    ensures { result ≡ entry_reply (numbered_at answer) }
 {
-    let shown = a.shown;
-    let path = shown_reply(shown);
-    [
-        path[0],
-        path[1],
-        path[2],
-        path[3],
-        path[4],
-        wide(a.first_mode),
-        wide(a.second_mode),
-        wide(a.third_mode),
-    ]
-}
-
-pub fn step_reply(shown: Shown, next: Place) -> [u64; 7]
-    ensures { result ≡ step_reply shown next }
-{
-    match shown {
-        Shown::Refused(n, p) => [wide(n), p as u64, 0, 0, 0, 0, 0],
-        Shown::InFile(at, n) => [
-            0,
-            0,
-            1,
-            at as u64,
-            n as u64,
-            next.at as u64,
-            wide(next.left),
-        ],
-        Shown::InWorkspace(n) => [0, 0, 2, 0, n as u64, next.at as u64, wide(next.left)],
+    match answer {
+        Err(fault) => refusal_reply::<5>(fault),
+        Ok(entry) => shown_reply(entry.shown),
     }
 }
 
-pub fn write_reply(written: Written) -> [u64; 3]
-    ensures { result ≡ write_reply written }
+pub fn node_reply(answer: Result<NodeAnswer, Fault>) -> [u64; 9]
+    ensures { result ≡ node_reply (numbered_at answer) }
+{
+    match answer {
+        Err(fault) => refusal_reply::<9>(fault),
+        Ok(node) => shown_then(
+            node.shown,
+            [
+                u64::from(node.level),
+                u64::from(node.count.is_some()),
+                u64::from(node.count.unwrap_or(0)),
+                u64::from(node.subtrees),
+            ],
+        ),
+    }
+}
+
+pub fn undo_reply(answer: Result<UndoAnswer, Fault>) -> [u64; 8]
+    ensures { result ≡ undo_reply (numbered_at answer) }
+{
+    match answer {
+        Err(fault) => refusal_reply::<8>(fault),
+        Ok(record) => shown_then(
+            record.shown,
+            [
+                u64::from(record.first_mode),
+                u64::from(record.second_mode),
+                u64::from(record.third_mode),
+            ],
+        ),
+    }
+}
+
+pub fn step_reply(answer: Result<EntryAnswer, Fault>, next: Place) -> [u64; 7]
+    ensures { result ≡ step_reply (numbered_at answer) next }
+{
+    match answer {
+        Err(fault) => refusal_reply::<7>(fault),
+        Ok(entry) => shown_then(entry.shown, [next.at as u64, u64::from(next.left)]),
+    }
+}
+
+pub fn write_reply(written: Result<usize, Fault>) -> [u64; 3]
+    ensures { result ≡ write_reply (numbered_at written) }
 {
     match written {
-        Written::Refused(n, p) => [wide(n), p as u64, 0],
-        Written::Done(n) => [0, 0, n as u64],
+        Err(fault) => refusal_reply::<3>(fault),
+        Ok(n) => [0, 0, n as u64],
     }
 }
 
-pub fn start_reply(started: Started) -> [u64; 4]
-    ensures { result ≡ start_reply started }
+pub fn start_reply(started: Result<u32, Fault>) -> [u64; 4]
+    ensures { result ≡ start_reply (numbered_at started) }
 {
     match started {
-        Started::Refused(n, p) => [wide(n), p as u64, 0, 0],
-        Started::Ready(n) => [0, 0, 12, wide(n)],
+        Err(fault) => refusal_reply::<4>(fault),
+        Ok(n) => [0, 0, 12, u64::from(n)],
     }
 }

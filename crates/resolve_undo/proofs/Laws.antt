@@ -16,27 +16,25 @@ use Rattle.format.specs.Records.{Stage, Undo}
 use Rattle.format.specs.Layout.{some_stage}
 use Rattle.format.specs.Reading.{Read, bad, good, need, shift, bind}
 use Rattle.format.specs.Reader.{read_text, need_some, mode_in, read_mode, read_stage, read_stages, read_undo}
+use Rattle.std.proofs.lemmas.Option.{some_pair_parts}
 use Rattle.format_laws.proofs.Tests.{by-test, cond-inv}
 use Rattle.format_laws.proofs.Texts.{text-none, text-some}
 use Rattle.format_laws.proofs.Readings.{good-inv, need-inv, bind_inv, need-good, bind-good, same_size}
 use Rattle.entries.specs.Record.{wide_object}
-use Rattle.resolve_undo.specs.declared.ModeFound.TheVariants as F
-use Rattle.resolve_undo.specs.declared.ModeRead.{ModeRead}
-use Rattle.resolve_undo.specs.declared.ModeRead.TheVariants as M
+use Rattle.std.specs.Prelude as Code
+use Rattle.std.specs.Prelude.{Some, None}
 use Rattle.resolve_undo.specs.declared.Record.{Record}
-use Rattle.resolve_undo.specs.declared.RecordRead.{RecordRead}
-use Rattle.resolve_undo.specs.declared.RecordRead.TheVariants as R
 use Rattle.resolve_undo.specs.Answers.{mode_found, mode_read, ModeWithin, object_length, objects_length, object_in, with_mode, read_modes, record_of, record_read, RecordWithin, RestRead}
 
 -- ---- modes
 
 module _ (p at k : ℕ) where
-  some-bad : (o : Option ℕ) → mode_found o ≡ F.Bad → mode_read at (shift k (need_some o 17 p (λ x. good x 0))) ≡ M.Bad
+  some-bad : (o : Option ℕ) → mode_found o ≡ None → mode_read at (shift k (need_some o 17 p (λ x. good x 0))) ≡ None
   unfolding shift need_some
   some-bad none e = refl
   some-bad (some m) e = let z : ◌≡◌ {A = ℕ} 0 1 = cc in absurd (omega arith)
 
-  some_good : (o : Option ℕ) (m : ℕ) → mode_found o ≡ F.Good m → mode_read at (shift k (need_some o 17 p (λ x. good x 0))) ≡ M.Good m (at + k)
+  some_good : (o : Option ℕ) (m : ℕ) → mode_found o ≡ Some m → mode_read at (shift k (need_some o 17 p (λ x. good x 0))) ≡ Some (m, at + k)
   unfolding shift need_some
   some_good none m e = let z : ◌≡◌ {A = ℕ} 0 1 = cc in absurd (omega arith)
   some_good (some x) m e =
@@ -45,16 +43,16 @@ module _ (p at k : ℕ) where
       rw (is, l)
 
 module _ (at e : ℕ) (d : List ℕ) (is : e ≡ at + before 0 (drop at d)) (inside : at ≤ length d) (p : ℕ) where
-  pub mode-none : e ≡ length d → mode_read at (read_mode p (drop at d)) ≡ M.Bad
+  pub mode-none : e ≡ length d → mode_read at (read_mode p (drop at d)) ≡ None
   unfolding read_mode bind
   mode-none end = rw (text-none 0 17 p d at e is end)
 
   module _ (more : e < length d) where
-    pub mode-bad : mode_found (mode_in (take (e - at) (drop at d))) ≡ F.Bad → mode_read at (read_mode p (drop at d)) ≡ M.Bad
+    pub mode-bad : mode_found (mode_in (take (e - at) (drop at d))) ≡ None → mode_read at (read_mode p (drop at d)) ≡ None
     unfolding read_mode bind
     mode-bad h = rw (text-some 0 17 p d at e is more) (some-bad p at (e + 1 - at) _ h)
 
-    pub mode-good : (m : ℕ) → mode_found (mode_in (take (e - at) (drop at d))) ≡ F.Good m → mode_read at (read_mode p (drop at d)) ≡ M.Good m (e + 1)
+    pub mode-good : (m : ℕ) → mode_found (mode_in (take (e - at) (drop at d))) ≡ Some m → mode_read at (read_mode p (drop at d)) ≡ Some (m, e + 1)
     unfolding read_mode bind
     mode-good m h =
         let l : at + (e + 1 - at) ≡ e + 1 = omega arith in
@@ -64,20 +62,20 @@ module _ (at e : ℕ) (d : List ℕ) (is : e ≡ at + before 0 (drop at d)) (ins
 
 -- what the reader answered, where the code's answer is known; by continuation
 module _ {ℓ} {X : Type ℓ} (at : ℕ) where
-  mode-bad-inv : (r : Read ℕ) → M.Bad ≡ mode_read at r → ((n p : ℕ) → r ≡ bad n p → X) → X
+  mode-bad-inv : (r : Read ℕ) → None ≡ mode_read at r → ((n p : ℕ) → r ≡ bad n p → X) → X
   mode-bad-inv (bad n p) e f = f n p refl
   mode-bad-inv (good x k) e f = let z : ◌≡◌ {A = ℕ} 0 1 = cc in absurd (omega arith)
 
-  mode-good-inv : (r : Read ℕ) (m next : ℕ) → M.Good m next ≡ mode_read at r → ((k : ℕ) → r ≡ good m k → next ≡ at + k → X) → X
+  mode-good-inv : (r : Read ℕ) (m next : ℕ) → Some (m, next) ≡ mode_read at r → ((k : ℕ) → r ≡ good m k → next ≡ at + k → X) → X
   mode-good-inv (bad n p) m next e f = let z : ◌≡◌ {A = ℕ} 0 1 = cc in absurd (omega arith)
-  mode-good-inv (good x k) m next e f = f k (cc) (cc)
+  mode-good-inv (good x k) m next e f = let (is, place) = some_pair_parts _ _ _ _ e in f k (rw is) place
 
 module _ {ℓ} {X : Type ℓ} (w at : ℕ) where
-  pub record-bad-inv : (r : Read Undo) → R.Bad ≡ record_read w at r → ((n p : ℕ) → r ≡ bad n p → X) → X
+  pub record-bad-inv : (r : Read Undo) → None ≡ record_read w at r → ((n p : ℕ) → r ≡ bad n p → X) → X
   record-bad-inv (bad n p) e f = f n p refl
   record-bad-inv (good u k) e f = let z : ◌≡◌ {A = ℕ} 0 1 = cc in absurd (omega arith)
 
-  pub record-good-inv : (r : Read Undo) (g : Record) → R.Good g ≡ record_read w at r → ((u : Undo) (k : ℕ) → r ≡ good u k → g ≡ record_of w at u k → X) → X
+  pub record-good-inv : (r : Read Undo) (g : Record) → Some g ≡ record_read w at r → ((u : Undo) (k : ℕ) → r ≡ good u k → g ≡ record_of w at u k → X) → X
   record-good-inv (bad n p) g e f = let z : ◌≡◌ {A = ℕ} 0 1 = cc in absurd (omega arith)
   record-good-inv (good u k) g e f = f u k refl (cc)
 
@@ -88,16 +86,16 @@ record-shift w at k (bad n p) = refl
 record-shift w at k (good u m) = rw (add_assoc at k m)
 
 -- what is never read is refused
-refused : (w at : ℕ) (r : Read Undo) → ((u : Undo) (k : ℕ) → r ≡ good u k → ⊥) → record_read w at r ≡ R.Bad
+refused : (w at : ℕ) (r : Read Undo) → ((u : Undo) (k : ℕ) → r ≡ good u k → ⊥) → record_read w at r ≡ None
 refused w at (bad n p) h = refl
 refused w at (good u k) h = absurd (h u k refl)
 
 -- a mode and what comes next
-then-bad : (w at p : ℕ) (s : List ℕ) (k : ℕ → List ℕ → Read Undo) → M.Bad ≡ mode_read at (read_mode p s) → record_read w at (with_mode p k s) ≡ R.Bad
+then-bad : (w at p : ℕ) (s : List ℕ) (k : ℕ → List ℕ → Read Undo) → None ≡ mode_read at (read_mode p s) → record_read w at (with_mode p k s) ≡ None
 unfolding bind with_mode
 then-bad w at p s k e = mode-bad-inv at (read_mode p s) e λ n m q. rw q
 
-then-good : (w at next m p : ℕ) (d : List ℕ) (k : ℕ → List ℕ → Read Undo) → M.Good m next ≡ mode_read at (read_mode p (drop at d))
+then-good : (w at next m p : ℕ) (d : List ℕ) (k : ℕ → List ℕ → Read Undo) → Some (m, next) ≡ mode_read at (read_mode p (drop at d))
     → record_read w at (with_mode p k (drop at d)) ≡ record_read w next (k m (drop next d))
 unfolding bind with_mode
 then-good w at next m p d k e =
@@ -214,10 +212,10 @@ module _ (w p : ℕ) (path : List ℕ) (a b c : ℕ) (s : List ℕ) (wide : 1 �
       ∙ same_size sum
 
 module _ (w p at : ℕ) (wide : 1 ≤ w) (path : List ℕ) (a b c n : ℕ) (d : List ℕ) (is : n ≡ object_length w a + object_length w b + object_length w c) where
-  pub stages-none : n ≡ 0 → record_read w at (read_stages w p path a b c (drop at d)) ≡ R.Bad
+  pub stages-none : n ≡ 0 → record_read w at (read_stages w p path a b c (drop at d)) ≡ None
   stages-none e = refused w at _ λ u k q. let h = stages-read w p path a b c (drop at d) wide u k q in omega arith
 
-  pub stages-cut : length d - at < n → record_read w at (read_stages w p path a b c (drop at d)) ≡ R.Bad
+  pub stages-cut : length d - at < n → record_read w at (read_stages w p path a b c (drop at d)) ≡ None
   stages-cut e =
       refused w at _ λ u k q.
       let h = stages-read w p path a b c (drop at d) wide u k q in
@@ -225,7 +223,7 @@ module _ (w p at : ℕ) (wide : 1 ≤ w) (path : List ℕ) (a b c n : ℕ) (d : 
 
   pub stages-some : (n ≡ 0 → ⊥) → n ≤ length d - at → (size : ℕ) → length path ≡ size
       → record_read w at (read_stages w p path a b c (drop at d))
-      ≡ R.Good (record { path = size; first = a; second = b; third = c; objects = at; next = at + n })
+      ≡ Some (record { path = size; first = a; second = b; third = c; objects = at; next = at + n })
   unfolding objects_length
   stages-some e fits size long =
       let l = length-drop at d in
@@ -234,24 +232,24 @@ module _ (w p at : ℕ) (wide : 1 ≤ w) (path : List ℕ) (a b c n : ℕ) (d : 
 
 -- ---- the rest of a record, after a mode at a place
 
-pub mode-within : (at end m next : ℕ) (r : ModeRead) → ModeWithin at end r → r ≡ M.Good m next → (at < next) × (next ≤ end)
+pub mode-within : (at end m next : ℕ) (r : Code.Option (ℕ × ℕ)) → ModeWithin at end r → r ≡ Some (m, next) → (at < next) × (next ≤ end)
 mode-within at end m next r h e = rw e at h
 
 -- what is in the data after a place is in it after an earlier one
-pub record-within : (at i end : ℕ) (r : RecordRead) → at ≤ i → RecordWithin i end r → RecordWithin at end r
-record-within at i end R.Bad h inside = tt
-record-within at i end (R.Good r) h inside = omega arith
+pub record-within : (at i end : ℕ) (r : Code.Option Record) → at ≤ i → RecordWithin i end r → RecordWithin at end r
+record-within at i end None h inside = tt
+record-within at i end (Some r) h inside = omega arith
 
-pub record-bounds : (at end : ℕ) (g : Record) (r : RecordRead) → RecordWithin at end r → r ≡ R.Good g → (at < g.next) × (g.next ≤ end)
+pub record-bounds : (at end : ℕ) (g : Record) (r : Code.Option Record) → RecordWithin at end r → r ≡ Some g → (at < g.next) × (g.next ≤ end)
 record-bounds at end g r h e = rw e at h
 
 -- r is the mode at the place at, and k reads what comes after it
-module _ (w at size : ℕ) (d : List ℕ) (k : ℕ → List ℕ → ℕ → List ℕ → Read Undo) (r : ModeRead)
+module _ (w at size : ℕ) (d : List ℕ) (k : ℕ → List ℕ → ℕ → List ℕ → Read Undo) (r : Code.Option (ℕ × ℕ))
     (told : ((p : ℕ) → r ≡ mode_read at (read_mode p (drop at d))) × ModeWithin at (length d) r) where
-  pub no_mode : r ≡ M.Bad → RestRead w at size d (λ p path. with_mode p (k p path)) R.Bad
+  pub no_mode : r ≡ None → RestRead w at size d (λ p path. with_mode p (k p path)) None
   no_mode e = (λ p path long. sym (then-bad w at p _ _ (sym e ∙ told.0 p)), tt)
 
-  pub after-mode : (m next : ℕ) (g : RecordRead) → r ≡ M.Good m next → RestRead w next size d (λ p path. k p path m) g → RestRead w at size d (λ p path. with_mode p (k p path)) g
+  pub after-mode : (m next : ℕ) (g : Code.Option Record) → r ≡ Some (m, next) → RestRead w next size d (λ p path. k p path m) g → RestRead w at size d (λ p path. with_mode p (k p path)) g
   after-mode m next g e rest =
       let b = mode-within at (length d) m next r told.1 e in (
         λ p path long. rest.0 p path long ∙ sym (then-good w at next m p d (k p path) (sym e ∙ told.0 p)),
@@ -267,7 +265,7 @@ unfolding read_undo read_modes with_mode
 undo_is w p previous s = refl
 
 module _ (w at e : ℕ) (d previous : List ℕ) (is : e ≡ at + before 0 (drop at d)) (inside : at ≤ length d) (p : ℕ) where
-  pub undo-none : e ≡ length d → record_read w at (read_undo w p previous (drop at d)) ≡ R.Bad
+  pub undo-none : e ≡ length d → record_read w at (read_undo w p previous (drop at d)) ≡ None
   unfolding read_undo bind
   undo-none end = rw (text-none 0 17 p d at e is end)
 
@@ -275,7 +273,7 @@ module _ (w at e : ℕ) (d previous : List ℕ) (is : e ≡ at + before 0 (drop 
     abbrev path : List ℕ
     path = take (e - at) (drop at d)
 
-    pub undo-path : (ok_name path && is_below (compare previous path)) ≡ false → record_read w at (read_undo w p previous (drop at d)) ≡ R.Bad
+    pub undo-path : (ok_name path && is_below (compare previous path)) ≡ false → record_read w at (read_undo w p previous (drop at d)) ≡ None
     unfolding bind need shift
     undo-path h = rw (undo_is, text-some 0 17 p d at e is more, h)
 

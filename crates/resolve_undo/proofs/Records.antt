@@ -16,10 +16,8 @@ use Rattle.format_laws.proofs.Texts.{before-le, text-inv}
 use Rattle.format_laws.proofs.Readings.{need-inv, bind_inv}
 use Rattle.spelling.proofs.Undo.{undos_of, undos_of-end, undos_of-step}
 use Rattle.resolve_undo.specs.declared.Record.{Record}
-use Rattle.resolve_undo.specs.declared.RecordRead.{RecordRead}
-use Rattle.resolve_undo.specs.declared.RecordRead.TheVariants as R
-use Rattle.resolve_undo.specs.declared.RecordsRead.{RecordsRead}
-use Rattle.resolve_undo.specs.declared.RecordsRead.TheVariants as S
+use Rattle.std.specs.Prelude as Code
+use Rattle.std.specs.Prelude.{Some, None}
 use Rattle.format.specs.Places.{after_undo, undo_start}
 use Rattle.resolve_undo.specs.Answers.{with_mode, read_modes, record_of, record_read, RecordWithin, records_read}
 use Rattle.resolve_undo.proofs.Laws.{record-bad-inv, record-good-inv, stages-read, record-bounds, undo_is}
@@ -58,12 +56,12 @@ undo-begins w p previous s u k wide q =
 -- ---- all records
 
 -- what is answered where r are the records after n others
-abbrev records_from : ℕ → Read (List Undo) → RecordsRead
-records_from n (bad k p) = S.Bad
-records_from n (good us k) = S.Good (n + length us)
+abbrev records_from : ℕ → Read (List Undo) → Code.Option ℕ
+records_from n (bad k p) = None
+records_from n (good us k) = Some (n + length us)
 
 -- the same of the records that the data d has from at on
-abbrev pub answer_from : ℕ → ℕ → ℕ → ℕ → List ℕ → List ℕ → RecordsRead
+abbrev pub answer_from : ℕ → ℕ → ℕ → ℕ → List ℕ → List ℕ → Code.Option ℕ
 answer_from w p n at previous d = records_from n (undos_of w p previous (drop at d))
 
 from-none : (r : Read (List Undo)) → records_read r ≡ records_from 0 r
@@ -74,17 +72,17 @@ pub from_start : (w p : ℕ) (d : List ℕ) → records_read (read_undos w p (le
 unfolding undos_of
 from_start w p d = from-none (read_undos w p (length d) [] d)
 
-pub from_end : (w p n at : ℕ) (previous d : List ℕ) → length d ≤ at → answer_from w p n at previous d ≡ S.Good n
+pub from_end : (w p n at : ℕ) (previous d : List ℕ) → length d ≤ at → answer_from w p n at previous d ≡ Some n
 from_end w p n at previous d end = let sum : n + 0 ≡ n = omega arith in rw (drop_of_length-le d end, undos_of-end, sum)
 
-bad-from : (n m p : ℕ) (k : Undo → ℕ → Read (List Undo)) → records_from n (bind (bad m p) k) ≡ S.Bad
+bad-from : (n m p : ℕ) (k : Undo → ℕ → Read (List Undo)) → records_from n (bind (bad m p) k) ≡ None
 unfolding bind
 bad-from n m p k = refl
 
 more-from : (n k : ℕ) (u : Undo) (r : Read (List Undo)) → records_from n (shift k (bind r (λ us m. good (u ∷ us) 0))) ≡ records_from (n + 1) r
 unfolding bind shift
 more-from n k u (bad m p) = refl
-more-from n k u (good us m) = ap S.Good (omega arith)
+more-from n k u (good us m) = ap Some (omega arith)
 
 -- the first record, the rest, and the place of a later one
 module _ (w p : ℕ) (previous s : List ℕ) (u : Undo) (k : ℕ) (q : read_undo w p previous s ≡ good u k) where
@@ -103,16 +101,16 @@ place_end w p at left previous d h = let none : left ≡ 0 = omega arith in rw n
 -- ---- the record at a place
 
 -- r is the record at the place at, after one of the path previous
-abbrev pub IsRecordAt : ℕ → ℕ → List ℕ → List ℕ → RecordRead → Type 0
+abbrev pub IsRecordAt : ℕ → ℕ → List ℕ → List ℕ → Code.Option Record → Type 0
 IsRecordAt w at previous d r = ((p : ℕ) → r ≡ record_read w at (read_undo w p previous (drop at d))) × RecordWithin at (length d) r
 
-module _ (w at : ℕ) (previous d : List ℕ) (r : RecordRead) (told : IsRecordAt w at previous d r) where
+module _ (w at : ℕ) (previous d : List ℕ) (r : Code.Option Record) (told : IsRecordAt w at previous d r) where
   -- it is refused
-  module _ (e : r ≡ R.Bad) (p : ℕ) where
+  module _ (e : r ≡ None) (p : ℕ) where
     pub refusal {ℓ} : {X : Type ℓ} → ((n m : ℕ) → read_undo w p previous (drop at d) ≡ bad n m → X) → X
     refusal f = record-bad-inv w at (read_undo w p previous (drop at d)) (sym e ∙ told.0 p) f
 
-    pub from-bad : (n : ℕ) → at < length d → answer_from w p n at previous d ≡ S.Bad
+    pub from-bad : (n : ℕ) → at < length d → answer_from w p n at previous d ≡ None
     from-bad n inside =
         let long : 1 ≤ length (drop at d) = simp length-drop (omega arith) in
         refusal λ m i q. rw (undos_of-step w p previous (drop at d) long, q) (bad-from n m i _)
@@ -124,7 +122,7 @@ module _ (w at : ℕ) (previous d : List ℕ) (r : RecordRead) (told : IsRecordA
         refusal λ m i q. rw (one, q) (omega arith)
 
   -- it is read
-  module _ (g : Record) (e : r ≡ R.Good g) where
+  module _ (g : Record) (e : r ≡ Some g) where
     module _ (p : ℕ) where
       pub reading {ℓ} : {X : Type ℓ} → ((u : Undo) (k : ℕ) → read_undo w p previous (drop at d) ≡ good u k → g ≡ record_of w at u k → X) → X
       reading f = record-good-inv w at (read_undo w p previous (drop at d)) g (sym e ∙ told.0 p) f
@@ -137,14 +135,13 @@ module _ (w at : ℕ) (previous d : List ℕ) (r : RecordRead) (told : IsRecordA
           rw (undos-after w p previous (drop at d) u k q long, is, h.0, ← (drop-drop k at d))
           (more-from n k u (undos_of w p u.path (drop k (drop at d))))
 
-      -- the record left after it
-      pub place-more : 1 ≤ w → (left : ℕ) → 0 < left
-          → at + undo_start w p left previous (drop at d) ≡ g.next + undo_start w p (left - 1) (take g.path (drop at d)) (drop g.next d)
-      place-more wide left some =
+      -- the record left after it, where rest are left after that
+      pub place-more : 1 ≤ w → (left rest : ℕ) → left ≡ suc rest
+          → at + undo_start w p left previous (drop at d) ≡ g.next + undo_start w p rest (take g.path (drop at d)) (drop g.next d)
+      place-more wide left rest one =
           reading λ u k q is.
           let h = undo-begins w p previous (drop at d) u k wide q in
-          let later = place_after w p previous (drop at d) u k q (left - 1) in
-          let one : left ≡ suc (left - 1) = omega arith in
+          let later = place_after w p previous (drop at d) u k q rest in
           rw (is, h.0, ← (drop-drop k at d)) (ap (λ n. at + undo_start w p n previous (drop at d)) one ∙ omega arith)
 
     -- it takes bytes, and it and its path end in the data

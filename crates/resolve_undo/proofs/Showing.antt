@@ -19,10 +19,10 @@ use Rattle.format_laws.proofs.Readings.{good-inv, bind_inv, need-good, bind-good
 use Rattle.spelling.proofs.Undo.{undos_of, undos_of-end, undos_of-step, undo-read}
 use Rattle.entries.specs.Record.{wide_object}
 use Rattle.resolve_undo.specs.declared.Record.{Record}
-use Rattle.resolve_undo.specs.declared.RecordRead.{RecordRead}
-use Rattle.resolve_undo.specs.declared.RecordRead.TheVariants as R
+use Rattle.std.specs.Prelude as Code
+use Rattle.std.specs.Prelude.{Some, None}
 use Rattle.format.specs.Places.{undo_start}
-use Rattle.resolve_undo.specs.Answers.{object_length, objects_length, object_in, item, value_of, undo_at, nothing, shown}
+use Rattle.resolve_undo.specs.Answers.{object_length, objects_length, object_in, item, value_of, undo_at, shown}
 use Rattle.resolve_undo.proofs.Laws.{stages-read, undo_is}
 use Rattle.resolve_undo.proofs.Records.{undo-inv, stages-inv, undo-begins, place_after, IsRecordAt, refusal, reading}
 
@@ -133,16 +133,16 @@ objects-long w p s u e =
 
 -- ---- what is shown
 
-pub shown-out : (w p at : ℕ) (d : List ℕ) → length d ≤ at → shown at (undo_at w p (drop at d)) ≡ nothing
+pub shown-out : (w p at : ℕ) (d : List ℕ) → length d ≤ at → shown at (undo_at w p (drop at d)) ≡ None
 unfolding undo_at value_of read_undo read_text before need bind
 shown-out w p at d h = rw (drop_of_length-le d h)
 
-module _ (w at : ℕ) (d : List ℕ) (r : RecordRead) (told : IsRecordAt w at [] d r) where
-  pub shown-bad : r ≡ R.Bad → (p : ℕ) → shown at (undo_at w p (drop at d)) ≡ nothing
+module _ (w at : ℕ) (d : List ℕ) (r : Code.Option Record) (told : IsRecordAt w at [] d r) where
+  pub shown-bad : r ≡ None → (p : ℕ) → shown at (undo_at w p (drop at d)) ≡ None
   unfolding undo_at value_of
   shown-bad e p = refusal w at [] d r told e p λ n m q. rw q
 
-  module _ (wide : 1 ≤ w) (g : Record) (e : r ≡ R.Good g) where
+  module _ (wide : 1 ≤ w) (g : Record) (e : r ≡ Some g) where
     pub objects-end : g.objects + object_length w g.first + object_length w g.second + object_length w g.third ≡ g.next
     unfolding objects_length
     objects-end =
@@ -152,17 +152,13 @@ module _ (w at : ℕ) (d : List ℕ) (r : RecordRead) (told : IsRecordAt w at []
 
     pub shown-good : (x y : ℕ) → x ≡ object_length w g.first → y ≡ object_length w g.second → (p : ℕ)
         → shown at (undo_at w p (drop at d))
-        ≡ record {
-          ok = true;
+        ≡ Some (record {
           path = at;
           path_length = g.path;
-          first = g.first;
-          second = g.second;
-          third = g.third;
-          first_object = wide_object (object_in w g.first (drop g.objects d));
-          second_object = wide_object (object_in w g.second (drop (g.objects + x) d));
-          third_object = wide_object (object_in w g.third (drop (g.objects + x + y) d));
-        }
+          first = record { mode = g.first; object = wide_object (object_in w g.first (drop g.objects d)) };
+          second = record { mode = g.second; object = wide_object (object_in w g.second (drop (g.objects + x) d)) };
+          third = record { mode = g.third; object = wide_object (object_in w g.third (drop (g.objects + x + y) d)) };
+        })
     unfolding undo_at value_of
     shown-good x y x-is y-is p =
         reading w at [] d r told g e p λ u k q is.

@@ -1,37 +1,32 @@
 -- What the functions of this crate answer, from what the reader of the format answers. A refusal is 17 always, so its number is left out. w is the width of
 -- an object name.
 use Rattle.std.specs.Prelude.{◌≡◌, List, [], ◌∷◌, true, false, cond, ℕ, zero, suc, ◌+◌, ◌-◌, ◌≤◌, ◌<◌, length, take, drop, replicate, eqb}
+use Rattle.std.specs.Prelude as Code
+use Rattle.std.specs.Prelude.{Some, None}
 use Rattle.std.proofs.Math.Option.{Option, none, some}
 use Rattle.format.specs.Records.{Undo}
 use Rattle.format.specs.Reading.{Read, bad, good, bind}
 use Rattle.format.specs.Reader.{read_mode, read_stages, read_undo}
 use Rattle.entries.specs.Record.{wide_object}
-use Rattle.resolve_undo.specs.declared.ModeFound.{ModeFound}
-use Rattle.resolve_undo.specs.declared.ModeFound.TheVariants as F
-use Rattle.resolve_undo.specs.declared.ModeRead.{ModeRead}
-use Rattle.resolve_undo.specs.declared.ModeRead.TheVariants as M
 use Rattle.resolve_undo.specs.declared.Record.{Record}
-use Rattle.resolve_undo.specs.declared.RecordRead.{RecordRead}
-use Rattle.resolve_undo.specs.declared.RecordRead.TheVariants as R
-use Rattle.resolve_undo.specs.declared.RecordsRead.{RecordsRead}
-use Rattle.resolve_undo.specs.declared.RecordsRead.TheVariants as S
+use Rattle.resolve_undo.specs.declared.Stage.{Stage}
 use Rattle.resolve_undo.specs.declared.Shown.{Shown}
 
 -- ---- modes
 
-abbrev pub mode_found : Option ℕ → ModeFound
-mode_found none = F.Bad
-mode_found (some m) = F.Good m
+abbrev pub mode_found : Option ℕ → Code.Option ℕ
+mode_found none = None
+mode_found (some m) = Some m
 
 -- a mode that was read at the place at, and the place after it
-abbrev pub mode_read : ℕ → Read ℕ → ModeRead
-mode_read at (bad n p) = M.Bad
-mode_read at (good m k) = M.Good m (at + k)
+abbrev pub mode_read : ℕ → Read ℕ → Code.Option (ℕ × ℕ)
+mode_read at (bad n p) = None
+mode_read at (good m k) = Some (m, at + k)
 
 -- the place after a mode is in the data
-abbrev pub ModeWithin : ℕ → ℕ → ModeRead → Type 0
-ModeWithin at end M.Bad = Unit
-ModeWithin at end (M.Good m next) = (at < next) × (next ≤ end)
+abbrev pub ModeWithin : ℕ → ℕ → Code.Option (ℕ × ℕ) → Type 0
+ModeWithin at end None = Unit
+ModeWithin at end (Some (m, next)) = (at < next) × (next ≤ end)
 
 -- ---- one record
 
@@ -66,17 +61,17 @@ record_of w at u k =
       next = at + k;
     }
 
-abbrev pub record_read : ℕ → ℕ → Read Undo → RecordRead
-record_read w at (bad n p) = R.Bad
-record_read w at (good u k) = R.Good (record_of w at u k)
+abbrev pub record_read : ℕ → ℕ → Read Undo → Code.Option Record
+record_read w at (bad n p) = None
+record_read w at (good u k) = Some (record_of w at u k)
 
 -- the place after a record is in the data
-abbrev pub RecordWithin : ℕ → ℕ → RecordRead → Type 0
-RecordWithin at end R.Bad = Unit
-RecordWithin at end (R.Good r) = (at < r.next) × (r.next ≤ end)
+abbrev pub RecordWithin : ℕ → ℕ → Code.Option Record → Type 0
+RecordWithin at end None = Unit
+RecordWithin at end (Some r) = (at < r.next) × (r.next ≤ end)
 
 -- r is what k reads at the place at, after a path of size bytes
-abbrev pub RestRead : ℕ → ℕ → ℕ → List ℕ → (ℕ → List ℕ → List ℕ → Read Undo) → RecordRead → Type 0
+abbrev pub RestRead : ℕ → ℕ → ℕ → List ℕ → (ℕ → List ℕ → List ℕ → Read Undo) → Code.Option Record → Type 0
 RestRead w at size d k r =
     ((p : ℕ) (path : List ℕ) → length path ≡ size → r ≡ record_read w at (k p path (drop at d))) × RecordWithin at (length d) r
 
@@ -89,9 +84,9 @@ item zero (u ∷ us) = some u
 item (suc n) (u ∷ us) = item n us
 
 -- the number of records
-abbrev pub records_read : Read (List Undo) → RecordsRead
-records_read (bad n p) = S.Bad
-records_read (good us k) = S.Good (length us)
+abbrev pub records_read : Read (List Undo) → Code.Option ℕ
+records_read (bad n p) = None
+records_read (good us k) = Some (length us)
 
 -- ---- the record at a place
 
@@ -103,33 +98,19 @@ value_of (good u k) = some u
 unfoldable pub undo_at : ℕ → ℕ → List ℕ → Option Undo
 undo_at w p s = value_of (read_undo w p [] s)
 
--- where there is no record
-abbrev pub nothing : Shown
-nothing =
-    record {
-      ok = false;
-      path = 0;
-      path_length = 0;
-      first = 0;
-      second = 0;
-      third = 0;
-      first_object = replicate 32 0;
-      second_object = replicate 32 0;
-      third_object = replicate 32 0;
-    }
+-- a stage, shown; its object name is in 32 bytes, zeros after it
+abbrev pub stage_shown : ℕ → List ℕ → Stage
+stage_shown mode object = record { mode = mode; object = wide_object object }
 
--- a record at the place at, shown; its object names are in 32 bytes, zeros after them
-abbrev pub shown : ℕ → Option Undo → Shown
-shown at none = nothing
+-- a record at the place at, shown
+abbrev pub shown : ℕ → Option Undo → Code.Option Shown
+shown at none = None
 shown at (some u) =
-    record {
-      ok = true;
+    Some
+    (record {
       path = at;
       path_length = length u.path;
-      first = u.first.mode;
-      second = u.second.mode;
-      third = u.third.mode;
-      first_object = wide_object u.first.object;
-      second_object = wide_object u.second.object;
-      third_object = wide_object u.third.object;
-    }
+      first = stage_shown u.first.mode u.first.object;
+      second = stage_shown u.second.mode u.second.object;
+      third = stage_shown u.third.mode u.third.object;
+    })

@@ -2,28 +2,13 @@
 
 #![tactic(auto)]
 
-ghost use Rattle.std.specs.Prelude.{◌≡◌, [], ◌&&◌, ℕ, ◌+◌, ◌≤◌, length, take, drop};
+ghost use Rattle.std.specs.Prelude.{◌≡◌, [], ◌&&◌, ℕ, ◌+◌, ◌≤◌, length, take, drop, IfSome};
 ghost use Rattle.format.specs.Names as Names;
 ghost use Rattle.format.specs.Reader.{mode_in, read_mode, read_stages, read_undo, read_undos};
 ghost use Rattle.format.specs.Places.{undo_start};
-ghost use Rattle.entries.specs.Record.{wide_object};
-ghost use Rattle.resolve_undo.specs.Answers.{mode_found, mode_read, ModeWithin, object_length, object_in, read_modes, record_read, RecordWithin, RestRead, records_read, undo_at, nothing, shown};
+ghost use Rattle.resolve_undo.specs.Answers.{mode_found, mode_read, ModeWithin, object_length, object_in, read_modes, record_read, RecordWithin, RestRead, records_read, undo_at, stage_shown, shown};
 
-use format::Order;
-
-// The mode of a text; Bad where it is none of the five.
-#[derive(Clone, Copy)]
-enum ModeFound {
-    Bad,
-    Good(u32),
-}
-
-// A mode and the place after it.
-#[derive(Clone, Copy)]
-pub enum ModeRead {
-    Bad,
-    Good(u32, usize),
-}
+use std::cmp::Ordering;
 
 // A record: the length of its path, the modes of its stages, the place of the first object name, the place after the record.
 #[derive(Clone, Copy)]
@@ -36,92 +21,69 @@ pub struct Record {
     pub next: usize,
 }
 
+// A stage as it is shown. Where it is missing, its mode and its object name are zeros. An object name has 32 bytes of room: a
+// shorter one is first, zeros follow.
 #[derive(Clone, Copy)]
-pub enum RecordRead {
-    Bad,
-    Good(Record),
+pub struct Stage {
+    pub mode: u32,
+    pub object: [u8; 32],
 }
 
-// The number of records.
-#[derive(Clone, Copy)]
-pub enum RecordsRead {
-    Bad,
-    Good(u32),
-}
-
-// A record as it is shown: the place and the length of its path, and its stages. Where a stage is missing, its mode and its object
-// name are zeros; where ok is false, all is. An object name has 32 bytes of room: a shorter one is first, zeros follow.
+// A record as it is shown: the place and the length of its path, and its stages.
 #[derive(Clone, Copy)]
 pub struct Shown {
-    pub ok: bool,
     pub path: usize,
     pub path_length: usize,
-    pub first: u32,
-    pub second: u32,
-    pub third: u32,
-    pub first_object: [u8; 32],
-    pub second_object: [u8; 32],
-    pub third_object: [u8; 32],
+    pub first: Stage,
+    pub second: Stage,
+    pub third: Stage,
 }
 
-fn mode_in(t: &[u8]) -> ModeFound
+// The mode of a text, if it is one of the five.
+#[tactic(auto, unfolding(format::specs::Reader::mode_in, format::specs::Layout::mode_text))]
+fn mode_in(t: &[u8]) -> Option<u32>
     ensures { result ≡ mode_found (mode_in t.now) }
 {
     if fields::same(t, b"0") {
-        return ModeFound::Good(0);
+        return Some(0);
     }
     if fields::same(t, b"100644") {
-        return ModeFound::Good(0x81a4);
+        return Some(0x81a4);
     }
     if fields::same(t, b"100755") {
-        return ModeFound::Good(0x81ed);
+        return Some(0x81ed);
     }
     if fields::same(t, b"120000") {
-        return ModeFound::Good(0xa000);
+        return Some(0xa000);
     }
     if fields::same(t, b"160000") {
-        return ModeFound::Good(0xe000);
+        return Some(0xe000);
     }
-    ModeFound::Bad
+    None
 }
 
-// The mode whose text begins at the place at.
-pub fn read_mode(d: &[u8], at: usize) -> ModeRead
+// The mode whose text begins at the place at, and the place after it.
+pub fn read_mode(d: &[u8], at: usize) -> Option<(u32, usize)>
     requires { at ≤ length d.now }
     ensures { ((p : ℕ) → result ≡ mode_read at (read_mode p (drop at d.now))) × ModeWithin at (length d.now) result }
 {
     let e = fields::find(d, at, 0);
     if e == d.len() {
-        return ModeRead::Bad;
+        return None;
     }
-    let m = mode_in(&d[at..e]);
-    match m {
-        ModeFound::Bad => ModeRead::Bad,
-        ModeFound::Good(x) => ModeRead::Good(x, e + 1),
-    }
-}
-
-fn is_below(o: Order) -> bool
-    ensures { result ≡ Names.is_below o }
-{
-    match o {
-        Order::Below => true,
-        Order::Same => false,
-        Order::Above => false,
-    }
+    let mode = mode_in(&d[at..e])?;
+    Some((mode, e + 1))
 }
 
 // Whether path is a valid name and comes after previous.
 fn path_ok(path: &[u8], previous: &[u8]) -> bool
     ensures { result ≡ (Names.ok_name path.now && Names.is_below (Names.compare previous.now path.now)) }
 {
-    if fields::name_ok(path) {
-        return is_below(fields::compare(previous, path));
-    }
-    false
+    fields::name_ok(path) && fields::compare(previous, path) == Ordering::Less
 }
 
 // The number of bytes of a stage's object name: none where the stage is missing.
+#[tactic(auto, unfolding(crate::specs::Answers::object_length))]
 fn object_length(mode: u32, w: usize) -> usize
     ensures { (result ≡ object_length w mode) × (result ≤ w) }
 {
@@ -140,61 +102,55 @@ fn read_stages(
     second: u32,
     third: u32,
     w: usize,
-) -> RecordRead
+) -> Option<Record>
     requires { (at ≤ length d.now) × (1 ≤ w) × (w ≤ 32) }
     ensures { RestRead w at size d.now (λ p path. read_stages w p path first second third) result }
 {
     let n = object_length(first, w) + object_length(second, w) + object_length(third, w);
     if n == 0 {
-        return RecordRead::Bad;
+        return None;
     }
     if d.len() - at < n {
-        return RecordRead::Bad;
+        return None;
     }
-    RecordRead::Good(Record {
+    Some(Record {
         path: size,
-        first: first,
-        second: second,
-        third: third,
+        first,
+        second,
+        third,
         objects: at,
         next: at + n,
     })
 }
 
 // The rest of a record after its path, of size bytes: the three modes from the place at on, and then the object names.
-fn read_modes(d: &[u8], at: usize, size: usize, w: usize) -> RecordRead
+fn read_modes(d: &[u8], at: usize, size: usize, w: usize) -> Option<Record>
     requires { (at ≤ length d.now) × (1 ≤ w) × (w ≤ 32) }
     ensures { RestRead w at size d.now (λ p path. read_modes w p path) result }
 {
-    let ModeRead::Good(first, second_at) = read_mode(d, at) else {
-        return RecordRead::Bad;
-    };
-    let ModeRead::Good(second, third_at) = read_mode(d, second_at) else {
-        return RecordRead::Bad;
-    };
-    let ModeRead::Good(third, objects) = read_mode(d, third_at) else {
-        return RecordRead::Bad;
-    };
+    let (first, second_at) = read_mode(d, at)?;
+    let (second, third_at) = read_mode(d, second_at)?;
+    let (third, objects) = read_mode(d, third_at)?;
     read_stages(d, objects, size, first, second, third, w)
 }
 
 // The record at the place at. The path of the record before it is the size bytes at the place prior.
-pub fn read_undo(d: &[u8], at: usize, prior: usize, size: usize, w: usize) -> RecordRead
+pub fn read_undo(d: &[u8], at: usize, prior: usize, size: usize, w: usize) -> Option<Record>
     requires { (at ≤ length d.now) × (prior + size ≤ length d.now) × (1 ≤ w) × (w ≤ 32) }
     ensures { ((p : ℕ) → result ≡ record_read w at (read_undo w p (take size (drop prior d.now)) (drop at d.now))) × RecordWithin at (length d.now) result }
 {
     let e = fields::find(d, at, 0);
     if e == d.len() {
-        return RecordRead::Bad;
+        return None;
     }
     if path_ok(&d[at..e], &d[prior..prior + size]) {
         return read_modes(d, e + 1, e - at, w);
     }
-    RecordRead::Bad
+    None
 }
 
 // The number of records in the data, where all of them are read.
-pub fn read_undos(d: &[u8], w: usize) -> RecordsRead
+pub fn read_undos(d: &[u8], w: usize) -> Option<u32>
     requires { (length d.now ≤ 16777216) × (1 ≤ w) × (w ≤ 32) }
     ensures { (p : ℕ) → result ≡ records_read (read_undos w p (length d.now) [] d.now) }
 {
@@ -202,21 +158,15 @@ pub fn read_undos(d: &[u8], w: usize) -> RecordsRead
     let mut prior: usize = 0;
     let mut size: usize = 0;
     let mut records: u32 = 0;
+    // No count: each record says where the next one begins.
     while at < d.len() {
-        let g = read_undo(d, at, prior, size, w);
-        match g {
-            RecordRead::Bad => {
-                return RecordsRead::Bad;
-            }
-            RecordRead::Good(r) => {
-                prior = at;
-                size = r.path;
-                at = r.next;
-            }
-        }
+        let r = read_undo(d, at, prior, size, w)?;
+        prior = at;
+        size = r.path;
+        at = r.next;
         records += 1;
     }
-    RecordsRead::Good(records)
+    Some(records)
 }
 
 // The place of record k, counted from 0. Where a record before it is refused, the place of that one.
@@ -227,76 +177,48 @@ pub fn find_undo(d: &[u8], k: u32, w: usize) -> usize
     let mut at: usize = 0;
     let mut prior: usize = 0;
     let mut size: usize = 0;
-    let mut left = k;
-    while 0 < left {
-        let g = read_undo(d, at, prior, size, w);
-        match g {
-            RecordRead::Bad => {
-                return at;
-            }
-            RecordRead::Good(r) => {
-                prior = at;
-                size = r.path;
-                at = r.next;
-                left -= 1;
-            }
-        }
+    for _i in 0..k {
+        let Some(r) = read_undo(d, at, prior, size, w) else {
+            return at;
+        };
+        prior = at;
+        size = r.path;
+        at = r.next;
     }
     at
 }
 
-// The object name of a stage, at the place at; zeros where the stage is missing.
-fn object(d: &[u8], at: usize, mode: u32, w: usize) -> [u8; 32]
+// A stage, as it is shown. Its object name, where it is there, is at the place at.
+fn show_stage(d: &[u8], at: usize, mode: u32, w: usize) -> Stage
     requires { (at + object_length w mode ≤ length d.now) × (w ≤ 32) }
-    ensures { result ≡ wide_object (object_in w mode (drop at d.now)) }
+    ensures { result ≡ stage_shown mode (object_in w mode (drop at d.now)) }
 {
     if mode == 0 {
-        return [0u8; 32];
+        return Stage {
+            mode,
+            object: [0u8; 32],
+        };
     }
-    entries::record::object_at(d, at, w)
-}
-
-fn no_record() -> Shown
-    ensures { result ≡ nothing }
-{
-    Shown {
-        ok: false,
-        path: 0,
-        path_length: 0,
-        first: 0,
-        second: 0,
-        third: 0,
-        first_object: [0u8; 32],
-        second_object: [0u8; 32],
-        third_object: [0u8; 32],
-    }
+    let object = entries::record::object_at(d, at, w);
+    Stage { mode, object }
 }
 
 // The record at a place, whatever the path of the record before it. Its path is a part of the data.
-pub fn show_undo(d: &[u8], place: usize, w: usize) -> Shown
+pub fn show_undo(d: &[u8], place: usize, w: usize) -> Option<Shown>
     requires { (1 ≤ w) × (w ≤ 32) }
-    ensures { ((p : ℕ) → result ≡ shown place (undo_at w p (drop place d.now))) × (result.path + result.path_length ≤ length d.now) }
+    ensures { ((p : ℕ) → result ≡ shown place (undo_at w p (drop place d.now))) × IfSome result (λ s. s.path + s.path_length ≤ length d.now) }
 {
     if d.len() < place {
-        return no_record();
+        return None;
     }
-    let g = read_undo(d, place, 0, 0, w);
-    match g {
-        RecordRead::Bad => no_record(),
-        RecordRead::Good(r) => {
-            let second = r.objects + object_length(r.first, w);
-            let third = second + object_length(r.second, w);
-            Shown {
-                ok: true,
-                path: place,
-                path_length: r.path,
-                first: r.first,
-                second: r.second,
-                third: r.third,
-                first_object: object(d, r.objects, r.first, w),
-                second_object: object(d, second, r.second, w),
-                third_object: object(d, third, r.third, w),
-            }
-        }
-    }
+    let r = read_undo(d, place, 0, 0, w)?;
+    let second = r.objects + object_length(r.first, w);
+    let third = second + object_length(r.second, w);
+    Some(Shown {
+        path: place,
+        path_length: r.path,
+        first: show_stage(d, r.objects, r.first, w),
+        second: show_stage(d, second, r.second, w),
+        third: show_stage(d, third, r.third, w),
+    })
 }

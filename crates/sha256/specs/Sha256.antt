@@ -1,8 +1,8 @@
 -- SHA-256, FIPS 180-4. A state is the eight words H_0 .. H_7, or the working variables a .. h.
-use Rattle.std.specs.Prelude.{List, [], ◌∷◌, ◌++◌, ℕ, zero, suc, ◌+◌, ◌-◌, ◌*◌, ◌/◌, ◌^◌, length, get_or}
+use Rattle.std.specs.Prelude.{List, [], ◌∷◌, ◌++◌, ℕ, zero, suc, ◌+◌, ◌-◌, ◌/◌, ◌^◌, get_or}
 use Rattle.std.specs.Int.Bits.{bit_xor}
-use Rattle.hash_words.specs.Padding.{pad, padded}
-use Rattle.hash_words.specs.Words.{add32, rotr, ch, maj, words, bytes4}
+use Rattle.hash_words.specs.Blocks as Blocks
+use Rattle.hash_words.specs.Words.{add32, rotr, ch, maj, bytes4}
 use Rattle.sha256.specs.declared.State.{State}
 
 -- 4.1.2: Σ_0(x) = ROTR^2(x) ⊕ ROTR^13(x) ⊕ ROTR^22(x)
@@ -107,18 +107,17 @@ unfoldable pub block : State → List ℕ → State
 block h m = chain h (rounds h (schedule m) 64)
 
 -- 6.2.2: the first n blocks of the bytes p, from the state h
-unfoldable pub absorb : State → List ℕ → ℕ → State
-absorb h p zero = h
-absorb h p (suc n) = block (absorb h p n) (words p (n * 64) 16)
+abbrev pub absorb : State → List ℕ → ℕ → State
+absorb = Blocks.absorb block
 
 -- 6.2.2: the message digest, H_0 ‖ H_1 ‖ .. ‖ H_7
 unfoldable pub digest : State → List ℕ
 digest h = bytes4 h.a ++ (bytes4 h.b ++ (bytes4 h.c ++ (bytes4 h.d ++ (bytes4 h.e ++ (bytes4 h.f ++ (bytes4 h.g ++ bytes4 h.h))))))
 
 -- the digest of a message of n bytes whose last piece is m, from the state h after what is before m
-unfoldable pub finish : State → List ℕ → ℕ → List ℕ
-finish h m n = digest (absorb h (padded n m) (length (padded n m) / 64))
+abbrev pub finish : State → List ℕ → ℕ → List ℕ
+finish = Blocks.finish block digest
 
 -- 6.2: the SHA-256 of a message
-unfoldable pub sha256 : List ℕ → List ℕ
-sha256 m = digest (absorb H0 (pad m) (length (pad m) / 64))
+abbrev pub sha256 : List ℕ → List ℕ
+sha256 = Blocks.digest_of block H0 digest

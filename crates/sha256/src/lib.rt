@@ -5,13 +5,16 @@
 
 pub mod buffered;
 
-ghost use Rattle.std.specs.Prelude.{◌≡◌, List, ℕ, ◌+◌, ◌/◌, ◌<◌, ◌≤◌, length, get_or};
+ghost use Rattle.std.specs.Prelude.{◌≡◌, List, ℕ, ◌+◌, ◌<◌, ◌≤◌, length, get_or};
 ghost use Rattle.hash_words.specs.Window.{Holds};
-ghost use Rattle.hash_words.specs.Words.{words};
 ghost use Rattle.sha256.specs.Sha256 as F;
 ghost use Rattle.sha256.specs.Window.{At};
 
-use hash_words::{add, ch, load, maj, put_word, rotr, tail};
+use hash_words::block_hash::{BlockHash, digest_of};
+use hash_words::{ch, load, maj, put_word, rotr};
+
+// With a state of this hash, `absorb` and `finish` are SHA-256's.
+pub use hash_words::block_hash::{absorb, finish};
 
 // The hash value H_0 .. H_7 between blocks, and the working variables a .. h within one.
 #[derive(Clone, Copy)]
@@ -27,6 +30,7 @@ pub struct State {
 }
 
 // Σ_0, of the working variable a (4.1.2).
+#[tactic(auto, unfolding(crate::specs::Sha256::big0))]
 fn big0(x: u32) -> u32
     ensures { result ≡ F.big0 x }
 {
@@ -34,6 +38,7 @@ fn big0(x: u32) -> u32
 }
 
 // Σ_1, of the working variable e (4.1.2).
+#[tactic(auto, unfolding(crate::specs::Sha256::big1))]
 fn big1(x: u32) -> u32
     ensures { result ≡ F.big1 x }
 {
@@ -41,6 +46,7 @@ fn big1(x: u32) -> u32
 }
 
 // σ_0, for the schedule (4.1.2).
+#[tactic(auto, unfolding(crate::specs::Sha256::small0))]
 fn small0(x: u32) -> u32
     ensures { result ≡ F.small0 x }
 {
@@ -48,6 +54,7 @@ fn small0(x: u32) -> u32
 }
 
 // σ_1, for the schedule (4.1.2).
+#[tactic(auto, unfolding(crate::specs::Sha256::small1))]
 fn small1(x: u32) -> u32
     ensures { result ≡ F.small1 x }
 {
@@ -62,43 +69,46 @@ fn word_of(w: &mut [u32; 16], t: usize) -> u32
     if t < 16 {
         return w[t];
     }
-    let x = add(
-        add(
-            add(small1(w[(t + 14) % 16]), w[(t + 9) % 16]),
-            small0(w[(t + 1) % 16]),
-        ),
-        w[t % 16],
-    );
+    let x = small1(w[(t + 14) % 16])
+        .wrapping_add(w[(t + 9) % 16])
+        .wrapping_add(small0(w[(t + 1) % 16]))
+        .wrapping_add(w[t % 16]);
     w[t % 16] = x;
     x
 }
 
 // T_1 of the round with the constant k and the word x (6.2.2, step 3).
+#[tactic(auto, unfolding(crate::specs::Sha256::T1))]
 fn first_sum(s: State, k: u32, x: u32) -> u32
     ensures { result ≡ F.T1 k x s }
 {
-    add(add(add(add(s.h, big1(s.e)), ch(s.e, s.f, s.g)), k), x)
+    s.h.wrapping_add(big1(s.e))
+        .wrapping_add(ch(s.e, s.f, s.g))
+        .wrapping_add(k)
+        .wrapping_add(x)
 }
 
 // T_2 (6.2.2, step 3).
+#[tactic(auto, unfolding(crate::specs::Sha256::T2))]
 fn second_sum(s: State) -> u32
     ensures { result ≡ F.T2 s }
 {
-    add(big0(s.a), maj(s.a, s.b, s.c))
+    big0(s.a).wrapping_add(maj(s.a, s.b, s.c))
 }
 
 // The round with the constant k and the word x (6.2.2, step 3).
+#[tactic(auto, unfolding(crate::specs::Sha256::round))]
 fn step(s: State, k: u32, x: u32) -> State
     ensures { result ≡ F.round k x s }
 {
     let first = first_sum(s, k, x);
     let second = second_sum(s);
     State {
-        a: add(first, second),
+        a: first.wrapping_add(second),
         b: s.a,
         c: s.b,
         d: s.c,
-        e: add(s.d, first),
+        e: s.d.wrapping_add(first),
         f: s.e,
         g: s.f,
         h: s.g,
@@ -124,6 +134,7 @@ fn two(s: State, w: &mut [u32; 16], t: usize, k0: u32, k1: u32) -> State
 }
 
 // All rounds of a block (6.2.2, step 3), with the constants of 4.2.2. Straight-line code, so that every round's number is a constant once the calls are inlined.
+#[tactic(auto, unfolding(crate::specs::Sha256::K, crate::specs::Sha256::constants))]
 fn rounds(h: State, w: &mut [u32; 16]) -> State
     ensures { (m : List ℕ) → At h m 0 w.old h → At h m 64 w.new result }
 {
@@ -162,90 +173,79 @@ fn rounds(h: State, w: &mut [u32; 16]) -> State
 }
 
 // The sums that end a block (6.2.2, step 4).
+#[tactic(auto, unfolding(crate::specs::Sha256::chain))]
 fn chain(h: State, s: State) -> State
     ensures { result ≡ F.chain h s }
 {
     State {
-        a: add(h.a, s.a),
-        b: add(h.b, s.b),
-        c: add(h.c, s.c),
-        d: add(h.d, s.d),
-        e: add(h.e, s.e),
-        f: add(h.f, s.f),
-        g: add(h.g, s.g),
-        h: add(h.h, s.h),
+        a: h.a.wrapping_add(s.a),
+        b: h.b.wrapping_add(s.b),
+        c: h.c.wrapping_add(s.c),
+        d: h.d.wrapping_add(s.d),
+        e: h.e.wrapping_add(s.e),
+        f: h.f.wrapping_add(s.f),
+        g: h.g.wrapping_add(s.g),
+        h: h.h.wrapping_add(s.h),
     }
 }
 
-// The block at a byte (6.2.2).
-fn block(h: State, p: &[u8], at: usize) -> State
-    requires { at + 64 ≤ length p.now }
-    ensures { result ≡ F.block h (words p.now at 16) }
-{
-    let mut w = load(p, at);
-    let s = rounds(h, &mut w);
-    chain(h, s)
+impl BlockHash for State {
+    type Digest = [u8; 32];
+
+    ghost start = { F.H0 };
+
+    ghost block = { F.block };
+
+    ghost digest = { F.digest };
+
+    // The state before any block (5.3.3).
+    #[tactic(auto, unfolding(crate::specs::Sha256::H0))]
+    fn start() -> State {
+        State {
+            a: 0x6a09e667,
+            b: 0xbb67ae85,
+            c: 0x3c6ef372,
+            d: 0xa54ff53a,
+            e: 0x510e527f,
+            f: 0x9b05688c,
+            g: 0x1f83d9ab,
+            h: 0x5be0cd19,
+        }
+    }
+
+    // A block (6.2.2).
+    fn block(self, bytes: &[u8]) -> State {
+        let mut w = load(bytes, 0);
+        let s = rounds(self, &mut w);
+        chain(self, s)
+    }
+
+    // The bytes of the eight words (6.2.2).
+    #[tactic(auto, unfolding(crate::specs::Sha256::digest, hash_words::specs::Words::bytes4))]
+    fn digest(self) -> [u8; 32] {
+        let mut out = [0u8; 32];
+        put_word(&mut out, 0, self.a);
+        put_word(&mut out, 4, self.b);
+        put_word(&mut out, 8, self.c);
+        put_word(&mut out, 12, self.d);
+        put_word(&mut out, 16, self.e);
+        put_word(&mut out, 20, self.f);
+        put_word(&mut out, 24, self.g);
+        put_word(&mut out, 28, self.h);
+        out
+    }
 }
 
-// The bytes of the eight words (6.2.2).
-fn digest(h: State) -> [u8; 32]
-    ensures { result ≡ F.digest h }
-{
-    let mut out = [0u8; 32];
-    put_word(&mut out, 0, h.a);
-    put_word(&mut out, 4, h.b);
-    put_word(&mut out, 8, h.c);
-    put_word(&mut out, 12, h.d);
-    put_word(&mut out, 16, h.e);
-    put_word(&mut out, 20, h.f);
-    put_word(&mut out, 24, h.g);
-    put_word(&mut out, 28, h.h);
-    out
-}
-
-// The state before any block (5.3.3).
+// The state before any block: the trait's, under the name that callers have for it.
 pub fn start() -> State
     ensures { result ≡ F.H0 }
 {
-    State {
-        a: 0x6a09e667,
-        b: 0xbb67ae85,
-        c: 0x3c6ef372,
-        d: 0xa54ff53a,
-        e: 0x510e527f,
-        f: 0x9b05688c,
-        g: 0x1f83d9ab,
-        h: 0x5be0cd19,
-    }
-}
-
-// The state after every whole block of a piece. Bytes after the last whole block are not read.
-pub fn absorb(h: State, bytes: &[u8]) -> State
-    ensures { result ≡ F.absorb h bytes.now (length bytes.now / 64) }
-{
-    let full = bytes.len() / 64;
-    let mut s = h;
-    let mut i: usize = 0;
-    while i < full {
-        s = block(s, bytes, i * 64);
-        i += 1;
-    }
-    s
-}
-
-// The digest of a message of length bytes whose last piece is rest, from the state after the whole blocks before it.
-pub fn finish(h: State, rest: &[u8], length: u64) -> [u8; 32]
-    ensures { result ≡ F.finish h rest.now length }
-{
-    let g = absorb(h, rest);
-    let t = tail(rest, length);
-    let end: usize = if rest.len() % 64 < 56 { 64 } else { 128 };
-    digest(absorb(g, &t[..end]))
+    State::start()
 }
 
 // The SHA-256 of a message.
 pub fn sha256(bytes: &[u8]) -> [u8; 32]
     ensures { result ≡ F.sha256 bytes.now }
 {
-    finish(start(), bytes, bytes.len() as u64)
+    digest_of::<State>(bytes)
 }

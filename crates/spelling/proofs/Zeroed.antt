@@ -11,7 +11,7 @@ use lib.Dec.{eqb, ltb}
 use borrow.Author.Tests.{eqb-true, eqb-false}
 use Rattle.format.specs.Bytes.{Bytes, be16, be32, be32s}
 use Rattle.format.specs.Names.{length_field, compare}
-use Rattle.format.specs.declared.Order.TheVariants.{Above}
+use Rattle.std.proofs.Common.{Greater}
 use Rattle.format.specs.Records.{Entry, Key, key_of}
 use Rattle.format.specs.Layout.{ok_mode, fixed_length, bit}
 use Rattle.format.specs.Reading.{good}
@@ -153,7 +153,7 @@ entry-zeroed w v k p c s e d m bytes a b =
     let named : read_name v f p k.name (flags % 4096) (zeroed_from (c - f) u) ≡ good b.name (length u) =
     rw (extended, zeroed-drop f c s, taken) at b.named
     in
-    let rising : compare k.name a.name ≡ Above → ⊥ = λ above. false-true (rw above at a.order) in
+    let rising : compare k.name a.name ≡ Greater → ⊥ = λ above. false-true (rw above at a.order) in
     let fields : 0 < c - f → flags % 4096 ≡ x % 4096 =
     λ h. ap (λ (n : ℕ). n % 4096) (be16-same (40 + w) c s (omega (arith, fixed-size w a.extended)))
     in

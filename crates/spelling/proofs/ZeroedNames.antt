@@ -13,7 +13,7 @@ use lib.Dec.{eqb, leb, ltb}
 use borrow.Author.Tests.{ltb-true, ltb-false, leb-true}
 use Rattle.format.specs.Bytes.{Bytes, two, put_n, before, lacks}
 use Rattle.format.specs.Names.{length_field, compare}
-use Rattle.format.specs.declared.Order.TheVariants.{Above}
+use Rattle.std.proofs.Common.{Greater}
 use Rattle.format.specs.Layout.{entry_length}
 use Rattle.format.specs.Reading.{good}
 use Rattle.format.specs.Reader.{plain_length, read_plain, read_n, joined, read_suffix, read_packed, read_name}
@@ -233,7 +233,7 @@ joined-none : (previous : List ℕ) (n : ℕ) (s : List ℕ) → before 0 s ≡ 
 unfolding joined
 joined-none previous n s h = rw (h, append-nil (take (length previous - n) previous))
 
-compare-beginning : (s : List ℕ) (n : ℕ) → n < length s → compare s (take n s) ≡ Above
+compare-beginning : (s : List ℕ) (n : ℕ) → n < length s → compare s (take n s) ≡ Greater
 unfolding compare
 compare-beginning [] n h = absurd (omega arith)
 compare-beginning (x ∷ s) zero h = refl
@@ -241,7 +241,7 @@ compare-beginning (x ∷ s) (suc n) h = compare-next x x s (take n s) refl ∙ c
 
 packed-zeroed :
     (p : ℕ) (previous : List ℕ) (field other c : ℕ) (s name less : List ℕ) (m : ℕ) →
-    (compare previous name ≡ Above → ⊥) →
+    (compare previous name ≡ Greater → ⊥) →
     read_packed p previous field s ≡ good name m →
     read_packed p previous other (zeroed_from c s) ≡ good less (length s) →
     (m ≡ length s) × (less ≡ name) × (c ≡ 0 → name ≡ previous)
@@ -282,7 +282,7 @@ packed-zeroed p previous field other c s name less m rising e q =
 -- the same, and from its first byte on zeros only if it is the one before; or cut
 pub name-zeroed :
     (v f p : ℕ) (previous : List ℕ) (field other c : ℕ) (s name less : List ℕ) (m : ℕ) →
-    (compare previous name ≡ Above → ⊥) →
+    (compare previous name ≡ Greater → ⊥) →
     (0 < c → other ≡ field) →
     read_name v f p previous field s ≡ good name m →
     read_name v f p previous other (zeroed_from c s) ≡ good less (length s) →

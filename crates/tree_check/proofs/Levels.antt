@@ -1,16 +1,16 @@
 -- The directories that the walk is in, one for each level: what was passed in each, and the sums up to there.
+use Rattle.std.proofs.Common.{None, is_some}
 use mathlib.Core.Path.{◌≡◌, sym, ap, subst, ◌∙◌}
 use mathlib.Core.List.{List, [], ◌∷◌}
-use mathlib.Core.Bool.{Bool, true, false, cond, ◌&&◌, and_assoc}
+use mathlib.Core.Bool.{Bool, true, ◌&&◌, and_assoc}
 use mathlib.Core.Option.{some}
 use Prim.Native.Nat.{ℕ, suc, ◌+◌, ◌-◌, ◌≤◌}
 use native.Mathlib.Omega.{arith}
 use lib.ListN.{length, drop, get_or, set}
 use lib.Seq.{get_or-set_other}
-use lib.Dec.{eqb, leb}
 use Rattle.format.specs.Bytes.{eq_list, lacks}
 use Rattle.format.specs.Records.{Forest, Tree}
-use Rattle.format.specs.Layout.{bit, under, is_valid}
+use Rattle.format.specs.Layout.{under, is_valid}
 use Rattle.format_laws.proofs.Tests.{by-test}
 use Rattle.format_laws.proofs.Readings.{none-some}
 use Rattle.tree_nodes.specs.Flat.{Reads}
@@ -19,6 +19,7 @@ use Rattle.tree_counts.specs.Counts.{says, weight, child, counts_hold, matched, 
 use Rattle.tree_counts.specs.Runs.{NamesPassed}
 use Rattle.directories.specs.Names.{sorted_from, begins, enter}
 use Rattle.tree_check.specs.declared.walk.Directory.{Directory}
+use Rattle.tree_check.specs.Nodes.{agrees_with, weight_of}
 
 -- ---- the levels of a tree
 
@@ -55,15 +56,15 @@ pub record Entrance (f : Forest) (q : List ℕ) (whole done : List (List ℕ)) (
   pub plain : lacks 47 c ≡ true
   pub part : under c (drop (length q) x) ≡ true
   pub found : child c f ≡ some t
-  pub says_valid : dir.valid ≡ is_valid t.root.count
-  pub agrees : (m : ℕ) → cond dir.valid (eqb dir.count m) true ≡ says t.root.count m
-  pub weighs : cond dir.valid (bit (leb 1 dir.count)) 0 ≡ weight t.root.count
+  pub says_valid : is_some dir.count ≡ is_valid t.root.count
+  pub agrees : (m : ℕ) → agrees_with dir.count m ≡ says t.root.count m
+  pub weighs : weight_of dir.count ≡ weight t.root.count
 
 -- ---- one level after another
 
 -- no directory
 abbrev pub nowhere : Directory
-nowhere = record { at = 0; k = 0; valid = false; count = 0; q = 0; ahead = 0 }
+nowhere = record { at = 0; k = 0; count = None; q = 0; ahead = 0 }
 
 -- the root's directory with the siblings f₀ has all names
 pub data Walking (w : ℕ) (d : List ℕ) (above : List Directory) (root : Directory) (f₀ : Forest) (all : List (List ℕ)) :
@@ -71,7 +72,7 @@ pub data Walking (w : ℕ) (d : List ℕ) (above : List Directory) (root : Direc
   at_root :
       {done : List (List ℕ)} {ok : Bool} {found : ℕ} →
       Here w d 0 root f₀ [] all →
-      ok ≡ counts_hold root.valid done f₀ →
+      ok ≡ counts_hold (is_some root.count) done f₀ →
       found ≡ matched done f₀ →
       Walking w d above root f₀ all 0 root f₀ [] all done ok found
   below :
@@ -80,7 +81,7 @@ pub data Walking (w : ℕ) (d : List ℕ) (above : List Directory) (root : Direc
       get_or above level nowhere ≡ up →
       Entrance f q whole done c x xs t dir →
       Here w d (suc level) dir t.subtrees (enter q c) (x ∷ xs) →
-      now-ok ≡ (ok && counts_hold dir.valid now_done t.subtrees) →
+      now-ok ≡ (ok && counts_hold (is_some dir.count) now_done t.subtrees) →
       now-found ≡ found + matched now_done t.subtrees →
       Walking w d above root f₀ all (suc level) dir t.subtrees (enter q c) (x ∷ xs) now_done now-ok now-found
 
@@ -93,7 +94,7 @@ module _ (w : ℕ) (d : List ℕ) (root : Directory) (f₀ : Forest) (all : List
   -- one part more was passed
   pub walking-moved : (above : List Directory) (level : ℕ) (dir : Directory) (f : Forest) (q : List ℕ) (whole done : List (List ℕ)) (ok : Bool) (found : ℕ)
       → Walking w d above root f₀ all level dir f q whole done ok found
-      → (now_done : List (List ℕ)) (holds now-ok : Bool) (n now-found : ℕ) → counts_hold dir.valid now_done f ≡ (counts_hold dir.valid done f && holds)
+      → (now_done : List (List ℕ)) (holds now-ok : Bool) (n now-found : ℕ) → counts_hold (is_some dir.count) now_done f ≡ (counts_hold (is_some dir.count) done f && holds)
       → matched now_done f ≡ matched done f + n → now-ok ≡ (ok && holds) → now-found ≡ found + n
       → Walking w d above root f₀ all level dir f q whole now_done now-ok now-found
   walking-moved above _ _ _ _ _ done ok found (at_root here o s) now_done holds now-ok n now-found j m i l =
@@ -102,7 +103,7 @@ module _ (w : ℕ) (d : List ℕ) (root : Directory) (f₀ : Forest) (all : List
   walking-moved above _ dir _ _ _ done ok found (below {t = t} {ok = up_ok} {found = up-found} steps g e here o s) now_done holds now-ok n now-found j m i l =
       let sum : now-found ≡ up-found + matched now_done t.subtrees = omega (arith, s, m, l) in
       below steps g e here
-      (i ∙ ap (λ (y : Bool). y && holds) o ∙ and_assoc up_ok (counts_hold dir.valid done t.subtrees) holds ∙ ap (λ (y : Bool). up_ok && y) (sym j))
+      (i ∙ ap (λ (y : Bool). y && holds) o ∙ and_assoc up_ok (counts_hold (is_some dir.count) done t.subtrees) holds ∙ ap (λ (y : Bool). up_ok && y) (sym j))
       sum
 
   -- a directory is held on a level further down

@@ -1,4 +1,6 @@
 -- Laws of a pass over the nodes of a tree. The trees that are still to pass are one list of siblings, of which the first ones have to be valid.
+use Rattle.std.proofs.Common.{Option, Some, None, is_some}
+use Rattle.tree_check.specs.Nodes.{weight_of}
 use mathlib.Core.Path.{◌≡◌, refl, sym, ap, ◌∙◌}
 use mathlib.Core.List.{List}
 use mathlib.Core.Bool.{Bool, true, false, cond, not, ◌&&◌, and_assoc, and_comm, and-true}
@@ -6,24 +8,21 @@ use Prim.Native.Nat.{ℕ, zero, suc, ◌+◌, ◌-◌, ◌≤◌, ◌<◌}
 use native.Mathlib.Nat.{zero-add, suc-add, add-zero}
 use native.Mathlib.Omega.{arith}
 use lib.ListN.{drop}
-use lib.Dec.{leb, ltb}
+use lib.Dec.{ltb}
 use borrow.Author.Tests.{ltb-true, ltb-false, not-true}
 use Rattle.format.specs.Records.{Node, Forest, nil, tree, width}
-use Rattle.format.specs.Layout.{bit, is_valid, all_valid}
+use Rattle.format.specs.Layout.{is_valid, all_valid}
 use Rattle.format.specs.Reader.{read_node}
 use Rattle.format_laws.proofs.Tests.{by-test, and-inv}
 use Rattle.format_laws.proofs.Lists.{drop-to}
 use Rattle.tree_counts.specs.Counts.{weight, valid_below, positive}
 use Rattle.tree_counts.proofs.Counts.{valid-step}
 use Rattle.tree_nodes.specs.declared.node.Node as Code
-use Rattle.tree_nodes.specs.declared.node.NodeRead.TheVariants as R
 use Rattle.tree_nodes.specs.Answers.{node_at}
 use Rattle.tree_nodes.specs.Flat.{Reads}
 use Rattle.tree_nodes.proofs.Flat.{reads-width}
-use Rattle.tree_check.specs.declared.survey.Survey.{Survey}
-use Rattle.tree_check.specs.declared.survey.Survey.TheVariants as S
 use Rattle.tree_check.specs.Survey.{survey_of}
-use Rattle.tree_check.proofs.Nodes.{node-weighs}
+use Rattle.tree_check.proofs.Nodes.{node-valid, node-weighs}
 use Rattle.tree_nodes.proofs.Trees.{First, reads_first, reads-empty}
 use Rattle.tree_nodes.proofs.Trees.{chain, reads-chain, reads_at, NodeAt, node_at_lem, no-bad}
 
@@ -67,8 +66,8 @@ firsts-all (tree n kids after) = rw (firsts-all after) (sym (valid-step n kids a
 abbrev pub passes : ℕ → Forest → Bool
 passes k f = firsts k f && valid_below f
 
-unfoldable pub survey_from : ℕ → ℕ → Forest → Survey
-survey_from k nodes f = cond (passes k f) (S.Consistent (nodes + positive f)) S.Inconsistent
+unfoldable pub survey_from : ℕ → ℕ → Forest → Option ℕ
+survey_from k nodes f = cond (passes k f) (Some (nodes + positive f)) None
 
 module _ (n : Node) (kids after : Forest) where
   chain-passes : (k : ℕ) → passes (width kids + k) (chain kids after) ≡ ((all_valid kids && firsts k after) && (valid_below kids && valid_below after))
@@ -100,7 +99,7 @@ module _ (n : Node) (kids after : Forest) where
   nodes-more nodes = omega (arith, positive-chain kids after)
 
   -- a node that is invalid where it has to be valid, and any other
-  pub survey-wrong : (k nodes : ℕ) → (ltb 0 k && not (is_valid n.count)) ≡ true → survey_from k nodes (tree n kids after) ≡ S.Inconsistent
+  pub survey-wrong : (k nodes : ℕ) → (ltb 0 k && not (is_valid n.count)) ≡ true → survey_from k nodes (tree n kids after) ≡ None
   unfolding survey_from
   survey-wrong k nodes e =
       let i = and-inv (ltb 0 k) (not (is_valid n.count)) e in
@@ -129,7 +128,7 @@ unfolding survey_of survey_from firsts
 survey-begins true f strict k e wide = let z : strict ≡ width f = omega arith in rw (z, firsts-all f, zero-add (positive f))
 survey-begins false f strict k e wide = rw (e, zero-add (positive f))
 
-survey-nil : (strict nodes : ℕ) → survey_from strict nodes nil ≡ S.Consistent nodes
+survey-nil : (strict nodes : ℕ) → survey_from strict nodes nil ≡ Some nodes
 unfolding survey_from firsts valid_below positive
 survey-nil zero nodes = rw (add-zero nodes)
 survey-nil (suc strict) nodes = rw (add-zero nodes)
@@ -145,7 +144,7 @@ module _ (w : ℕ) (d : List ℕ) (v : Bool) (f : Forest) where
   survey-start at k m strict e r = record { left = f; taken = m; reads = r; same = survey-begins v f strict k e (reads-width _ _ _ _ r) }
 
   module _ (place pending strict nodes : ℕ) (x : Surveying w d v f place pending strict nodes) where
-    pub survey-end : pending ≤ 0 → S.Consistent nodes ≡ survey_of v f
+    pub survey-end : pending ≤ 0 → Some nodes ≡ survey_of v f
     survey-end l = sym (x.same ∙ ap (survey_from strict nodes) (reads-empty _ _ _ _ x.reads l) ∙ survey-nil strict nodes)
 
     module _ (some : 0 < pending) where
@@ -155,21 +154,21 @@ module _ (w : ℕ) (d : List ℕ) (v : Bool) (f : Forest) where
       here : survey_of v f ≡ survey_from strict nodes (tree first_of.head.node first_of.kids first_of.after)
       here = x.same ∙ ap (survey_from strict nodes) first_of.is
 
-      pub survey-stop : {X : Type 0} → R.Bad ≡ node_at w place (read_node w 0 (drop place d)) → X
+      pub survey-stop : {X : Type 0} → None ≡ node_at w place (read_node w 0 (drop place d)) → X
       survey-stop e = absurd (no-bad w place first_of.own first_of.head _ first_of.node e)
 
-      module _ (node : Code.Node) (is : R.Good node ≡ node_at w place (read_node w 0 (drop place d))) where
+      module _ (node : Code.Node) (is : Some node ≡ node_at w place (read_node w 0 (drop place d))) where
         node-here : NodeAt node place first_of.own first_of.head
         node-here = node_at_lem w node place first_of.own first_of.head _ first_of.node is
 
-        same_test : (ltb 0 strict && not node.valid) ≡ (ltb 0 strict && not (is_valid first_of.head.node.count))
-        same_test = ap (λ (b : Bool). ltb 0 strict && not b) node-here.says_valid
+        same_test : (ltb 0 strict && not (is_some node.count)) ≡ (ltb 0 strict && not (is_valid first_of.head.node.count))
+        same_test = ap (λ (b : Bool). ltb 0 strict && not b) (node-valid _ _ _ _ node-here)
 
-        pub survey-inconsistent : (ltb 0 strict && not node.valid) ≡ true → S.Inconsistent ≡ survey_of v f
+        pub survey-inconsistent : (ltb 0 strict && not (is_some node.count)) ≡ true → None ≡ survey_of v f
         survey-inconsistent e = sym (here ∙ survey-wrong first_of.head.node first_of.kids first_of.after strict nodes (sym same_test ∙ e))
 
-        pub survey-on : (ltb 0 strict && not node.valid) ≡ false → (strict' added : ℕ) → strict' ≡ cond node.valid (strict - 1 + node.subtrees) 0
-            → added ≡ cond node.valid (bit (leb 1 node.count)) 0 → Surveying w d v f node.next (pending - 1 + node.subtrees) strict' (nodes + added)
+        pub survey-on : (ltb 0 strict && not (is_some node.count)) ≡ false → (strict' added : ℕ) → strict' ≡ cond (is_some node.count) (strict - 1 + node.subtrees) 0
+            → added ≡ weight_of node.count → Surveying w d v f node.next (pending - 1 + node.subtrees) strict' (nodes + added)
         survey-on e strict' added demands weighs =
             let k : first_of.head.subtrees + (pending - 1) ≡ pending - 1 + node.subtrees = omega (arith, node-here.subtrees) in
             record {
@@ -180,6 +179,6 @@ module _ (w : ℕ) (d : List ℕ) (v : Bool) (f : Forest) where
                   here
                   ∙ survey-more first_of.head.node first_of.kids first_of.after strict nodes (sym same_test ∙ e)
                   ∙ survey-same _ _ _ _ _
-                  (sym (demands ∙ demand-same _ _ (strict - 1) _ _ node-here.says_valid (node-here.subtrees ∙ sym (reads-width _ _ _ _ first_of.reads_kids))))
+                  (sym (demands ∙ demand-same _ _ (strict - 1) _ _ (node-valid _ _ _ _ node-here) (node-here.subtrees ∙ sym (reads-width _ _ _ _ first_of.reads_kids))))
                   (ap (λ (i : ℕ). nodes + i) (sym (weighs ∙ node-weighs _ _ _ _ node-here)));
             }

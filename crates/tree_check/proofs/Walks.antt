@@ -1,7 +1,8 @@
 -- The walk over all entries: what a turn of its loop does to the directories that it is in.
+use Rattle.std.proofs.Common.{Some, is_some}
 use mathlib.Core.Path.{◌≡◌, refl, sym, ap, ap₂, subst, ◌∙◌}
 use mathlib.Core.List.{List, [], ◌∷◌}
-use mathlib.Core.Bool.{Bool, true, false, cond, ◌&&◌, ◌||◌, and-true, and_comm}
+use mathlib.Core.Bool.{Bool, true, false, ◌&&◌, ◌||◌, and-true, and_comm}
 use Prim.Native.Nat.{ℕ, suc, ◌+◌, ◌-◌, ◌≤◌, ◌<◌}
 use native.Mathlib.Omega.{arith}
 use lib.ListN.{length, drop, get_or, set, length-map}
@@ -9,7 +10,7 @@ use lib.Seq.{get_or-set_same}
 use lib.Dec.{eqb, leb, ltb}
 use borrow.Author.Tests.{eqb-true, eq-eqb}
 use Rattle.format.specs.Records as F
-use Rattle.format.specs.Layout.{bit, is_valid, names}
+use Rattle.format.specs.Layout.{is_valid, names}
 use Rattle.format.specs.Reading.{good}
 use Rattle.format.specs.Reader.{read_forest}
 use Rattle.format_laws.proofs.Tests.{by-test, false-true, or-inv}
@@ -28,11 +29,11 @@ use Rattle.entries_directory.proofs.Ahead.{stays-is, stays-in}
 use Rattle.directories.proofs.Prefixes.{first-least}
 use Rattle.directories.proofs.Runs.{within-top}
 use Rattle.tree_search.specs.Siblings.{FoundAt}
-use Rattle.tree_check.specs.declared.look.Look.TheVariants as L
 use Rattle.tree_check.specs.declared.walk.Directory.{Directory}
 use Rattle.tree_check.specs.Components.{component, Component}
+use Rattle.tree_check.specs.Nodes.{agrees_with, weight_of}
 use Rattle.tree_check.specs.Steps.{entered, PartPassed, PartEntered}
-use Rattle.tree_check.proofs.Nodes.{node-says, node-weighs}
+use Rattle.tree_check.proofs.Nodes.{node-valid, node-says, node-weighs}
 use Rattle.tree_check.proofs.Parts.{looked, part-lacks, part-under, part_length}
 use Rattle.tree_check.proofs.Steps.{part_in_lem, moved-found}
 use Rattle.tree_check.proofs.Levels.{child-levels, Here, nowhere, Walking, at_root, below, here_of, walking-moved, walking-held}
@@ -133,15 +134,15 @@ and_first false false c = refl
 module _ (w : ℕ) (d : List ℕ) (above : List Directory) (b : List ℕ) (v : ℕ) (root : Directory) (f₀ : F.Forest) (all : List (List ℕ)) (work : List ℕ) (s : Front) where
   left_at : (level : ℕ) (dir : Directory) (f : F.Forest) (q : List ℕ) (whole done : List (List ℕ)) (ok : Bool) (found : ℕ)
       → Walking w d above root f₀ all level dir f q whole done ok found → Ended w v b work s dir q whole done → 0 < level
-      → (agrees : Bool) (n : ℕ) → agrees ≡ cond dir.valid (eqb dir.count (dir.ahead - s.ahead)) true → n ≡ cond dir.valid (bit (leb 1 dir.count)) 0
+      → (agrees : Bool) (n : ℕ) → agrees ≡ agrees_with dir.count (dir.ahead - s.ahead) → n ≡ weight_of dir.count
       → s.ahead < (get_or above (level - 1) nowhere).ahead
       → Walk w d above b v root f₀ all work (level - 1) (get_or above (level - 1) nowhere) s (ok && agrees) (found + n)
   left_at _ _ _ _ _ done ok found (at_root h o sum) ended some agrees n agrees-is n-is = absurd (omega arith)
   left_at _ dir _ _ _ done ok found (below {level = j} {up = up} {f = f} {q = q} {c = c} {x = x} {xs = xs} {whole = whole} {done = up_done} {t = t} {ok = up_ok} {found = up-found} steps g e h o sum) ended some agrees n agrees-is n-is =
       let up-here = here_of w d root f₀ all above j up f q whole up_done up_ok up-found steps in
-      let m = moved-found w up.valid f q x xs whole up_done v b work s e.in_it e.passed up-here.sound c e.plain e.part ended.left t e.found [] up-here.sorted in
+      let m = moved-found w (is_some up.count) f q x xs whole up_done v b work s e.in_it e.passed up-here.sound c e.plain e.part ended.left t e.found [] up-here.sorted in
       let run = within (enter q c) (x ∷ xs) in
-      let tested : counts_hold dir.valid done t.subtrees ≡ counts_hold (is_valid t.root.count) run t.subtrees =
+      let tested : counts_hold (is_some dir.count) done t.subtrees ≡ counts_hold (is_valid t.root.count) run t.subtrees =
       ap (λ (y : Bool). counts_hold y done t.subtrees) e.says_valid ∙ ap (λ (l : List (List ℕ)). counts_hold (is_valid t.root.count) l t.subtrees) ended.all in
       let counted : agrees ≡ says t.root.count (length run) = agrees-is ∙ e.agrees (dir.ahead - s.ahead) ∙ ap (λ (i : ℕ). says t.root.count i) ended.count in
       let now-ok : (ok && agrees) ≡ (up_ok && (says t.root.count (length run) && counts_hold (is_valid t.root.count) run t.subtrees)) =
@@ -163,17 +164,17 @@ module _ (w : ℕ) (d : List ℕ) (above : List Directory) (b : List ℕ) (v : �
 
   end-at : (level : ℕ) (dir : Directory) (f : F.Forest) (q : List ℕ) (whole done : List (List ℕ)) (ok : Bool) (found : ℕ)
       → Walking w d above root f₀ all level dir f q whole done ok found → Ended w v b work s dir q whole done → level ≡ 0
-      → (agrees r : Bool) (expected : ℕ) → agrees ≡ cond dir.valid (eqb dir.count (dir.ahead - s.ahead)) true → r ≡ ((ok && agrees) && eqb found expected)
-      → r ≡ (cond root.valid (eqb root.count (length all)) true && (counts_hold root.valid all f₀ && eqb (matched all f₀) expected))
+      → (agrees r : Bool) (expected : ℕ) → agrees ≡ agrees_with dir.count (dir.ahead - s.ahead) → r ≡ ((ok && agrees) && eqb found expected)
+      → r ≡ (agrees_with root.count (length all) && (counts_hold (is_some root.count) all f₀ && eqb (matched all f₀) expected))
   end-at _ _ _ _ _ done ok found (at_root h o sum) ended z agrees r expected agrees-is r-is =
       let top = ended.all ∙ within-top all in
-      let tested : ok ≡ counts_hold root.valid all f₀ = o ∙ ap (λ (l : List (List ℕ)). counts_hold root.valid l f₀) top in
-      let counted : agrees ≡ cond root.valid (eqb root.count (length all)) true = agrees-is ∙ rw (ended.count, within-top all) refl in
+      let tested : ok ≡ counts_hold (is_some root.count) all f₀ = o ∙ ap (λ (l : List (List ℕ)). counts_hold (is_some root.count) l f₀) top in
+      let counted : agrees ≡ agrees_with root.count (length all) = agrees-is ∙ rw (ended.count, within-top all) refl in
       let sums : eqb found expected ≡ eqb (matched all f₀) expected = ap (λ (i : ℕ). eqb i expected) (sum ∙ ap (λ (l : List (List ℕ)). matched l f₀) top) in
       r-is
       ∙ ap₂ (λ (y z : Bool). (y && z) && eqb found expected) tested counted
-      ∙ and_first (counts_hold root.valid all f₀) (cond root.valid (eqb root.count (length all)) true) (eqb found expected)
-      ∙ ap (λ (y : Bool). cond root.valid (eqb root.count (length all)) true && (counts_hold root.valid all f₀ && y)) sums
+      ∙ and_first (counts_hold (is_some root.count) all f₀) (agrees_with root.count (length all)) (eqb found expected)
+      ∙ ap (λ (y : Bool). agrees_with root.count (length all) && (counts_hold (is_some root.count) all f₀ && y)) sums
   end-at _ dir _ _ _ done ok found (below steps g e h o sum) ended z agrees r expected agrees-is r-is = absurd (omega arith)
 
 sorted_all : (w : ℕ) (v : ℕ) (b work : List ℕ) (s : Front) (x : List ℕ) (xs : List (List ℕ)) → Ahead w v b work s x xs → sorted_from [] (x ∷ xs) ≡ true
@@ -204,7 +205,7 @@ walk_start w d above b v work root s z same f n sound reads x xs ahead =
             ahead = same ∙ ahead-length w v b work s x xs ahead;
             sorted = sorted_all w v b work s x xs ahead;
           })
-          (sym (counts-hold-start root.valid f)) (sym (matched-start f));
+          (sym (counts-hold-start (is_some root.count) f)) (sym (matched-start f));
       position = fresh (sym same) ahead (begins-all x);
     }
 
@@ -234,7 +235,7 @@ module _ (w : ℕ) (d : List ℕ) (above : List Directory) (b : List ℕ) (v : �
     module _ (under : Directory) (part : PartEntered w d dir b v work s work' under) where
       here_found : Component (length steps.name) standing.next under.q × FoundAt w d steps.siblings (component (drop (length steps.name) standing.next)) part.place
       here_found =
-          looked w d dir b v work s (L.Found under.q part.place) part.look steps.siblings here.taken here.sound here.reads
+          looked w d dir b v work s (Some (record { end = under.q; node = Some part.place })) part.look steps.siblings here.taken here.sound here.reads
           steps.name standing.next standing.rest standing.ahead here.long
 
       node-here : NodeAt part.node part.place here_found.1.tree.own (record { node = here_found.1.found.root; subtrees = here_found.1.tree.subtrees })
@@ -268,7 +269,7 @@ module _ (w : ℕ) (d : List ℕ) (above : List Directory) (b : List ℕ) (v : �
                   plain = part-lacks steps.name standing.next under.q here_found.0;
                   part = inner;
                   found = here_found.1.is;
-                  says_valid = node-here.says_valid;
+                  says_valid = node-valid _ _ _ _ node-here;
                   agrees = node-says _ _ _ _ node-here;
                   weighs = node-weighs _ _ _ _ node-here;
                 })
@@ -281,7 +282,7 @@ module _ (w : ℕ) (d : List ℕ) (above : List Directory) (b : List ℕ) (v : �
                   ahead = ahead-length w v b work s standing.next standing.rest standing.ahead;
                   sorted = sorted_all w v b work s standing.next standing.rest standing.ahead;
                 })
-                (sym (ap (λ (y : Bool). ok && y) (counts-hold-start part.node.valid t.subtrees) ∙ and-true ok))
+                (sym (ap (λ (y : Bool). ok && y) (counts-hold-start (is_some part.node.count) t.subtrees) ∙ and-true ok))
                 sum;
             position = fresh refl standing.ahead (part_in_lem steps.name c standing.next standing.in_it inner);
           }
@@ -297,13 +298,13 @@ module _ (w : ℕ) (d : List ℕ) (above : List Directory) (b : List ℕ) (v : �
     ended : Ended w v b work s dir steps.name steps.whole steps.done
     ended = position-out w v b work s dir steps.siblings steps.name here.long steps.whole steps.done steps.position off here.ahead
 
-    pub walk-left : 0 < level → (agrees : Bool) (n : ℕ) → agrees ≡ cond dir.valid (eqb dir.count (dir.ahead - s.ahead)) true → n ≡ cond dir.valid (bit (leb 1 dir.count)) 0
+    pub walk-left : 0 < level → (agrees : Bool) (n : ℕ) → agrees ≡ agrees_with dir.count (dir.ahead - s.ahead) → n ≡ weight_of dir.count
         → s.ahead < (get_or above (level - 1) nowhere).ahead
         → Walk w d above b v root f₀ all work (level - 1) (get_or above (level - 1) nowhere) s (ok && agrees) (found + n)
     walk-left some agrees n agrees-is n-is less =
         left_at w d above b v root f₀ all work s level dir steps.siblings steps.name steps.whole steps.done ok found steps.walking ended some agrees n agrees-is n-is less
 
-    pub walk_end : level ≡ 0 → (agrees r : Bool) (expected : ℕ) → agrees ≡ cond dir.valid (eqb dir.count (dir.ahead - s.ahead)) true → r ≡ ((ok && agrees) && eqb found expected)
-        → r ≡ (cond root.valid (eqb root.count (length all)) true && (counts_hold root.valid all f₀ && eqb (matched all f₀) expected))
+    pub walk_end : level ≡ 0 → (agrees r : Bool) (expected : ℕ) → agrees ≡ agrees_with dir.count (dir.ahead - s.ahead) → r ≡ ((ok && agrees) && eqb found expected)
+        → r ≡ (agrees_with root.count (length all) && (counts_hold (is_some root.count) all f₀ && eqb (matched all f₀) expected))
     walk_end z agrees r expected agrees-is r-is =
         end-at w d above b v root f₀ all work s level dir steps.siblings steps.name steps.whole steps.done ok found steps.walking ended z agrees r expected agrees-is r-is

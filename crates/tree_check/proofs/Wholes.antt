@@ -1,4 +1,6 @@
 -- Laws of the whole test: the walk from the first entry on, the root of the tree, and the parts of ok_tree_counts.
+use Rattle.std.proofs.Common.{Option, Some, None, is_some}
+use Rattle.tree_check.specs.Nodes.{agrees_with}
 use mathlib.Core.Path.{◌≡◌, refl, sym, ap, ◌∙◌}
 use mathlib.Core.List.{List, []}
 use mathlib.Core.Bool.{Bool, true, false, cond, ◌&&◌, and_assoc, and-false}
@@ -16,7 +18,6 @@ use Rattle.format_laws.proofs.Readings.{good-inv, need-inv, bind_inv}
 use Rattle.format_laws.proofs.Numbers.{bytes_drop}
 use Rattle.spelling.proofs.Entries.{entries-read}
 use Rattle.tree_nodes.specs.declared.node.Node.{Node}
-use Rattle.tree_nodes.specs.declared.node.NodeRead.TheVariants as R
 use Rattle.tree_nodes.specs.Answers.{node_at}
 use Rattle.tree_nodes.specs.Flat.{Reads}
 use Rattle.entries_run.specs.Steps.{name_at, first_cursor, run_from, EntriesRead, Room}
@@ -27,12 +28,10 @@ use Rattle.tree_counts.proofs.Counts.{counts-tested}
 use Rattle.tree_counts.proofs.Walk.{counts-hold-start, matched-start}
 use Rattle.directories.proofs.Prefixes.{entries_sorted}
 use Rattle.entries_directory.specs.declared.Front.{Front}
-use Rattle.tree_check.specs.declared.survey.Survey.{Survey}
-use Rattle.tree_check.specs.declared.survey.Survey.TheVariants as S
 use Rattle.tree_check.specs.Survey.{survey_of}
 use Rattle.entries_directory.specs.Ahead.{FrontFits, Ahead, After, after_none, after_some}
 use Rattle.tree_check.specs.Steps.{entered, Walked}
-use Rattle.tree_check.proofs.Nodes.{node-says}
+use Rattle.tree_check.proofs.Nodes.{node-valid, node-says}
 use Rattle.tree_nodes.proofs.Flat.{forest-reads}
 use Rattle.tree_nodes.proofs.Trees.{NodeAt, node_at_lem, no-bad}
 
@@ -59,17 +58,17 @@ fits-first count b work room few = record { inside = inside-first b work room; s
 
 -- the root's count and the walk, where there is no entry and where there are some
 module _ (w : ℕ) (d : List ℕ) (root : Node) (expected v : ℕ) (b work : List ℕ) (f : Forest) (front : Front) (r : Bool) where
-  pub root_none : (ns : List (List ℕ)) → After w v b work front [] ns → front.ahead ≡ 0 → (agrees : Bool) → agrees ≡ cond root.valid (eqb root.count (front.ahead - front.ahead)) true
+  pub root_none : (ns : List (List ℕ)) → After w v b work front [] ns → front.ahead ≡ 0 → (agrees : Bool) → agrees ≡ agrees_with root.count (front.ahead - front.ahead)
       → r ≡ (agrees && eqb expected 0)
-      → r ≡ (cond root.valid (eqb root.count (length ns)) true && (counts_hold root.valid ns f && eqb (matched ns f) expected))
+      → r ≡ (agrees_with root.count (length ns) && (counts_hold (is_some root.count) ns f && eqb (matched ns f) expected))
   root_none _ (after_none z) none agrees agrees-is r-is =
       let gone : front.ahead - front.ahead ≡ 0 = omega arith in
-      rw (counts-hold-start root.valid f, matched-start f) (r-is ∙ rw (agrees-is, gone, eqb_swap expected 0))
+      rw (counts-hold-start (is_some root.count) f, matched-start f) (r-is ∙ rw (agrees-is, gone, eqb_swap expected 0))
   root_none _ (after_some h e) none agrees agrees-is r-is = absurd (omega (arith, h.some))
 
   pub root-some : (ns : List (List ℕ)) → After w v b work front [] ns → (front.ahead ≡ 0 → ⊥) → (n : ℕ) → SoundForest f → read_forest w 0 127 root.subtrees (drop root.next d) ≡ good f n
       → (work' : List ℕ) → Walked w d (entered root 0 front) expected b v work front work' r
-      → r ≡ (cond root.valid (eqb root.count (length ns)) true && (counts_hold root.valid ns f && eqb (matched ns f) expected))
+      → r ≡ (agrees_with root.count (length ns) && (counts_hold (is_some root.count) ns f && eqb (matched ns f) expected))
   root-some _ (after_none z) some n sound reads work' walked = absurd (some z)
   root-some _ (after_some {x} {xs} h e) some n sound reads work' walked = walked.is f n sound reads x xs h
 
@@ -89,19 +88,19 @@ counts-parts ns t h = counts-tested ns t h.plainly h.differ ∙ rw (counts-says 
 
 -- ---- by what the pass over the nodes says
 
-survey-inconsistent : (v : Bool) (f : Forest) → S.Inconsistent ≡ survey_of v f → (cond v (all_valid f) true && valid_below f) ≡ false
+survey-inconsistent : (v : Bool) (f : Forest) → None ≡ survey_of v f → (cond v (all_valid f) true && valid_below f) ≡ false
 unfolding survey_of
 survey-inconsistent v f e = go (cond v (all_valid f) true && valid_below f) e
   where
-    go : (t : Bool) → S.Inconsistent ≡ cond t (S.Consistent (positive f)) S.Inconsistent → t ≡ false
+    go : (t : Bool) → None ≡ cond t (Some (positive f)) None → t ≡ false
     go true e = let z : ◌≡◌ {A = ℕ} 0 1 = cc in absurd (omega arith)
     go false e = refl
 
-survey-consistent : (v : Bool) (f : Forest) (nodes : ℕ) → S.Consistent nodes ≡ survey_of v f → ((cond v (all_valid f) true && valid_below f) ≡ true) × (positive f ≡ nodes)
+survey-consistent : (v : Bool) (f : Forest) (nodes : ℕ) → Some nodes ≡ survey_of v f → ((cond v (all_valid f) true && valid_below f) ≡ true) × (positive f ≡ nodes)
 unfolding survey_of
 survey-consistent v f nodes e = go (cond v (all_valid f) true && valid_below f) e
   where
-    go : (t : Bool) → S.Consistent nodes ≡ cond t (S.Consistent (positive f)) S.Inconsistent → (t ≡ true) × (positive f ≡ nodes)
+    go : (t : Bool) → Some nodes ≡ cond t (Some (positive f)) None → (t ≡ true) × (positive f ≡ nodes)
     go true e = (refl, cc)
     go false e = let z : ◌≡◌ {A = ℕ} 0 1 = cc in absurd (omega arith)
 
@@ -129,10 +128,10 @@ module _ (w : ℕ) (d : List ℕ) (t : Tree) (n : ℕ) (q : read_nodes w 0 d ≡
   parts : TreeRead w d t
   parts = tree-read w d t n q
 
-  pub answer-none {ℓ} : {X : Type ℓ} → R.Bad ≡ node_at w 0 (read_node w 0 (drop 0 d)) → X
+  pub answer-none {ℓ} : {X : Type ℓ} → None ≡ node_at w 0 (read_node w 0 (drop 0 d)) → X
   answer-none e = absurd (no-bad w 0 parts.own _ _ parts.node e)
 
-  module _ (root : Node) (is : R.Good root ≡ node_at w 0 (read_node w 0 (drop 0 d))) where
+  module _ (root : Node) (is : Some root ≡ node_at w 0 (read_node w 0 (drop 0 d))) where
     root-here : NodeAt root 0 parts.own (record { node = t.root; subtrees = parts.subtrees })
     root-here = node_at_lem w root 0 parts.own _ _ parts.node is
 
@@ -141,20 +140,20 @@ module _ (w : ℕ) (d : List ℕ) (t : Tree) (n : ℕ) (q : read_nodes w 0 d ≡
         let next : root.next ≡ parts.own = omega (arith, root-here.next) in
         rw (root-here.subtrees, next) parts.kids
 
-    module _ (found : Survey) (survey : (f : Forest) (m : ℕ) → Reads w (drop root.next d) f root.subtrees m → found ≡ survey_of root.valid f) where
+    module _ (found : Option ℕ) (survey : (f : Forest) (m : ℕ) → Reads w (drop root.next d) f root.subtrees m → found ≡ survey_of (is_some root.count) f) where
       survey-here : found ≡ survey_of (is_valid t.root.count) t.subtrees
-      survey-here = survey t.subtrees parts.below (forest-reads _ _ _ _ _ below_root) ∙ ap (λ (v : Bool). survey_of v t.subtrees) root-here.says_valid
+      survey-here = survey t.subtrees parts.below (forest-reads _ _ _ _ _ below_root) ∙ ap (λ (v : Bool). survey_of v t.subtrees) (node-valid _ _ _ _ root-here)
 
-      pub answer-inconsistent : found ≡ S.Inconsistent → false ≡ ok_tree_counts ns t
+      pub answer-inconsistent : found ≡ None → false ≡ ok_tree_counts ns t
       answer-inconsistent e =
           sym (counts-parts ns t sound-tree ∙ rw (survey-inconsistent _ _ (sym e ∙ survey-here)) (and-false (says t.root.count (length ns))))
 
-      pub answer-consistent : (nodes : ℕ) → found ≡ S.Consistent nodes → (r : Bool)
+      pub answer-consistent : (nodes : ℕ) → found ≡ Some nodes → (r : Bool)
           → ((f : Forest) (m : ℕ) → SoundForest f → read_forest w 0 127 root.subtrees (drop root.next d) ≡ good f m
-          → r ≡ (cond root.valid (eqb root.count (length ns)) true && (counts_hold root.valid ns f && eqb (matched ns f) nodes)))
+          → r ≡ (agrees_with root.count (length ns) && (counts_hold (is_some root.count) ns f && eqb (matched ns f) nodes)))
           → r ≡ ok_tree_counts ns t
       answer-consistent nodes e r walk =
           let (consistent, sum) = survey-consistent _ _ nodes (sym e ∙ survey-here) in
           walk t.subtrees parts.below sound-tree below_root
-          ∙ rw (node-says _ _ _ _ root-here (length ns), root-here.says_valid)
+          ∙ rw (node-says _ _ _ _ root-here (length ns), node-valid _ _ _ _ root-here)
           (sym (counts-parts ns t sound-tree ∙ rw (consistent, sum)))

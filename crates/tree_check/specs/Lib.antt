@@ -2,5 +2,6 @@
 pub mod Answers
 pub mod Components
 pub mod Keys
+pub mod Nodes
 pub mod Steps
 pub mod Survey

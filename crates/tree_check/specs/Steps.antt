@@ -1,12 +1,11 @@
 -- The walk over the names in a directory, part by part: names with no further "/", or the names under one component. q is the directory's name,
 -- with its last "/".
-use Rattle.std.specs.Prelude.{◌≡◌, List, ◌∷◌, Bool, true, cond, ◌&&◌, ℕ, ◌+◌, ◌≤◌, ◌<◌, length, drop, eqb}
+use Rattle.std.specs.Prelude.{◌≡◌, List, ◌∷◌, Bool, true, ◌&&◌, ℕ, ◌+◌, ◌≤◌, ◌<◌, length, drop, eqb, Some, is_some}
 use Rattle.format.specs.Records.{Forest}
 use Rattle.format.specs.Reading.{good}
 use Rattle.format.specs.Reader.{read_node, read_forest}
 use Rattle.fields.specs.Workspace.{Frame}
 use Rattle.tree_nodes.specs.declared.node.Node.{Node}
-use Rattle.tree_nodes.specs.declared.node.NodeRead.TheVariants as R
 use Rattle.tree_nodes.specs.Answers.{node_at}
 use Rattle.tree_nodes.specs.Flat.{Reads}
 use Rattle.entries_run.specs.Steps.{name_at}
@@ -14,18 +13,18 @@ use Rattle.tree_counts.specs.Counts.{counts_hold, matched, SoundForest}
 use Rattle.directories.specs.Names.{begins}
 use Rattle.tree_counts.specs.Runs.{NamesPassed}
 use Rattle.entries_directory.specs.declared.Front.{Front}
-use Rattle.tree_check.specs.declared.look.Look.TheVariants as L
 use Rattle.tree_check.specs.declared.walk.Directory.{Directory}
 use Rattle.tree_check.specs.declared.walk.Part.{Part}
 use Rattle.tree_check.specs.declared.walk.Part.TheVariants as P
 use Rattle.entries_directory.specs.Ahead.{FrontFits, Ahead, After}
 use Rattle.tree_check.specs.Components.{LookedUp}
+use Rattle.tree_check.specs.Nodes.{agrees_with}
 
 -- ---- a directory
 
 -- the one of a node, with a name of q bytes
 abbrev pub entered : Node → ℕ → Front → Directory
-entered node q s = record { at = node.next; k = node.subtrees; valid = node.valid; count = node.count; q = q; ahead = s.ahead }
+entered node q s = record { at = node.next; k = node.subtrees; count = node.count; q = q; ahead = s.ahead }
 
 -- its subtrees are in the data d, and the first of the entries ahead has as many bytes as its name
 pub record WalkReady (d : List ℕ) (dir : Directory) (b work : List ℕ) (s : Front) : Type 0 where
@@ -58,15 +57,15 @@ pub record PartPassed (w : ℕ) (d : List ℕ) (dir : Directory) (b : List ℕ) 
   pub moved : (f : Forest) (m : ℕ) → SoundForest f → Reads w (drop dir.at d) f dir.k m
       → (p x : List ℕ) (xs : List (List ℕ)) → Ahead w v b work s x xs → begins p x ≡ true → length p ≡ dir.q
       → (whole done : List (List ℕ)) → NamesPassed f p whole done (x ∷ xs)
-      → Moved w dir.valid f p whole done v b work' holds 0 r
+      → Moved w (is_some dir.count) f p whole done v b work' holds 0 r
 
 -- it is in the directory below, of the node at a place
 pub record PartEntered (w : ℕ) (d : List ℕ) (dir : Directory) (b : List ℕ) (v : ℕ) (work : List ℕ) (s : Front) (work' : List ℕ) (below : Directory) : Type 0 where
   pub same : work' ≡ work
   pub place : ℕ
   pub node : Node
-  pub read : R.Good node ≡ node_at w place (read_node w 0 (drop place d))
-  pub look : LookedUp w d dir.at dir.k (name_at v b work s.cursor.start s.cursor.len) s.cursor.len dir.q (L.Found below.q place)
+  pub read : Some node ≡ node_at w place (read_node w 0 (drop place d))
+  pub look : LookedUp w d dir.at dir.k (name_at v b work s.cursor.start s.cursor.len) s.cursor.len dir.q (Some (record { end = below.q; node = Some place }))
   pub is : below ≡ entered node below.q s
 
 abbrev pub taken_by : ℕ → List ℕ → Directory → List ℕ → ℕ → List ℕ → Front → List ℕ → Part → Type 0
@@ -83,4 +82,4 @@ pub record Walked (w : ℕ) (d : List ℕ) (root : Directory) (expected : ℕ) (
   pub frame : Frame work work'
   pub is : (f : Forest) (n : ℕ) → SoundForest f → read_forest w 0 127 root.k (drop root.at d) ≡ good f n
       → (x : List ℕ) (xs : List (List ℕ)) → Ahead w v b work s x xs
-      → r ≡ (cond root.valid (eqb root.count (length (x ∷ xs))) true && (counts_hold root.valid (x ∷ xs) f && eqb (matched (x ∷ xs) f) expected))
+      → r ≡ (agrees_with root.count (length (x ∷ xs)) && (counts_hold (is_some root.count) (x ∷ xs) f && eqb (matched (x ∷ xs) f) expected))

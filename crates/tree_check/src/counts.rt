@@ -3,11 +3,11 @@ ghost use Rattle.std.specs.Prelude.{◌≡◌, ◌≤◌, length};
 ghost use Rattle.entries_run.specs.Steps.{Room};
 ghost use Rattle.tree_check.specs.Answers.{RootWalked, CountsTold};
 
-use crate::survey::{Survey, survey_trees};
+use crate::survey::survey_trees;
 use crate::walk::{agrees, enter, walk_directories};
 use entries_directory::{Front, advance};
 use entries_run::first;
-use tree_nodes::node::{Node, NodeRead, read_node};
+use tree_nodes::node::{Node, read_node};
 use tree_search::table::reset;
 use tree_table::Table;
 
@@ -26,13 +26,12 @@ fn walk_root(
     requires { (root.next ≤ length d.now) × (length d.now ≤ 16777216) × Room b.now work.old × (length t.old ≡ 3126) × (w ≤ 32) }
     ensures { RootWalked w d.now root expected b.now v count work.old work.new result }
 {
-    let c = first();
     let start = Front {
-        cursor: c,
+        cursor: first(),
         ahead: count as usize + 1,
         common: 0,
     };
-    let front = advance(b, v, &mut *work, start, w);
+    let front = advance(b, v, work, start, w);
     let dir = enter(root, 0, front);
     if front.ahead == 0 {
         return agrees(dir, front) & (expected == 0);
@@ -54,17 +53,12 @@ pub fn counts_ok(
     requires { (length d.now ≤ 16777216) × Room b.now work.old × (length t.old ≡ 3126) × (w ≤ 32) }
     ensures { CountsTold w d.now b.now v count work.old work.new result }
 {
-    let read = read_node(d, 0, w);
-    match read {
-        NodeRead::Bad => false,
-        NodeRead::Good(root) => {
-            let found = survey_trees(d, root.next, root.subtrees, root.valid, w);
-            match found {
-                Survey::Inconsistent => false,
-                Survey::Consistent(expected) => walk_root(
-                    d, root, expected, b, v, count, work, t, w,
-                ),
-            }
-        }
-    }
+    let Some(root) = read_node(d, 0, w) else {
+        return false;
+    };
+    let valid = root.count.is_some();
+    let Some(expected) = survey_trees(d, root.next, root.subtrees, valid, w) else {
+        return false;
+    };
+    walk_root(d, root, expected, b, v, count, work, t, w)
 }

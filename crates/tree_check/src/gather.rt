@@ -7,7 +7,7 @@ ghost use Rattle.tree_check.specs.Keys.{KeysPut};
 use entries_directory::{Front, advance, stays};
 use entries_run::name_at;
 use fields::{copy_to, find};
-use tree_search::table::{Region, most_keys, put_key};
+use tree_search::table::{Region, put_key};
 use tree_table::{Table, key_of};
 
 // How many names ahead are looked at: more than a table takes keys, since names in one directory are one after another and have one key.
@@ -19,11 +19,8 @@ fn put_component(name: &[u8], q: usize, common: usize, region: Region, t: &mut T
     requires { (q ≤ length name.now) × Vacant region t.old }
     ensures { (result < 2) × KeysPut region t.old t.new }
 {
-    let e = find(name, q, 47);
-    if e == name.len() {
-        return 0;
-    }
-    if e < common {
+    let e = find(name, q, b'/');
+    if e == name.len() || e < common {
         return 0;
     }
     let key = key_of(&name[q..e], t);
@@ -43,10 +40,7 @@ fn put_first<'a>(
     requires { FrontFits b.now s × (8192 ≤ length work.now) × (q ≤ s.cursor.len) × Vacant region t.old }
     ensures { (result < 2) × KeysPut region t.old t.new }
 {
-    let c = s.cursor;
-    let start = c.start;
-    let len = c.len;
-    let name = name_at(b, v, work, start, len);
+    let name = name_at(b, v, work, s.cursor.start, s.cursor.len);
     put_component(name, q, s.common, region, t)
 }
 
@@ -65,25 +59,20 @@ fn put_ahead(
     ensures { KeysPut region t.old t.new }
 {
     let mut front = s;
-    let mut left = AHEAD;
     let mut count: u32 = 0;
-    let most = most_keys(region);
-    while 0 < left {
-        let held = &names[..];
-        count += put_first(b, v, held, q, front, region, t);
-        if most <= count {
+    for _ in 0..AHEAD {
+        count += put_first(b, v, &names[..], q, front, region, t);
+        if region.most_keys() <= count {
             return;
         }
-        front = advance(b, v, &mut *names, front, w);
-        if stays(front, q) {
-            left -= 1;
-        } else {
+        front = advance(b, v, names, front, w);
+        if !stays(front, q) {
             return;
         }
     }
 }
 
-// The same, with the first name copied to names.
+// The same, with the first name copied to names: a function of its own, so that no proof counts the elements of a long local array.
 fn put_copied(
     b: &[u8],
     v: u32,

@@ -1,30 +1,31 @@
 // The walk over the entries: what it tests of the counts of a cache tree.
 ghost use Rattle.std.specs.Prelude.{◌≡◌, true, cond, ◌&&◌, ◌||◌, ◌-◌, ◌≤◌, ◌<◌, eqb, leb, ltb};
 ghost use Rattle.tree_search.specs.Table.{Known};
+ghost use Rattle.tree_check.specs.Nodes.{agrees_with};
 ghost use Rattle.tree_check.specs.Steps.{entered, WalkReady, Taken, Walked};
 
-use crate::look::{Look, look_up};
+use crate::look::look_up;
 use crate::survey::weight;
 use entries_directory::{Front, pass, pass_files, stays};
-use tree_nodes::node::{Node, NodeRead, read_node};
+use tree_nodes::node::{Node, read_node};
 use tree_table::Table;
 
 // The most levels that a tree has, the root's included.
 const LEVELS: usize = 128;
 
-// A directory that was entered: the place of its node's subtrees and their number, whether the node is valid, its count, the length of the directory's
-// name with its last "/", and how many entries were ahead when it was entered. The walk holds one for each level, so numbers have 32 bits.
+// A directory that was entered: the place of its node's subtrees and their number, its count, none where that is invalid, the length of the directory's name
+// with its last "/", and how many entries were ahead when it was entered. The walk holds one for each level, so numbers have 32 bits.
 #[derive(Clone, Copy)]
 pub struct Directory {
     pub at: u32,
     pub k: u32,
-    pub valid: bool,
-    pub count: u32,
+    pub count: Option<u32>,
     pub q: u32,
     pub ahead: u32,
 }
 
-// A part of a directory's entries: it was passed, whether its test holds, and what is ahead of it; or it is in a directory that is entered.
+// A part of a directory's entries: it was passed, whether its test holds, and what is ahead of it; or it is in a directory that is entered. Neither is a
+// refusal, so this is no Result.
 #[derive(Clone, Copy)]
 pub enum Part {
     Passed(bool, Front),
@@ -39,7 +40,6 @@ pub(crate) fn enter(node: Node, q: usize, s: Front) -> Directory
     Directory {
         at: node.next as u32,
         k: node.subtrees,
-        valid: node.valid,
         count: node.count,
         q: q as u32,
         ahead: s.ahead as u32,
@@ -49,34 +49,19 @@ pub(crate) fn enter(node: Node, q: usize, s: Front) -> Directory
 // Whether the node of a directory, where it is valid, counts the entries that were passed since it was entered.
 pub(crate) fn agrees(dir: Directory, s: Front) -> bool
     requires { s.ahead ≤ dir.ahead }
-    ensures { result ≡ cond dir.valid (eqb dir.count (dir.ahead - s.ahead)) true }
+    ensures { result ≡ agrees_with dir.count (dir.ahead - s.ahead) }
 {
-    if dir.valid {
-        return dir.count as usize == dir.ahead as usize - s.ahead;
+    match dir.count {
+        Some(count) => count as usize == dir.ahead as usize - s.ahead,
+        None => true,
     }
-    true
 }
 
 // Whether the first entry ahead is in a directory: the directory was just entered, or the name has its first bytes in common with the one before.
 fn is_in(dir: Directory, s: Front) -> bool
     ensures { result ≡ (eqb s.ahead dir.ahead || (ltb 0 s.ahead && leb dir.q s.common)) }
 {
-    if s.ahead == dir.ahead as usize {
-        return true;
-    }
-    stays(s, dir.q as usize)
-}
-
-// The entries of which one is refused: none is ahead.
-fn ended(s: Front) -> Front
-    ensures { result ≡ record { cursor = s.cursor; ahead = 0; common = 0 } }
-{
-    let c = s.cursor;
-    Front {
-        cursor: c,
-        ahead: 0,
-        common: 0,
-    }
+    s.ahead == dir.ahead as usize || stays(s, dir.q as usize)
 }
 
 // One part of a directory's entries: the files ahead, where the first is one; else all in the directory of its next component, which are passed here
@@ -95,31 +80,26 @@ fn take_part(
     requires { WalkReady d.now dir b.now work.old s × Known w d.now t.old × (w ≤ 32) }
     ensures { Taken w d.now dir b.now v work.old s work.new result × Known w d.now t.new }
 {
+    let at = dir.at as usize;
     let q = dir.q as usize;
-    let look = look_up(
-        d,
-        dir.at as usize,
-        dir.k,
-        level,
-        b,
-        v,
-        &work[..],
-        q,
-        s,
-        t,
-        w,
-    );
-    match look {
-        Look::File => Part::Passed(true, pass_files(b, v, work, s, q, w)),
-        Look::Missing(e) => Part::Passed(!dir.valid, pass(b, v, work, s, e, w)),
-        Look::Found(e, p) => {
-            let read = read_node(d, p, w);
-            match read {
-                NodeRead::Bad => Part::Passed(false, ended(s)),
-                NodeRead::Good(node) => Part::Entered(enter(node, e, s)),
-            }
-        }
-    }
+    let Some(below) = look_up(d, at, dir.k, level, b, v, &work[..], q, s, t, w) else {
+        return Part::Passed(true, pass_files(b, v, work, s, q, w));
+    };
+    let Some(place) = below.node else {
+        return Part::Passed(dir.count.is_none(), pass(b, v, work, s, below.end, w));
+    };
+    // No tree that was read has no node there.
+    let Some(node) = read_node(d, place, w) else {
+        return Part::Passed(
+            false,
+            Front {
+                ahead: 0,
+                common: 0,
+                ..s
+            },
+        );
+    };
+    Part::Entered(enter(node, below.end, s))
 }
 
 // All entries ahead, of which the first is in the root's directory: whether all tests hold, and expected is the number of nodes below the root with a
@@ -145,31 +125,28 @@ pub(crate) fn walk_directories(
     let mut ok = true;
     let mut found: u64 = 0;
     loop {
-        if is_in(dir, front) {
-            let part = take_part(d, dir, level, b, v, &mut *work, front, &mut *t, w);
-            match part {
-                Part::Passed(holds, next) => {
-                    front = next;
-                    ok = ok & holds;
-                }
-                Part::Entered(below) => {
-                    // No tree that was read gets here.
-                    if level as usize + 1 == LEVELS {
-                        return false;
-                    }
-                    above[level as usize] = dir;
-                    level += 1;
-                    dir = below;
-                }
-            }
-        } else {
-            ok = ok & agrees(dir, front);
+        if !is_in(dir, front) {
+            ok &= agrees(dir, front);
             if level == 0 {
                 return ok & (found == expected as u64);
             }
-            found += weight(dir.valid, dir.count) as u64;
+            found += u64::from(weight(dir.count));
             level -= 1;
             dir = above[level as usize];
+            continue;
+        }
+        match take_part(d, dir, level, b, v, work, front, t, w) {
+            Part::Passed(holds, next) => {
+                front = next;
+                ok &= holds;
+            }
+            // No tree that was read gets here.
+            Part::Entered(_) if level as usize + 1 == LEVELS => return false,
+            Part::Entered(below) => {
+                above[level as usize] = dir;
+                level += 1;
+                dir = below;
+            }
         }
     }
 }

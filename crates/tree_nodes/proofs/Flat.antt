@@ -23,7 +23,7 @@ use Rattle.format.specs.Places.{node_start}
 use Rattle.tree_nodes.proofs.Readings.{node-took}
 use Rattle.tree_nodes.proofs.Nodes.{node-named, NodeIs, no_node}
 use Rattle.tree_nodes.specs.declared.node.Node as Code
-use Rattle.tree_nodes.specs.declared.node.NodeRead.TheVariants as R
+use Rattle.std.specs.Prelude.{None}
 
 pub items-size : (l : ℕ) (f : Forest) → length (items l f) ≡ size f
 unfolding items size
@@ -259,7 +259,7 @@ module _ (w : ℕ) (d : List ℕ) (place left : ℕ) where
           ap (λ (k : ℕ). trees_length w k (drop place d)) (suc-pred left some) ∙ trees-step w (left - 1) (drop place d) is.head (node.next - place) is.reads ∙ rw (rest-is, is.subtrees) in
           omega arith
 
-    module _ (inside : place ≤ length d) (none : R.Bad ≡ node_at w place (read_node w 0 (drop place d))) where
+    module _ (inside : place ≤ length d) (none : None ≡ node_at w place (read_node w 0 (drop place d))) where
       pub place-stop : place + node_start w left (drop place d) ≡ length d
       place-stop =
           no_node w d place none λ n p q.

@@ -12,7 +12,7 @@ use Rattle.format.specs.Reader.{Head, read_node, read_nodes}
 use Rattle.format_laws.proofs.Lists.{drop-to}
 use Rattle.format_laws.proofs.Readings.{bad-good}
 use Rattle.tree_nodes.specs.declared.node.Node as Code
-use Rattle.tree_nodes.specs.declared.node.NodeRead.TheVariants as R
+use Rattle.std.specs.Prelude.{None}
 use Rattle.tree_nodes.specs.Answers.{node_at}
 use Rattle.tree_nodes.proofs.Nodes.{NodeIs, no_node}
 use Rattle.tree_nodes.specs.Flat.{Reads, reads_none, reads_more}
@@ -232,7 +232,7 @@ module _ {w : ℕ} (d : List ℕ) (k place left : ℕ) (r : List ℕ) (depth : �
       record { of = λ t m q few. remains-more d k t place left _ (stack_of r depth) (h.of t m q few) some node is st (λ deep. e (λ subtrees. rw (stack-length r depth) at (deep subtrees))) }
 
   -- no node where there must be one
-  pub passing-stop : R.Bad ≡ node_at w place (read_node w 0 (drop place d)) → (t : Tree) (m : ℕ) → read_nodes w 0 d ≡ good t m → k < length (tree_items t) → ⊥
+  pub passing-stop : None ≡ node_at w place (read_node w 0 (drop place d)) → (t : Tree) (m : ℕ) → read_nodes w 0 d ≡ good t m → k < length (tree_items t) → ⊥
   unfolding stack_of
   passing-stop none t m e few =
       let x = remains-next d k t place left _ _ (h.of t m e few) in

@@ -2,7 +2,7 @@
 use mathlib.Core.Path.{◌≡◌, refl, sym, ap, ◌∙◌}
 use mathlib.Core.List.{List, [], ◌∷◌}
 use mathlib.Core.Bool.{Bool, true, false, cond, ◌&&◌, true≢false}
-use mathlib.Core.Option.{Option, none, some}
+use mathlib.Core.Option as M
 use Prim.Native.Nat.{ℕ, ◌+◌, ◌-◌, ◌≤◌, ◌<◌}
 use native.Mathlib.Nat.{add-zero, add_assoc}
 use native.Mathlib.Omega.{arith}
@@ -18,94 +18,86 @@ use Rattle.format.specs.Reader.{read_text, count_in, need_some, read_count, read
 use Rattle.format_laws.proofs.Lists.{drop-to}
 use Rattle.format_laws.proofs.Texts.{text-inv, text-none, text-some}
 use Rattle.format_laws.proofs.Readings.{need-inv, bind_inv}
-use Rattle.tree_nodes.specs.declared.number.Number.{Number}
-use Rattle.tree_nodes.specs.declared.number.Number.TheVariants as N
-use Rattle.tree_nodes.specs.declared.node.Count.{Count}
-use Rattle.tree_nodes.specs.declared.node.Count.TheVariants as C
-use Rattle.tree_nodes.specs.declared.node.Subtrees.{Subtrees}
-use Rattle.tree_nodes.specs.declared.node.Subtrees.TheVariants as S
+use Rattle.std.specs.Prelude.{Option, Some, None}
 use Rattle.tree_nodes.specs.declared.node.Node.{Node}
-use Rattle.tree_nodes.specs.declared.node.NodeRead.{NodeRead}
-use Rattle.tree_nodes.specs.declared.node.NodeRead.TheVariants as R
-use Rattle.tree_nodes.specs.Answers.{number_in, counted, object_length, count_to, count_at, subtrees_at, node_of, node_at}
+use Rattle.tree_nodes.specs.Answers.{number_in, counted, object_length, object_after, count_of, count_at, subtrees_at, node_of, node_at}
 use Rattle.tree_nodes.proofs.Readings.{Took, count-took, subtrees-took, node-took}
 
 -- ---- entry counts
 
 -- a number as an entry count, and one that stood after "-"
-abbrev pub plain_to : ℕ → Number → Count
-plain_to next N.Bad = C.Bad
-plain_to next (N.Good n) = C.Good true n next
+abbrev pub plain_of : Option ℕ → Option (Option ℕ)
+plain_of None = None
+plain_of (Some n) = Some (Some n)
 
-abbrev pub minus_to : ℕ → Number → Count
-minus_to next N.Bad = C.Bad
-minus_to next (N.Good n) = cond (leb 1 n) (C.Good false 0 next) C.Bad
+abbrev pub minus_of : Option ℕ → Option (Option ℕ)
+minus_of None = None
+minus_of (Some n) = cond (leb 1 n) (Some None) None
 
-module _ (next : ℕ) where
-  plain_by : (b : Bool) (n : ℕ) → count_to next (cond b (some (Records.valid n)) none) ≡ plain_to next (cond b (N.Good n) N.Bad)
-  unfolding count_to
-  plain_by true n = refl
-  plain_by false n = refl
+plain_by : (b : Bool) (n : ℕ) → count_of (cond b (M.some (Records.valid n)) M.none) ≡ plain_of (cond b (Some n) None)
+unfolding count_of
+plain_by true n = refl
+plain_by false n = refl
 
-  minus-by : (a l o : Bool) (n : ℕ) → leb 1 n ≡ o → count_to next (cond (a && (o && l)) (some Records.invalid) none) ≡ minus_to next (cond (a && l) (N.Good n) N.Bad)
-  unfolding count_to
-  minus-by false l o n e = refl
-  minus-by true true true n e = rw e
-  minus-by true true false n e = rw e
-  minus-by true false true n e = refl
-  minus-by true false false n e = refl
+minus-by : (a l o : Bool) (n : ℕ) → leb 1 n ≡ o → count_of (cond (a && (o && l)) (M.some Records.invalid) M.none) ≡ minus_of (cond (a && l) (Some n) None)
+unfolding count_of
+minus-by false l o n e = refl
+minus-by true true true n e = rw e
+minus-by true true false n e = rw e
+minus-by true false true n e = refl
+minus-by true false false n e = refl
 
-  pub count-empty : (t : List ℕ) → length t ≡ 0 → count_to next (count_in t) ≡ C.Bad
-  unfolding count_in count_to
-  count-empty [] h = refl
-  count-empty (x ∷ t) h = absurd (omega arith)
+pub count-empty : (t : List ℕ) → length t ≡ 0 → count_of (count_in t) ≡ None
+unfolding count_in count_of
+count-empty [] h = refl
+count-empty (x ∷ t) h = absurd (omega arith)
 
-  pub count-minus : (t : List ℕ) → (length t ≡ 0 → ⊥) → get_or t 0 0 ≡ 45 → count_to next (count_in t) ≡ minus_to next (number_in 2147483648 (take (length t - 1) (drop 1 t)))
-  unfolding count_in number_in
-  count-minus [] h e = absurd (h refl)
-  count-minus (x ∷ t) h e =
-      let l : length t ≤ length (x ∷ t) - 1 = omega arith in
-      rw (eq-eqb x 45 e, take_all (length (x ∷ t) - 1) t l) (minus-by (decimal t) (leb (value t) 2147483648) (leb 1 (value t)) (value t) refl)
+pub count-minus : (t : List ℕ) → (length t ≡ 0 → ⊥) → get_or t 0 0 ≡ 45 → count_of (count_in t) ≡ minus_of (number_in 2147483648 (take (length t - 1) (drop 1 t)))
+unfolding count_in number_in
+count-minus [] h e = absurd (h refl)
+count-minus (x ∷ t) h e =
+    let l : length t ≤ length (x ∷ t) - 1 = omega arith in
+    rw (eq-eqb x 45 e, take_all (length (x ∷ t) - 1) t l) (minus-by (decimal t) (leb (value t) 2147483648) (leb 1 (value t)) (value t) refl)
 
-  pub count-plain : (t : List ℕ) → (length t ≡ 0 → ⊥) → (get_or t 0 0 ≡ 45 → ⊥) → count_to next (count_in t) ≡ plain_to next (number_in 2147483647 t)
-  unfolding count_in number_in
-  count-plain [] h e = absurd (h refl)
-  count-plain (x ∷ t) h e = rw (ne_eqb x 45 e) (plain_by (decimal (x ∷ t) && leb (value (x ∷ t)) 2147483647) (value (x ∷ t)))
+pub count-plain : (t : List ℕ) → (length t ≡ 0 → ⊥) → (get_or t 0 0 ≡ 45 → ⊥) → count_of (count_in t) ≡ plain_of (number_in 2147483647 t)
+unfolding count_in number_in
+count-plain [] h e = absurd (h refl)
+count-plain (x ∷ t) h e = rw (ne_eqb x 45 e) (plain_by (decimal (x ∷ t) && leb (value (x ∷ t)) 2147483647) (value (x ∷ t)))
 
 -- ---- the parts at a place
 
--- a number as that of subtrees
-abbrev pub subtrees_to : ℕ → Number → Subtrees
-subtrees_to next N.Bad = S.Bad
-subtrees_to next (N.Good n) = S.Good n next
+-- a part with the place after it
+abbrev pub with_place : {A : Type 0} → ℕ → Option A → Option (A × ℕ)
+with_place next None = None
+with_place next (Some a) = Some (a, next)
 
 module _ (at next m : ℕ) (is : next ≡ at + m) where
-  count-some-by : (o : Option Records.Count) → count_at at (shift m (need_some o 15 0 (λ c. good c 0))) ≡ count_to next o
-  unfolding count_at count_to need_some shift
-  count-some-by none = refl
-  count-some-by (some c) = rw (add-zero, is)
+  count-some-by : (o : M.Option Records.Count) → count_at at (shift m (need_some o 15 0 (λ c. good c 0))) ≡ with_place next (count_of o)
+  unfolding count_at count_of need_some shift
+  count-some-by M.none = refl
+  count-some-by (M.some c) = rw (add-zero, is)
 
-  subtrees-by : (b : Bool) (n : ℕ) → subtrees_at at (shift m (need b 15 0 (good n 0))) ≡ subtrees_to next (cond b (N.Good n) N.Bad)
+  subtrees-by : (b : Bool) (n : ℕ) → subtrees_at at (shift m (need b 15 0 (good n 0))) ≡ with_place next (cond b (Some n) None)
   unfolding subtrees_at need shift
   subtrees-by true n = rw (add-zero, is)
   subtrees-by false n = refl
 
 module _ (d : List ℕ) (at e : ℕ) where
   module _ (is : e ≡ at + before 32 (drop at d)) where
-    pub count_none : e ≡ length d → count_at at (read_count 0 (drop at d)) ≡ C.Bad
+    pub count_none : e ≡ length d → count_at at (read_count 0 (drop at d)) ≡ None
     unfolding read_count bind count_at
     count_none h = rw (text-none 32 15 0 d at e is h)
 
-    pub count-some : e < length d → count_at at (read_count 0 (drop at d)) ≡ count_to (e + 1) (count_in (take (e - at) (drop at d)))
+    pub count-some : e < length d → count_at at (read_count 0 (drop at d)) ≡ with_place (e + 1) (count_of (count_in (take (e - at) (drop at d))))
     unfolding read_count bind
     count-some h = rw (text-some 32 15 0 d at e is h) (count-some-by at (e + 1) (e + 1 - at) (omega arith) (count_in (take (e - at) (drop at d))))
 
   module _ (is : e ≡ at + before 10 (drop at d)) where
-    pub subtrees-none : e ≡ length d → subtrees_at at (read_subtrees 0 (drop at d)) ≡ S.Bad
+    pub subtrees-none : e ≡ length d → subtrees_at at (read_subtrees 0 (drop at d)) ≡ None
     unfolding read_subtrees bind subtrees_at
     subtrees-none h = rw (text-none 10 15 0 d at e is h)
 
-    pub subtrees-some : e < length d → subtrees_at at (read_subtrees 0 (drop at d)) ≡ subtrees_to (e + 1) (number_in 2147483647 (take (e - at) (drop at d)))
+    pub subtrees-some : e < length d → subtrees_at at (read_subtrees 0 (drop at d)) ≡ with_place (e + 1) (number_in 2147483647 (take (e - at) (drop at d)))
     unfolding read_subtrees bind number_in
     subtrees-some h =
         let t = take (e - at) (drop at d) in
@@ -113,10 +105,9 @@ module _ (d : List ℕ) (at e : ℕ) where
 
 -- ---- what a part's answer says of the format's reading
 
-pub record CountIs (d : List ℕ) (at : ℕ) (valid : Bool) (count next : ℕ) : Type 0 where
+pub record CountIs (d : List ℕ) (at : ℕ) (count : Option ℕ) (next : ℕ) : Type 0 where
   pub of : Records.Count
   pub reads : read_count 0 (drop at d) ≡ good of (next - at)
-  pub says_valid : is_valid of ≡ valid
   pub is_count : counted of ≡ count
   pub after : at ≤ next
   pub within : next ≤ length d
@@ -127,31 +118,33 @@ pub record SubtreesIs (d : List ℕ) (at k next : ℕ) : Type 0 where
   pub within : next ≤ length d
 
 module _ (d : List ℕ) (at : ℕ) (inside : at ≤ length d) where
-  count-is-by : (v : Bool) (n next : ℕ) (x : Read Records.Count) → read_count 0 (drop at d) ≡ x → Took 1 (length (drop at d)) x → C.Good v n next ≡ count_at at x → CountIs d at v n next
+  count-is-by : (n : Option ℕ) (next : ℕ) (x : Read Records.Count) → read_count 0 (drop at d) ≡ x → Took 1 (length (drop at d)) x → Some (n, next) ≡ count_at at x → CountIs d at n next
   unfolding count_at
-  count-is-by v n next (bad a p) q t e = let z : ◌≡◌ {A = ℕ} 0 1 = cc in absurd (omega arith)
-  count-is-by v n next (good c m) q t e =
-      let is : next ≡ at + m = cc in
+  count-is-by n next (bad a p) q t e = absurd (cc)
+  count-is-by n next (good c m) q t e =
+      let both : ◌≡◌ {A = Option ℕ × ℕ} (n, next) (counted c, at + m) = cc in
+      let is : next ≡ at + m = ap (λ (x : Option ℕ × ℕ). x.1) both in
       let l : length (drop at d) ≡ length d - at = length-drop at d in
       let b : m ≤ length (drop at d) = (t.of c m refl).1 in
       let k : m ≡ next - at = omega arith in
-      record { of = c; reads = q ∙ ap (λ (i : ℕ). good c i) k; says_valid = cc; is_count = cc; after = omega arith; within = omega arith }
+      record { of = c; reads = q ∙ ap (λ (i : ℕ). good c i) k; is_count = sym (ap (λ (x : Option ℕ × ℕ). x.0) both); after = omega arith; within = omega arith }
 
-  pub count_is : (v : Bool) (n next : ℕ) → C.Good v n next ≡ count_at at (read_count 0 (drop at d)) → CountIs d at v n next
-  count_is v n next e = count-is-by v n next _ refl (count-took 0 (drop at d)) e
+  pub count_is : (n : Option ℕ) (next : ℕ) → Some (n, next) ≡ count_at at (read_count 0 (drop at d)) → CountIs d at n next
+  count_is n next e = count-is-by n next _ refl (count-took 0 (drop at d)) e
 
-  subtrees-is-by : (n next : ℕ) (x : Read ℕ) → read_subtrees 0 (drop at d) ≡ x → Took 1 (length (drop at d)) x → S.Good n next ≡ subtrees_at at x → SubtreesIs d at n next
+  subtrees-is-by : (n next : ℕ) (x : Read ℕ) → read_subtrees 0 (drop at d) ≡ x → Took 1 (length (drop at d)) x → Some (n, next) ≡ subtrees_at at x → SubtreesIs d at n next
   unfolding subtrees_at
-  subtrees-is-by n next (bad a p) q t e = let z : ◌≡◌ {A = ℕ} 0 1 = cc in absurd (omega arith)
+  subtrees-is-by n next (bad a p) q t e = absurd (cc)
   subtrees-is-by n next (good c m) q t e =
-      let is : next ≡ at + m = cc in
+      let both : ◌≡◌ {A = ℕ × ℕ} (n, next) (c, at + m) = cc in
+      let is : next ≡ at + m = ap (λ (x : ℕ × ℕ). x.1) both in
       let l : length (drop at d) ≡ length d - at = length-drop at d in
       let b : m ≤ length (drop at d) = (t.of c m refl).1 in
       let k : m ≡ next - at = omega arith in
-      let n-is : c ≡ n = cc in
+      let n-is : c ≡ n = sym (ap (λ (x : ℕ × ℕ). x.0) both) in
       record { reads = q ∙ ap (λ (i : ℕ). good c i) k ∙ ap (λ (j : ℕ). good j (next - at)) n-is; after = omega arith; within = omega arith }
 
-  pub subtrees-is : (n next : ℕ) → S.Good n next ≡ subtrees_at at (read_subtrees 0 (drop at d)) → SubtreesIs d at n next
+  pub subtrees-is : (n next : ℕ) → Some (n, next) ≡ subtrees_at at (read_subtrees 0 (drop at d)) → SubtreesIs d at n next
   subtrees-is n next e = subtrees-is-by n next _ refl (subtrees-took 0 (drop at d)) e
 
 -- ---- a node, part after part
@@ -167,11 +160,10 @@ unfoldable pub after_name : ℕ → List ℕ → List ℕ → Read Head
 after_name w name s = bind (read_count 0 s) λ count n. after_count w name count (drop n s)
 
 -- the node that begins at a place, of which the rest is at another
-unfoldable pub node_from : ℕ → ℕ → ℕ → Read Head → NodeRead
-node_from w at place (bad n p) = R.Bad
-node_from w at place (good h m) = R.Good (record {
+unfoldable pub node_from : ℕ → ℕ → ℕ → Read Head → Option Node
+node_from w at place (bad n p) = None
+node_from w at place (good h m) = Some (record {
   nul = at + length h.node.name;
-  valid = is_valid h.node.count;
   count = counted h.node.count;
   subtrees = h.subtrees;
   object = place + m - object_length w h.node.count;
@@ -192,12 +184,12 @@ from-bind : (w : ℕ) {A : Type 0} (at place next m : ℕ) (a : A) (x : Read A) 
 unfolding bind
 from-bind w at place next m a x k e i = rw (e, i) (from-shift w at place m (k a m))
 
-from-bad : (w : ℕ) {A : Type 0} (at place n p : ℕ) (x : Read A) (k : A → ℕ → Read Head) → x ≡ bad n p → node_from w at place (bind x k) ≡ R.Bad
+from-bad : (w : ℕ) {A : Type 0} (at place n p : ℕ) (x : Read A) (k : A → ℕ → Read Head) → x ≡ bad n p → node_from w at place (bind x k) ≡ None
 unfolding bind node_from
 from-bad w at place n p x k e = rw e
 
 module _ (w : ℕ) (d : List ℕ) (at z : ℕ) (is : z ≡ at + before 0 (drop at d)) where
-  pub node-none : z ≡ length d → node_at w at (read_node w 0 (drop at d)) ≡ R.Bad
+  pub node-none : z ≡ length d → node_at w at (read_node w 0 (drop at d)) ≡ None
   unfolding read_node
   node-none h = from-here w at _ ∙ from-bad w at at 15 0 _ _ (text-none 0 15 0 d at z is h)
 
@@ -209,19 +201,19 @@ module _ (w : ℕ) (d : List ℕ) (at z : ℕ) (is : z ≡ at + before 0 (drop a
       ∙ ap (λ (s : List ℕ). node_from w at (z + 1) (after_name w (take (z - at) (drop at d)) s)) (drop-to d at (z + 1 - at) (z + 1) next)
 
 module _ (w : ℕ) (d name : List ℕ) (at place : ℕ) where
-  pub from-count : (v : Bool) (n next : ℕ) (is : CountIs d place v n next) → node_from w at place (after_name w name (drop place d)) ≡ node_from w at next (after_count w name is.of (drop next d))
+  pub from-count : (n : Option ℕ) (next : ℕ) (is : CountIs d place n next) → node_from w at place (after_name w name (drop place d)) ≡ node_from w at next (after_count w name is.of (drop next d))
   unfolding after_name
-  from-count v n next is =
+  from-count n next is =
       let q = is.after in
       let e : next ≡ place + (next - place) = omega arith in
       from-bind w at place next (next - place) is.of _ _ is.reads e ∙ rw (drop-to d place (next - place) next e)
 
-  no-count-by : (x : Read Records.Count) → C.Bad ≡ count_at place x → (k : Records.Count → ℕ → Read Head) → node_from w at place (bind x k) ≡ R.Bad
+  no-count-by : (x : Read Records.Count) → None ≡ count_at place x → (k : Records.Count → ℕ → Read Head) → node_from w at place (bind x k) ≡ None
   unfolding count_at
   no-count-by (bad a p) e k = from-bad w at place a p _ k refl
-  no-count-by (good c m) e k = let z : ◌≡◌ {A = ℕ} 0 1 = cc in absurd (omega arith)
+  no-count-by (good c m) e k = absurd (cc)
 
-  pub from-no-count : C.Bad ≡ count_at place (read_count 0 (drop place d)) → node_from w at place (after_name w name (drop place d)) ≡ R.Bad
+  pub from-no-count : None ≡ count_at place (read_count 0 (drop place d)) → node_from w at place (after_name w name (drop place d)) ≡ None
   unfolding after_name
   from-no-count e = no-count-by (read_count 0 (drop place d)) e _
 
@@ -233,12 +225,12 @@ module _ (w : ℕ) (d name : List ℕ) (at place : ℕ) where
         let e : next ≡ place + (next - place) = omega arith in
         from-bind w at place next (next - place) k _ _ is.reads e ∙ rw (drop-to d place (next - place) next e)
 
-    no-subtrees-by : (x : Read ℕ) → S.Bad ≡ subtrees_at place x → (k : ℕ → ℕ → Read Head) → node_from w at place (bind x k) ≡ R.Bad
+    no-subtrees-by : (x : Read ℕ) → None ≡ subtrees_at place x → (k : ℕ → ℕ → Read Head) → node_from w at place (bind x k) ≡ None
     unfolding subtrees_at
     no-subtrees-by (bad a p) e k = from-bad w at place a p _ k refl
-    no-subtrees-by (good c m) e k = let z : ◌≡◌ {A = ℕ} 0 1 = cc in absurd (omega arith)
+    no-subtrees-by (good c m) e k = absurd (cc)
 
-    pub from-no-subtrees : S.Bad ≡ subtrees_at place (read_subtrees 0 (drop place d)) → node_from w at place (after_count w name count (drop place d)) ≡ R.Bad
+    pub from-no-subtrees : None ≡ subtrees_at place (read_subtrees 0 (drop place d)) → node_from w at place (after_count w name count (drop place d)) ≡ None
     unfolding after_count
     from-no-subtrees e = no-subtrees-by (read_subtrees 0 (drop place d)) e _
 
@@ -247,13 +239,13 @@ module _ (w : ℕ) (d : List ℕ) (at z place k n : ℕ) (named : at ≤ z) (ins
   name-length : length (take (z - at) (drop at d)) ≡ z - at
   name-length = simp (length-take, length-drop) (omega arith)
 
-  pub from-short : length d - place < w → node_from w at place (after_subtrees w (take (z - at) (drop at d)) (Records.valid n) k (drop place d)) ≡ R.Bad
+  pub from-short : length d - place < w → node_from w at place (after_subtrees w (take (z - at) (drop at d)) (Records.valid n) k (drop place d)) ≡ None
   unfolding after_subtrees read_object need
   from-short h =
       let l : length (drop place d) < w = simp length-drop (omega arith) in
       rw (lt-leb _ _ l) (from-bad w {A = List ℕ} at place 15 0 (bad 15 0) _ refl)
 
-  pub from-valid : w ≤ length d - place → node_from w at place (after_subtrees w (take (z - at) (drop at d)) (Records.valid n) k (drop place d)) ≡ R.Good (record { nul = z; valid = true; count = n; subtrees = k; object = place; next = place + w })
+  pub from-valid : w ≤ length d - place → node_from w at place (after_subtrees w (take (z - at) (drop at d)) (Records.valid n) k (drop place d)) ≡ Some (record { nul = z; count = Some n; subtrees = k; object = place; next = place + w })
   unfolding after_subtrees read_object need node_from bind shift
   from-valid h =
       let l : w ≤ length (drop place d) = simp length-drop (omega arith) in
@@ -261,68 +253,62 @@ module _ (w : ℕ) (d : List ℕ) (at z place k n : ℕ) (named : at ≤ z) (ins
       let o : place + (w + 0) - w ≡ place = omega arith in
       rw (le-leb _ _ l, e, o, add-zero w)
 
-  pub from-invalid : node_from w at place (after_subtrees w (take (z - at) (drop at d)) Records.invalid k (drop place d)) ≡ R.Good (record { nul = z; valid = false; count = 0; subtrees = k; object = place; next = place })
+  pub from-invalid : node_from w at place (after_subtrees w (take (z - at) (drop at d)) Records.invalid k (drop place d)) ≡ Some (record { nul = z; count = None; subtrees = k; object = place; next = place })
   unfolding after_subtrees read_object node_from bind shift
   from-invalid =
       let e : at + length (take (z - at) (drop at d)) ≡ z = omega (arith, name-length) in
       let o : place + 0 - 0 ≡ place = omega arith in
       rw (e, o, add-zero place)
 
-valid-of : (c : Records.Count) → is_valid c ≡ true → c ≡ Records.valid (counted c)
-valid-of (Records.valid n) e = refl
-valid-of Records.invalid e = absurd (true≢false (sym e))
+valid-of : (c : Records.Count) (n : ℕ) → counted c ≡ Some n → c ≡ Records.valid n
+valid-of (Records.valid m) n e = ap Records.valid (cc)
+valid-of Records.invalid n e = absurd (cc)
 
-invalid-of : (c : Records.Count) → is_valid c ≡ false → c ≡ Records.invalid
-invalid-of (Records.valid n) e = absurd (true≢false e)
+invalid-of : (c : Records.Count) → counted c ≡ None → c ≡ Records.invalid
+invalid-of (Records.valid n) e = absurd (cc)
 invalid-of Records.invalid e = refl
 
 -- ---- the whole node
 
 module _ (w : ℕ) (d : List ℕ) (at z : ℕ) (named : z ≡ at + before 0 (drop at d)) (inside : z < length d) where
-  pub node-no-count : C.Bad ≡ count_at (z + 1) (read_count 0 (drop (z + 1) d)) → node_at w at (read_node w 0 (drop at d)) ≡ R.Bad
+  pub node-no-count : None ≡ count_at (z + 1) (read_count 0 (drop (z + 1) d)) → node_at w at (read_node w 0 (drop at d)) ≡ None
   node-no-count e = node-name w d at z named inside ∙ from-no-count w d _ at (z + 1) e
 
-  module _ (v : Bool) (n middle : ℕ) (c : CountIs d (z + 1) v n middle) where
-    pub node-no-subtrees : S.Bad ≡ subtrees_at middle (read_subtrees 0 (drop middle d)) → node_at w at (read_node w 0 (drop at d)) ≡ R.Bad
-    node-no-subtrees e = node-name w d at z named inside ∙ from-count w d _ at (z + 1) v n middle c ∙ from-no-subtrees w d _ at middle c.of e
+  module _ (n : Option ℕ) (middle : ℕ) (c : CountIs d (z + 1) n middle) where
+    pub node-no-subtrees : None ≡ subtrees_at middle (read_subtrees 0 (drop middle d)) → node_at w at (read_node w 0 (drop at d)) ≡ None
+    node-no-subtrees e = node-name w d at z named inside ∙ from-count w d _ at (z + 1) n middle c ∙ from-no-subtrees w d _ at middle c.of e
 
     module _ (k object : ℕ) (s : SubtreesIs d middle k object) where
       to-object : (count : Records.Count) → c.of ≡ count → node_at w at (read_node w 0 (drop at d)) ≡ node_from w at object (after_subtrees w (take (z - at) (drop at d)) count k (drop object d))
-      to-object count e = rw (← e) (node-name w d at z named inside ∙ from-count w d _ at (z + 1) v n middle c ∙ from-subtrees w d _ at middle c.of k object s)
+      to-object count e = rw (← e) (node-name w d at z named inside ∙ from-count w d _ at (z + 1) n middle c ∙ from-subtrees w d _ at middle c.of k object s)
 
       within : object ≤ length d
       within = s.within
 
-      node-valid : v ≡ true → w ≤ length d - object → node_at w at (read_node w 0 (drop at d)) ≡ R.Good (record { nul = z; valid = true; count = n; subtrees = k; object = object; next = object + w })
-      node-valid e h =
-          let o : c.of ≡ Records.valid n = valid-of c.of (c.says_valid ∙ e) ∙ ap Records.valid c.is_count in
-          to-object (Records.valid n) o ∙ from-valid w d at z object k n (omega arith) (omega arith) within h
+      node-valid : (v : ℕ) → n ≡ Some v → w ≤ length d - object → node_at w at (read_node w 0 (drop at d)) ≡ Some (record { nul = z; count = Some v; subtrees = k; object = object; next = object + w })
+      node-valid v e h = to-object (Records.valid v) (valid-of c.of v (c.is_count ∙ e)) ∙ from-valid w d at z object k v (omega arith) (omega arith) within h
 
-      node-invalid : v ≡ false → node_at w at (read_node w 0 (drop at d)) ≡ R.Good (record { nul = z; valid = false; count = n; subtrees = k; object = object; next = object + 0 })
-      node-invalid e =
-          let o : c.of ≡ Records.invalid = invalid-of c.of (c.says_valid ∙ e) in
-          let zero-count : n ≡ 0 = sym c.is_count ∙ ap counted o in
-          rw (zero-count, add-zero object) (to-object Records.invalid o ∙ from-invalid w d at z object k 0 (omega arith) (omega arith) within)
+      node-invalid : n ≡ None → node_at w at (read_node w 0 (drop at d)) ≡ Some (record { nul = z; count = None; subtrees = k; object = object; next = object + 0 })
+      node-invalid e = rw (add-zero object) (to-object Records.invalid (invalid-of c.of (c.is_count ∙ e)) ∙ from-invalid w d at z object k 0 (omega arith) (omega arith) within)
 
-      node-cut : v ≡ true → length d - object < w → node_at w at (read_node w 0 (drop at d)) ≡ R.Bad
-      node-cut e h =
-          to-object (Records.valid (counted c.of)) (valid-of c.of (c.says_valid ∙ e)) ∙ from-short w d at z object k (counted c.of) (omega arith) (omega arith) within h
+      node-cut : (v : ℕ) → n ≡ Some v → length d - object < w → node_at w at (read_node w 0 (drop at d)) ≡ None
+      node-cut v e h = to-object (Records.valid v) (valid-of c.of v (c.is_count ∙ e)) ∙ from-short w d at z object k v (omega arith) (omega arith) within h
 
     -- r is the length of its object name
-    module _ (k object : ℕ) (s : SubtreesIs d middle k object) (r : ℕ) (is : r ≡ cond v w 0) where
-      pub node-short : length d - object < r → node_at w at (read_node w 0 (drop at d)) ≡ R.Bad
-      node-short h = by v refl
+    module _ (k object : ℕ) (s : SubtreesIs d middle k object) (r : ℕ) (is : r ≡ object_after w n) where
+      pub node-short : length d - object < r → node_at w at (read_node w 0 (drop at d)) ≡ None
+      node-short h = by n refl
         where
-          by : (b : Bool) → v ≡ b → node_at w at (read_node w 0 (drop at d)) ≡ R.Bad
-          by true e = let q : r ≡ w = is ∙ ap (λ (b : Bool). cond b w 0) e in node-cut k object s e (omega arith)
-          by false e = let q : r ≡ 0 = is ∙ ap (λ (b : Bool). cond b w 0) e in absurd (omega arith)
+          by : (o : Option ℕ) → n ≡ o → node_at w at (read_node w 0 (drop at d)) ≡ None
+          by (Some v) e = let q : r ≡ w = is ∙ ap (object_after w) e in node-cut k object s v e (omega arith)
+          by None e = let q : r ≡ 0 = is ∙ ap (object_after w) e in absurd (omega arith)
 
-      pub node-good : r ≤ length d - object → node_at w at (read_node w 0 (drop at d)) ≡ R.Good (record { nul = z; valid = v; count = n; subtrees = k; object = object; next = object + r })
-      node-good h = by v refl
+      pub node-good : r ≤ length d - object → node_at w at (read_node w 0 (drop at d)) ≡ Some (record { nul = z; count = n; subtrees = k; object = object; next = object + r })
+      node-good h = by n refl
         where
-          by : (b : Bool) → v ≡ b → node_at w at (read_node w 0 (drop at d)) ≡ R.Good (record { nul = z; valid = v; count = n; subtrees = k; object = object; next = object + r })
-          by true e = let q : r ≡ w = is ∙ ap (λ (b : Bool). cond b w 0) e in rw (q, e) (node-valid k object s e (omega arith))
-          by false e = let q : r ≡ 0 = is ∙ ap (λ (b : Bool). cond b w 0) e in rw (q, e) (node-invalid k object s e)
+          by : (o : Option ℕ) → n ≡ o → node_at w at (read_node w 0 (drop at d)) ≡ Some (record { nul = z; count = n; subtrees = k; object = object; next = object + r })
+          by (Some v) e = let q : r ≡ w = is ∙ ap (object_after w) e in rw (q, e) (node-valid k object s v e (omega arith))
+          by None e = let q : r ≡ 0 = is ∙ ap (object_after w) e in rw (q, e) (node-invalid k object s e)
 
 -- ---- what a node's answer says of the format's reading
 
@@ -348,9 +334,9 @@ node-named w p s h m e =
     (sym (ap (λ (x : Head). x.node.name) same) ∙ sym text, omega arith, within)
 
 module _ {w : ℕ} (d : List ℕ) (at : ℕ) (inside : at ≤ length d) where
-  node-is-by : (node : Node) (x : Read Head) → read_node w 0 (drop at d) ≡ x → R.Good node ≡ node_at w at x → NodeIs w d at node
+  node-is-by : (node : Node) (x : Read Head) → read_node w 0 (drop at d) ≡ x → Some node ≡ node_at w at x → NodeIs w d at node
   unfolding node_at
-  node-is-by node (bad n p) q e = let z : ◌≡◌ {A = ℕ} 0 1 = cc in absurd (omega arith)
+  node-is-by node (bad n p) q e = absurd (cc)
   node-is-by node (good h m) q e =
       let is : node ≡ node_of w at h m = cc in
       let nul : node.nul ≡ at + length h.node.name = ap (λ (n : Node). n.nul) is in
@@ -373,15 +359,15 @@ module _ {w : ℕ} (d : List ℕ) (at : ℕ) (inside : at ≤ length d) where
         within = omega arith;
       }
 
-  pub node-is : (node : Node) → R.Good node ≡ node_at w at (read_node w 0 (drop at d)) → NodeIs w d at node
+  pub node-is : (node : Node) → Some node ≡ node_at w at (read_node w 0 (drop at d)) → NodeIs w d at node
   node-is node e = node-is-by node _ refl e
 
-no-node-by {ℓ} : (w : ℕ) {X : Type ℓ} (at : ℕ) (x : Read Head) → R.Bad ≡ node_at w at x → ((n p : ℕ) → x ≡ bad n p → X) → X
+no-node-by {ℓ} : (w : ℕ) {X : Type ℓ} (at : ℕ) (x : Read Head) → None ≡ node_at w at x → ((n p : ℕ) → x ≡ bad n p → X) → X
 unfolding node_at
 no-node-by w at (bad n p) e f = f n p refl
-no-node-by w at (good h m) e f = let z : ◌≡◌ {A = ℕ} 0 1 = cc in absurd (omega arith)
+no-node-by w at (good h m) e f = absurd (cc)
 
-pub no_node {ℓ} : (w : ℕ) {X : Type ℓ} (d : List ℕ) (at : ℕ) → R.Bad ≡ node_at w at (read_node w 0 (drop at d)) → ((n p : ℕ) → read_node w 0 (drop at d) ≡ bad n p → X) → X
+pub no_node {ℓ} : (w : ℕ) {X : Type ℓ} (d : List ℕ) (at : ℕ) → None ≡ node_at w at (read_node w 0 (drop at d)) → ((n p : ℕ) → read_node w 0 (drop at d) ≡ bad n p → X) → X
 no_node w d at e f = no-node-by w at (read_node w 0 (drop at d)) e f
 
 -- ---- the object name of a node that was read

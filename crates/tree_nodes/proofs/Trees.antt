@@ -9,7 +9,6 @@ use lib.Seq.{drop-drop}
 use lib.Dec.{eqb}
 use Rattle.format.specs.Bytes.{before}
 use Rattle.format.specs.Records.{Forest, nil, tree, Tree, items, tree_items}
-use Rattle.format.specs.Layout.{is_valid}
 use Rattle.format.specs.Reading.{Read, good}
 use Rattle.format.specs.Reader.{Head, read_nodes, read_node, read_forest}
 use Rattle.format_laws.proofs.Readings.{need-inv, bind_inv, good-inv}
@@ -18,7 +17,7 @@ use Rattle.tree_nodes.specs.Flat.{Reads, reads_none, reads_more, TreeAt, trees_l
 use Rattle.tree_nodes.proofs.Flat.{forest-reads, Levels, levels_none, levels_more, forest-shape, trees-none, trees-step, reads-length}
 use Rattle.tree_nodes.proofs.Nodes.{NodeIs, node-named}
 use Rattle.tree_nodes.specs.declared.node.Node as Code
-use Rattle.tree_nodes.specs.declared.node.NodeRead.TheVariants as R
+use Rattle.std.specs.Prelude.{Some, None}
 
 -- a tree is a list of one node
 pub tree-items : (t : Tree) → tree_items t ≡ items 1 (tree t.root t.subtrees nil)
@@ -119,25 +118,24 @@ reads_at s t f k j m r e i = rw (← e, ← i) r
 
 -- the node that is at a place, as it is read
 pub record NodeAt (node : Code.Node) (place own : ℕ) (h : Head) : Type 0 where
-  pub says_valid : node.valid ≡ is_valid h.node.count
   pub count : node.count ≡ counted h.node.count
   pub subtrees : node.subtrees ≡ h.subtrees
   pub next : node.next ≡ place + own
 
-pub node_at_lem : (w : ℕ) (node : Code.Node) (place own : ℕ) (h : Head) (r : Read Head) → r ≡ good h own → R.Good node ≡ node_at w place r → NodeAt node place own h
+pub node_at_lem : (w : ℕ) (node : Code.Node) (place own : ℕ) (h : Head) (r : Read Head) → r ≡ good h own → Some node ≡ node_at w place r → NodeAt node place own h
 unfolding node_at
 node_at_lem w node place own h r q e =
     let is : node ≡ node_of w place h own = good-is (e ∙ ap (node_at w place) q) in
-    rw is record { says_valid = refl; count = refl; subtrees = refl; next = refl }
+    rw is record { count = refl; subtrees = refl; next = refl }
   where
-    good-is : {x y : Code.Node} → R.Good x ≡ R.Good y → x ≡ y
+    good-is : {x y : Code.Node} → Some x ≡ Some y → x ≡ y
     good-is e = cc
 
-pub no-bad : (w place own : ℕ) (h : Head) (r : Read Head) → r ≡ good h own → R.Bad ≡ node_at w place r → ⊥
+pub no-bad : (w place own : ℕ) (h : Head) (r : Read Head) → r ≡ good h own → None ≡ node_at w place r → ⊥
 unfolding node_at
 no-bad w place own h r q e = let z : ◌≡◌ {A = ℕ} 0 1 = bad-good (e ∙ ap (node_at w place) q) in omega arith
   where
-    bad-good : {x : Code.Node} → R.Bad ≡ R.Good x → ◌≡◌ {A = ℕ} 0 1
+    bad-good : {x : Code.Node} → None ≡ Some x → ◌≡◌ {A = ℕ} 0 1
     bad-good e = cc
 
 -- ---- a whole tree

@@ -3,10 +3,11 @@ ghost use Rattle.std.specs.Prelude.{◌≡◌, suc, ◌+◌, ◌-◌, ◌≤◌,
 ghost use Rattle.tree_nodes.specs.Flat.{trees_length, SiblingAt};
 ghost use Rattle.tree_nodes.specs.Levels.{stack_of, climbed, passed, NodeFound};
 
-use crate::node::{NodeRead, read_node};
+use crate::node::read_node;
 use fields::find;
 
-// The place of a node in the data and its level, from 1 on.
+// The place of a node in the data and its level, from 1 on. The passes answer a place for any data, the end where there is no such node, and promise
+// of it what the format says of any data: an Option would promise less.
 #[derive(Clone, Copy)]
 pub struct NodePlace {
     pub place: usize,
@@ -20,22 +21,13 @@ pub struct Sibling {
     pub next: usize,
 }
 
-fn one_less(n: u32) -> u32
-    ensures { result ≡ n - 1 }
-{
-    if n == 0 {
-        return 0;
-    }
-    n - 1
-}
-
 // A node at a depth is passed: one sibling less remains there, and its subtrees remain one depth further down, if it has any. No tree
 // that was read has subtrees below depth 127.
 fn enter(remaining: &mut [u32; 128], depth: usize, subtrees: u32) -> usize
     requires { (length remaining.old ≡ 128) × (depth < 128) }
     ensures { (length remaining.new ≡ 128) × (result < 128) × ((0 < subtrees → depth < 127) → climbed (stack_of remaining.new (suc result)) ≡ passed subtrees (stack_of remaining.old (suc depth))) }
 {
-    remaining[depth] = one_less(remaining[depth]);
+    remaining[depth] = remaining[depth].saturating_sub(1);
     if subtrees == 0 {
         return depth;
     }
@@ -51,12 +43,10 @@ fn climb(remaining: &[u32; 128], depth: usize) -> usize
     requires { depth < 128 }
     ensures { (result < 128) × (stack_of remaining.now (suc result) ≡ climbed (stack_of remaining.now (suc depth))) }
 {
-    let mut at = depth;
-    while 0 < at {
+    for at in (1..=depth).rev() {
         if 0 < remaining[at] {
             return at;
         }
-        at -= 1;
     }
     0
 }
@@ -70,23 +60,16 @@ pub fn find_node(d: &[u8], k: u32, w: usize) -> NodePlace
     remaining[0] = 1;
     let mut depth: usize = 0;
     let mut place: usize = 0;
-    let mut left = k;
-    while 0 < left {
-        let read = read_node(d, place, w);
-        match read {
-            NodeRead::Bad => {
-                return NodePlace {
-                    place: d.len(),
-                    level: 0,
-                };
-            }
-            NodeRead::Good(node) => {
-                let below = enter(&mut remaining, depth, node.subtrees);
-                depth = climb(&remaining, below);
-                place = node.next;
-                left -= 1;
-            }
-        }
+    for _ in 0..k {
+        let Some(node) = read_node(d, place, w) else {
+            return NodePlace {
+                place: d.len(),
+                level: 0,
+            };
+        };
+        let below = enter(&mut remaining, depth, node.subtrees);
+        depth = climb(&remaining, below);
+        place = node.next;
     }
     NodePlace {
         place: place,
@@ -100,18 +83,14 @@ pub fn after_trees(d: &[u8], at: usize, k: u32, w: usize) -> usize
     ensures { (result ≡ at + trees_length w k (drop at d.now)) × (result ≤ length d.now) }
 {
     let mut place = at;
-    let mut pending = k as u64;
+    let mut pending = u64::from(k);
+    // No count: each node adds those below it.
     while 0 < pending {
-        let read = read_node(d, place, w);
-        match read {
-            NodeRead::Bad => {
-                return d.len();
-            }
-            NodeRead::Good(node) => {
-                place = node.next;
-                pending = pending - 1 + node.subtrees as u64;
-            }
-        }
+        let Some(node) = read_node(d, place, w) else {
+            return d.len();
+        };
+        place = node.next;
+        pending = pending - 1 + u64::from(node.subtrees);
     }
     place
 }
@@ -129,13 +108,12 @@ pub fn sibling_at(d: &[u8], at: usize, w: usize) -> Sibling
     requires { (at ≤ length d.now) × (length d.now ≤ 16777216) }
     ensures { SiblingAt w d.now at result }
 {
-    let read = read_node(d, at, w);
-    match read {
-        NodeRead::Bad => Sibling {
+    match read_node(d, at, w) {
+        None => Sibling {
             nul: find(d, at, 0),
             next: d.len(),
         },
-        NodeRead::Good(node) => Sibling {
+        Some(node) => Sibling {
             nul: node.nul,
             next: after_trees(d, node.next, node.subtrees, w),
         },

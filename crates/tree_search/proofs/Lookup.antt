@@ -1,4 +1,5 @@
 -- Laws of what a table tells of a name. w is the width of an object name.
+use Rattle.std.proofs.Common.{Some, None}
 use mathlib.Core.Path.{◌≡◌, sym, subst, ◌∙◌}
 use mathlib.Core.List.{List}
 use mathlib.Core.Bool.{true, false, not}
@@ -15,8 +16,6 @@ use Rattle.tree_counts.specs.Counts.{child}
 use Rattle.format_laws.proofs.Tests.{and-inv₃}
 use Rattle.tree_nodes.specs.Flat.{name_of, Reads}
 use Rattle.tree_table.specs.Keys.{key_in, slot_in, is_of}
-use Rattle.tree_search.specs.declared.child.Child.TheVariants as C
-use Rattle.tree_search.specs.declared.child.Answer.TheVariants as A
 use Rattle.tree_search.specs.declared.table.Region.{Region}
 use Rattle.tree_search.specs.Siblings.{FoundAt, AnswerHolds}
 use Rattle.tree_search.specs.Table.{place_at, Inside, PutDown, TableKnown, Known, first_slot, slots_of, list_of}
@@ -84,13 +83,13 @@ module _ {w : ℕ} (region : Region) (d t : List ℕ) (known : Known w d t) (at 
   }
 
 module _ {w : ℕ} (d : List ℕ) (at k : ℕ) (name : List ℕ) (number : ℕ) (x : Tells w d at k name number) where
-  pub tells_none : at ≤ length d → number ≡ 0 → AnswerHolds w d at k name (A.Known C.Missing)
+  pub tells_none : at ≤ length d → number ≡ 0 → AnswerHolds w d at k name (Some None)
   tells_none l e = record { least = l; most = omega arith; is = λ f m differ r. x.missing f m differ r e }
 
   -- the place of one
   module _ (some : 2 ≤ number) (place : ℕ) (is : place ≡ number - 2) where
-    pub tells-here : eq_list name (name_of (drop place d)) ≡ true → AnswerHolds w d at k name (A.Known (C.Found place))
+    pub tells-here : eq_list name (name_of (drop place d)) ≡ true → AnswerHolds w d at k name (Some (Some place))
     tells-here e = record { least = omega (arith, x.least some); most = omega (arith, x.most); is = λ f m differ r. rw is (x.here f m differ r some (rw is at e)) }
 
-    pub tells-other : at ≤ length d → eq_list name (name_of (drop place d)) ≡ false → AnswerHolds w d at k name (A.Known C.Missing)
+    pub tells-other : at ≤ length d → eq_list name (name_of (drop place d)) ≡ false → AnswerHolds w d at k name (Some None)
     tells-other l e = record { least = l; most = omega arith; is = λ f m differ r. x.other f m differ r some (rw is at e) }

@@ -218,14 +218,15 @@ module _ (region : Region) (d : List ℕ) (at k : ℕ) where
       empty i a b = let e : slots_of region + i ≡ from + slots + (i - from) = omega arith in ap (λ (j : ℕ). get_or t' j 0) e ∙ clear (i - from) (omega arith)
 
   module _ {w : ℕ} (t : List ℕ) (place left : ℕ) (x : Filling w region d at k t place left) where
-    pub filling-on : 0 < left → (next : ℕ) → next ≡ place + trees_length w 1 (drop place d) → next ≤ length d → Filling w region d at k (with_place (first_slot region) (slots_of region) d place t) next (left - 1)
-    filling-on some_left next is l = record {
+    pub filling-on : 0 < left → (next rest : ℕ) → next ≡ place + trees_length w 1 (drop place d) → next ≤ length d → rest ≡ left - 1
+        → Filling w region d at k (with_place (first_slot region) (slots_of region) d place t) next rest
+    filling-on some_left next rest is l rest-is = record {
       least = omega (arith, x.least);
       most = l;
       vacant = vacant-stays region t _ (place-cells region d place t) x.vacant;
       known = known-stays region t _ (place-cells region d place t) x.vacant d x.known;
       inside = place_inside (first_slot region) (slots_of region) (region-many region) t (omega (arith, region-fits region)) x.vacant.long d at place x.least x.most x.inside;
-      is = λ f m differ r. placing-on (first_slot region) (slots_of region) (region-many region) t (omega (arith, region-fits region)) x.vacant.long d f place left (x.is f m differ r) some_left next is;
+      is = λ f m differ r. rw rest-is (placing-on (first_slot region) (slots_of region) (region-many region) t (omega (arith, region-fits region)) x.vacant.long d f place left (x.is f m differ r) some_left next is);
     }
 
     pub filling-end : left ≤ 0 → Known w d (set (set t (list_of region) at) (list_of region + 1) k)

@@ -1,14 +1,12 @@
 -- A row of cursors at work. w is the width of an object name.
-use Rattle.std.specs.Prelude.{◌≡◌, List, Bool, true, ℕ, ◌+◌, ◌*◌, ◌≤◌, ◌<◌, length, get_or}
-use Rattle.tree_search.specs.declared.child.Child.TheVariants as C
-use Rattle.tree_search.specs.declared.child.Answer.TheVariants as A
+use Rattle.std.specs.Prelude.{◌≡◌, List, Bool, true, ℕ, ◌+◌, ◌*◌, ◌≤◌, ◌<◌, length, get_or, Some}
 use Rattle.tree_search.specs.Siblings.{Cursor, AnswerHolds}
 use Rattle.tree_search.specs.Table.{Known}
 
 -- a cursor over the k siblings at a place that went on after a look for a name: a name that was found is at it
 pub record Moved (w : ℕ) (d : List ℕ) (at k : ℕ) (name : List ℕ) (found : Bool) (place left : ℕ) : Type 0 where
   pub cursor : Cursor w d at k place left
-  pub told : found ≡ true → AnswerHolds w d at k name (A.Known (C.Found place))
+  pub told : found ≡ true → AnswerHolds w d at k name (Some (Some place))
 
 -- the row of a level is of the k siblings at a place in the data, and there are some
 pub record RowOf (w : ℕ) (d : List ℕ) (at k level : ℕ) (t : List ℕ) : Type 0 where

@@ -5,22 +5,8 @@ ghost use Rattle.tree_nodes.specs.Flat.{name_of};
 ghost use Rattle.tree_search.specs.Siblings.{Finds};
 
 use fields::{find, same};
-use tree_nodes::node::{NodeRead, read_node};
+use tree_nodes::node::read_node;
 use tree_nodes::passes::after_tree;
-
-// Where the sibling is.
-#[derive(Clone, Copy)]
-pub enum Child {
-    Missing,
-    Found(usize),
-}
-
-// What can be told at once.
-#[derive(Clone, Copy)]
-pub enum Answer {
-    Unknown,
-    Known(Child),
-}
 
 // Whether the node at a place has this name.
 pub fn is_named(d: &[u8], at: usize, name: &[u8]) -> bool
@@ -31,21 +17,19 @@ pub fn is_named(d: &[u8], at: usize, name: &[u8]) -> bool
     same(name, &d[at..nul])
 }
 
-// The first of k siblings at a place that has this name.
-pub fn scan(d: &[u8], at: usize, k: u32, name: &[u8], w: usize) -> Child
+// Where the first of k siblings at a place is that has this name, if one has it.
+pub fn scan(d: &[u8], at: usize, k: u32, name: &[u8], w: usize) -> Option<usize>
     requires { (at ≤ length d.now) × (length d.now ≤ 16777216) }
     ensures { Finds w d.now at k name.now result }
 {
     let mut place = at;
-    let mut left = k;
-    while 0 < left {
+    for _ in 0..k {
         if is_named(d, place, name) {
-            return Child::Found(place);
+            return Some(place);
         }
         place = after_tree(d, place, w);
-        left -= 1;
     }
-    Child::Missing
+    None
 }
 
 // Whether k trees at a place take more than limit bytes. The look at them ends there. It only chooses how to search: nothing rests on the answer.
@@ -53,17 +37,17 @@ pub fn is_longer(d: &[u8], at: usize, k: u32, limit: usize, w: usize) -> bool
     requires { (at ≤ length d.now) × (length d.now ≤ 16777216) }
 {
     let mut place = at;
-    let mut pending = k as u64;
+    let mut pending = u64::from(k);
+    // No count: the nodes below each node are still to come.
     while 0 < pending {
         if limit < place - at {
             return true;
         }
-        let read = read_node(d, place, w);
-        let NodeRead::Good(node) = read else {
+        let Some(node) = read_node(d, place, w) else {
             return true;
         };
         place = node.next;
-        pending = pending - 1 + node.subtrees as u64;
+        pending = pending - 1 + u64::from(node.subtrees);
     }
     false
 }

@@ -1,19 +1,18 @@
 // Cursors over lists of siblings. Names of entries rise in the index's order, so siblings in that order are asked for one after another; in Git's order
 // those of one length are. A cursor is a place in a list and the number of siblings from it on; it passes no sibling twice. Each of the upper levels has
-// a row of cursors for the list that is walked there: one for the index's order, and one for each length of a name.
-// w is the width of an object name.
+// a row of cursors for the list that is walked there: one for the index's order, and one for each length of a name. Memory is fixed, so rows are parts of
+// the one array that the tree was read with, and no structs of their own. w is the width of an object name.
 ghost use Rattle.std.specs.Prelude.{◌≡◌, List, true, ℕ, ◌+◌, ◌*◌, ◌≤◌, ◌<◌, length, get_or, drop};
 ghost use Rattle.format.specs.Bytes.{eq_list};
-ghost use Rattle.format.specs.declared.Order.TheVariants as O;
+ghost use Rattle.std.specs.declared.cmp.Ordering.TheVariants.{Equal};
 ghost use Rattle.tree_nodes.specs.Flat.{name_of};
 ghost use Rattle.tree_search.specs.Siblings.{Cursor, AnswerHolds};
 ghost use Rattle.tree_search.specs.Table.{Known};
 ghost use Rattle.tree_search.specs.Rows.{Moved, RowOf};
 
-use crate::child::{Answer, Child};
 use cache_tree::orders::slash_below;
 use fields::{common, find};
-use format::Order;
+use std::cmp::Ordering;
 use tree_nodes::passes::after_tree;
 use tree_table::{Table, clear, is_of, place_of, set_list};
 
@@ -31,33 +30,33 @@ const LENGTHS: usize = 15;
 // Where the rows' lists begin in the array: for each row the place of its list, the number of siblings, and 1 where the cursors for lengths are set.
 const ROW_LISTS: usize = 3078;
 
-// The order of two names, each followed by "/". Below and Above only choose how to search: nothing rests on them.
-fn order_of(s: &[u8], t: &[u8]) -> Order
-    ensures { result ≡ O.Same → s.now ≡ t.now }
+// The order of two names, each followed by "/". Less and Greater only choose how to search: nothing rests on them.
+fn order_of(s: &[u8], t: &[u8]) -> Ordering
+    ensures { result ≡ Equal → s.now ≡ t.now }
 {
     let n = common(s, t);
     if s.len() <= n && t.len() <= n {
-        return Order::Same;
+        return Ordering::Equal;
     }
     if slash_below(s, t, n) {
-        return Order::Below;
+        return Ordering::Less;
     }
-    Order::Above
+    Ordering::Greater
 }
 
 // The order of the sibling at a place and a name. By length, a sibling of another length is above it, so that the cursor for a length stays there.
-fn order_at(d: &[u8], place: usize, name: &[u8], by_length: bool) -> Order
+fn order_at(d: &[u8], place: usize, name: &[u8], by_length: bool) -> Ordering
     requires { place ≤ length d.now }
-    ensures { result ≡ O.Same → eq_list name.now (name_of (drop place d.now)) ≡ true }
+    ensures { result ≡ Equal → eq_list name.now (name_of (drop place d.now)) ≡ true }
 {
     let nul = find(d, place, 0);
     if by_length && nul - place != name.len() {
-        return Order::Above;
+        return Ordering::Greater;
     }
     order_of(&d[place..nul], name)
 }
 
-// Whether a name was found, and where the cursor goes on.
+// Whether a name was found, and where the cursor goes on. The flag is no Option of the place, which counts in both cases.
 #[derive(Clone, Copy)]
 struct Ahead {
     found: bool,
@@ -71,34 +70,21 @@ fn find_ahead(d: &[u8], name: &[u8], from: usize, count: u32, by_length: bool, w
     ensures { (result.place ≤ length d.now) × ((at k : ℕ) → Cursor w d.now at k from count → Moved w d.now at k name.now result.found result.place result.left) }
 {
     let mut place = from;
-    let mut left = count;
-    while 0 < left {
+    for passed in 0..count {
         let order = order_at(d, place, name, by_length);
-        match order {
-            Order::Below => {
-                place = after_tree(d, place, w);
-                left -= 1;
-            }
-            Order::Same => {
-                return Ahead {
-                    found: true,
-                    place: place,
-                    left: left,
-                };
-            }
-            Order::Above => {
-                return Ahead {
-                    found: false,
-                    place: place,
-                    left: left,
-                };
-            }
+        if order != Ordering::Less {
+            return Ahead {
+                found: order == Ordering::Equal,
+                place,
+                left: count - passed,
+            };
         }
+        place = after_tree(d, place, w);
     }
     Ahead {
         found: false,
-        place: place,
-        left: left,
+        place,
+        left: 0,
     }
 }
 
@@ -134,22 +120,22 @@ fn find_by_cursor(
     by_length: bool,
     t: &mut Table,
     w: usize,
-) -> Answer
+) -> Option<Option<usize>>
     requires { (c < 16) × (length d.now ≤ 16777216) × RowOf w d.now (get_or t.old (3078 + level * 3) 0) (get_or t.old (3078 + level * 3 + 1) 0) level t.old }
     ensures { (at k : ℕ) → RowOf w d.now at k level t.old → AnswerHolds w d.now at k name.now result × RowOf w d.now at k level t.new }
 {
     let i = cell_of(level, c);
     let count = t[i + 1];
     if count == 0 {
-        return Answer::Unknown;
+        return None;
     }
     let from = place_of(t[i]);
     let ahead = find_ahead(d, name, from, count, by_length, w);
     set_list(t, i, ahead.place, ahead.left);
     if ahead.found {
-        return Answer::Known(Child::Found(ahead.place));
+        return Some(Some(ahead.place));
     }
-    Answer::Unknown
+    None
 }
 
 // The row of a level is of the k siblings at a place. If it was not, its first cursor is at the first of them, and the others are not set.
@@ -186,11 +172,9 @@ fn set_cursors(d: &[u8], at: usize, k: u32, level: usize, t: &mut Table, w: usiz
     ensures { RowOf w d.now at k level t.new }
 {
     let mut place = at;
-    let mut left = k;
-    while 0 < left {
-        set_cursor(d, place, left, level, t);
+    for passed in 0..k {
+        set_cursor(d, place, k - passed, level, t);
         place = after_tree(d, place, w);
-        left -= 1;
     }
     t[list_of(level) + 2] = 1;
 }
@@ -205,20 +189,20 @@ fn find_in_row(
     level: usize,
     t: &mut Table,
     w: usize,
-) -> Answer
+) -> Option<Option<usize>>
     requires { (length d.now ≤ 16777216) × RowOf w d.now at k level t.old }
     ensures { AnswerHolds w d.now at k name.now result × Known w d.now t.new }
 {
     let c = cursor_for(name.len());
     if t[list_of(level) + 2] == 1 {
         let told = find_by_cursor(d, name, level, c, true, t, w);
-        if let Answer::Known(_) = told {
+        if told.is_some() {
             return told;
         }
         return find_by_cursor(d, name, level, 0, false, t, w);
     }
     let next = find_by_cursor(d, name, level, 0, false, t, w);
-    if let Answer::Known(_) = next {
+    if next.is_some() {
         return next;
     }
     set_cursors(d, at, k, level, t, w);
@@ -234,15 +218,15 @@ pub fn find_in_order(
     level: u32,
     t: &mut Table,
     w: usize,
-) -> Answer
+) -> Option<Option<usize>>
     requires { (at ≤ length d.now) × (length d.now ≤ 16777216) × Known w d.now t.old }
     ensures { AnswerHolds w d.now at k name.now result × Known w d.now t.new }
 {
     if k == 0 {
-        return Answer::Known(Child::Missing);
+        return Some(None);
     }
     if LEVELS <= level {
-        return Answer::Unknown;
+        return None;
     }
     let upper = level as usize;
     open_row(at, k, upper, t);

@@ -1,12 +1,12 @@
-// Two tables, each of some siblings of a list: of those whose keys are in it, one pass over the list puts down where each is. w is
-// the width of an object name.
+// Two tables, each of some siblings of a list: of those whose keys are in it, one pass over the list puts down where each is. Memory is fixed, so they are
+// parts of the one array that the tree was read with, and no structs or enums of their own. w is the width of an object name.
 ghost use Rattle.std.specs.Prelude.{◌≡◌, List, ℕ, ◌≤◌, ◌<◌, length};
 ghost use Rattle.tree_nodes.specs.Flat.{EndsAt};
 ghost use Rattle.tree_search.specs.Siblings.{AnswerHolds};
 ghost use Rattle.tree_search.specs.Table.{Known, Vacant, with_place, first_slot, slots_of, list_of};
 ghost use Rattle.tree_search.specs.declared.table.Region.{Region};
 
-use crate::child::{Answer, Child, is_named};
+use crate::child::is_named;
 use cache_tree::differ::key_at;
 use tree_nodes::passes::sibling_at;
 use tree_table::{Table, clear, has_seed, is_of, key_of, make_seed, place_of, set_list, slot_of};
@@ -39,30 +39,40 @@ const SHORT_LIST: usize = LISTS;
 
 const LONG_LIST: usize = LISTS + 2;
 
-fn first_slot(region: Region) -> usize
-    ensures { (result ≡ first_slot region) × (result ≤ 1024) }
-{
-    match region {
-        Region::Short => SHORT_KEYS,
-        Region::Long => LONG_KEYS,
+impl Region {
+    fn first_slot(self) -> usize
+        ensures { (result ≡ first_slot self) × (result ≤ 1024) }
+    {
+        match self {
+            Region::Short => SHORT_KEYS,
+            Region::Long => LONG_KEYS,
+        }
     }
-}
 
-fn slots_of(region: Region) -> usize
-    ensures { (result ≡ slots_of region) × (512 ≤ result) × (result ≤ 1024) }
-{
-    match region {
-        Region::Short => SHORT_SLOTS,
-        Region::Long => LONG_SLOTS,
+    fn slots(self) -> usize
+        ensures { (result ≡ slots_of self) × (512 ≤ result) × (result ≤ 1024) }
+    {
+        match self {
+            Region::Short => SHORT_SLOTS,
+            Region::Long => LONG_SLOTS,
+        }
     }
-}
 
-fn list_of(region: Region) -> usize
-    ensures { (result ≡ list_of region) × (result ≤ 3076) }
-{
-    match region {
-        Region::Short => SHORT_LIST,
-        Region::Long => LONG_LIST,
+    fn list(self) -> usize
+        ensures { (result ≡ list_of self) × (result ≤ 3076) }
+    {
+        match self {
+            Region::Short => SHORT_LIST,
+            Region::Long => LONG_LIST,
+        }
+    }
+
+    // How many keys the table takes: three quarters of its slots. It only chooses how to search: nothing rests on the answer.
+    pub fn most_keys(self) -> u32 {
+        match self {
+            Region::Short => 384,
+            Region::Long => 576,
+        }
     }
 }
 
@@ -72,14 +82,6 @@ pub fn reset(t: &mut Table)
     ensures { ((w : ℕ) (d : List ℕ) → Known w d t.new) × ((region : Region) → Vacant region t.new) }
 {
     clear(t, LISTS, LIST_NUMBERS);
-}
-
-// How many keys a table takes: three quarters of its slots. It only chooses how to search: nothing rests on the answer.
-pub fn most_keys(region: Region) -> u32 {
-    match region {
-        Region::Short => 384,
-        Region::Long => 576,
-    }
 }
 
 // The seed is made from data, if it was not made yet. The keys in the tables were made with another, so these are of no list then.
@@ -101,8 +103,8 @@ pub fn begin(d: &[u8], region: Region, t: &mut Table, w: usize)
     ensures { Known w d.now t.new × Vacant region t.new }
 {
     seed_tables(d, t, w);
-    set_list(t, list_of(region), 0, 0);
-    clear(t, first_slot(region), slots_of(region));
+    set_list(t, region.list(), 0, 0);
+    clear(t, region.first_slot(), region.slots());
 }
 
 // A key is in a table that is of no list. How many were added.
@@ -110,7 +112,7 @@ pub fn put_key(region: Region, key: u32, t: &mut Table) -> u32
     requires { Vacant region t.old }
     ensures { (result < 2) × Vacant region t.new × ((w : ℕ) (d : List ℕ) → Known w d t.old → Known w d t.new) }
 {
-    let i = slot_of(t, first_slot(region), slots_of(region), key);
+    let i = slot_of(t, region.first_slot(), region.slots(), key);
     if t[i] == key {
         return 0;
     }
@@ -124,8 +126,8 @@ fn put_place(d: &[u8], place: usize, nul: usize, region: Region, t: &mut Table)
     ensures { t.new ≡ with_place (first_slot region) (slots_of region) d.now place t.old }
 {
     let key = key_at(d, place, nul, t);
-    let slots = slots_of(region);
-    let i = slot_of(t, first_slot(region), slots, key);
+    let slots = region.slots();
+    let i = slot_of(t, region.first_slot(), slots, key);
     if t[i] != key {
         return;
     }
@@ -141,20 +143,18 @@ pub fn put_places(d: &[u8], at: usize, k: u32, region: Region, t: &mut Table, w:
     requires { (at ≤ length d.now) × (length d.now ≤ 16777216) × Vacant region t.old × Known w d.now t.old }
     ensures { Known w d.now t.new }
 {
-    let slots = slots_of(region);
-    clear(t, first_slot(region) + slots, slots);
+    let slots = region.slots();
+    clear(t, region.first_slot() + slots, slots);
     let mut place = at;
-    let mut left = k;
-    while 0 < left {
+    for _ in 0..k {
         let sibling = sibling_at(d, place, w);
         put_place(d, place, sibling.nul, region, t);
         place = sibling.next;
-        left -= 1;
     }
-    set_list(t, list_of(region), at, k);
+    set_list(t, region.list(), at, k);
 }
 
-// What a table says of a name among the k siblings at a place.
+// What a table says of a name among the k siblings at a place: nothing, that none has it, or where the one is that has it.
 pub fn find_in_table(
     d: &[u8],
     at: usize,
@@ -163,29 +163,29 @@ pub fn find_in_table(
     region: Region,
     t: &Table,
     w: usize,
-) -> Answer
+) -> Option<Option<usize>>
     requires { (at ≤ length d.now) × (length d.now ≤ 16777216) × Known w d.now t.now }
     ensures { AnswerHolds w d.now at k name.now result }
 {
-    if !is_of(t, list_of(region), at, k) {
-        return Answer::Unknown;
+    if !is_of(t, region.list(), at, k) {
+        return None;
     }
     let key = key_of(name, t);
-    let slots = slots_of(region);
-    let i = slot_of(t, first_slot(region), slots, key);
+    let slots = region.slots();
+    let i = slot_of(t, region.first_slot(), slots, key);
     if t[i] != key {
-        return Answer::Unknown;
+        return None;
     }
     let number = t[slots + i];
     if number == 0 {
-        return Answer::Known(Child::Missing);
+        return Some(None);
     }
     if number == 1 {
-        return Answer::Unknown;
+        return None;
     }
     let place = place_of(number) - 2;
     if is_named(d, place, name) {
-        return Answer::Known(Child::Found(place));
+        return Some(Some(place));
     }
-    Answer::Known(Child::Missing)
+    Some(None)
 }

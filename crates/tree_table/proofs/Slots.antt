@@ -4,10 +4,12 @@ use mathlib.Core.List.{List, [], ◌∷◌}
 use Prim.Native.Nat.{ℕ, zero, suc, ◌+◌, ◌*◌, ◌-◌, ◌/◌, ◌%◌, ◌≤◌, ◌<◌}
 use native.Mathlib.Nat.{mod-lt}
 use native.Mathlib.Omega.{arith}
-use lib.ListN.{length, get_or, set, drop, drop_of_length-le, length-set}
-use lib.Seq.{drop-cons, get_or-set_same, get_or-set_other}
+use lib.ListN.{length, get_or, set, take, drop, drop_of_length-le, length-set}
+use lib.Seq.{drop-cons, drop-drop, get_or-set_same, get_or-set_other}
 use lib.Dec.{eqb, ltb}
 use borrow.Author.Tests.{eq-eqb, ne_eqb, eqb-true, eqb-false, ltb-true, ltb-false}
+use Rattle.std.proofs.Common.{get_or-take, get_or-drop}
+use Rattle.std.specs.Simd.{first_chunks}
 use Rattle.format_laws.proofs.Tests.{by-test}
 use Rattle.tree_table.specs.Keys.{fold, step_key, last_key, key_from, key_in, step_of, next_slot, probe, slot_in, SeedOnly}
 
@@ -30,6 +32,17 @@ module _ (m n h : ℕ) (s : List ℕ) (i : ℕ) where
       let e : i + 1 ≡ suc i = omega arith in
       let e₂ : i + 2 ≡ suc (suc i) = omega arith in
       rw (e, e₂, drop-cons s i 0 l₁, drop-cons s (suc i) 0 l₂)
+
+-- the bytes of pair number i
+pair_at : (k i : ℕ) (s : List ℕ) → i < k → get_or (first_chunks 2 k s) i [] ≡ take 2 (drop (i * 2) s)
+pair_at zero i s l = absurd (omega arith)
+pair_at (suc k) zero s l = refl
+pair_at (suc k) (suc i) s l =
+    let e : 2 + i * 2 ≡ suc i * 2 = omega arith in
+    pair_at k i (drop 2 s) (omega arith) ∙ ap (take 2) (drop-drop (i * 2) 2 s ∙ ap (λ (n : ℕ). drop n s) e)
+
+pub pair-byte : (s : List ℕ) (p : List (List ℕ)) (k i j : ℕ) → p ≡ first_chunks 2 k s → i < k → j < 2 → get_or (get_or p i []) j 0 ≡ get_or s (i * 2 + j) 0
+pair-byte s p k i j e l few = ap (λ (x : List (List ℕ)). get_or (get_or x i []) j 0) e ∙ rw (pair_at k i s l, get_or-take, get_or-drop)
 
 -- ---- the slot of a key, one after another
 

@@ -6,7 +6,7 @@
 ghost use Rattle.std.specs.Prelude.{◌≡◌, ℕ, ◌+◌, ◌*◌, ◌%◌, ◌≤◌, ◌<◌, length, get_or, set};
 ghost use Rattle.tree_table.specs.Keys.{step_key, last_key, key_in, step_of, next_slot, slot_in, SeedOnly, is_of};
 
-use fields::{read32, wide64};
+use fields::read32;
 
 // How many numbers the array of a table has. A contract cannot name a constant of the code, so contracts say 3126.
 pub const NUMBERS: usize = 3126;
@@ -43,7 +43,7 @@ fn last_key(h: u64, n: u64) -> u32
 fn multiplier(x: u32) -> u64
     ensures { (result ≡ x % 1073741824) × (result < 1073741824) }
 {
-    x as u64 % 1073741824
+    u64::from(x) % 1073741824
 }
 
 // The key of a name: two bytes are a digit, and the two numbers take turns, so that no search for one of them finds names with the same key.
@@ -53,16 +53,13 @@ pub fn key_of(s: &[u8], t: &Table) -> u32
     let mut m = multiplier(t[SEED]);
     let mut n = multiplier(t[SEED + 1]);
     let mut h: u64 = 0;
-    let mut i = 0;
-    while i + 1 < s.len() {
-        h = step_key(m, h, wide64(s[i]) + wide64(s[i + 1]) * 256);
-        i += 2;
-        let k = m;
-        m = n;
-        n = k;
+    let (pairs, odd) = s.as_chunks::<2>();
+    for pair in pairs {
+        h = step_key(m, h, u64::from(pair[0]) + u64::from(pair[1]) * 256);
+        (m, n) = (n, m);
     }
-    if i < s.len() {
-        return last_key(step_key(m, h, wide64(s[i]) + 65536), n);
+    if odd.len() == 1 {
+        return last_key(step_key(m, h, u64::from(odd[0]) + 65536), n);
     }
     last_key(h, n)
 }
@@ -109,8 +106,7 @@ pub fn slot_of(t: &Table, from: usize, slots: usize, key: u32) -> usize
 {
     let step = step_of(key);
     let mut i = key as usize % slots;
-    let mut left = slots - 1;
-    while 0 < left {
+    for _ in 1..slots {
         if t[from + i] == key {
             return from + i;
         }
@@ -118,7 +114,6 @@ pub fn slot_of(t: &Table, from: usize, slots: usize, key: u32) -> usize
             return from + i;
         }
         i = next_slot(i, step, slots);
-        left -= 1;
     }
     from + i
 }
@@ -128,11 +123,7 @@ pub fn clear(t: &mut Table, from: usize, n: usize)
     requires { from + n ≤ 3126 }
     ensures { (length t.new ≡ length t.old) × ((i : ℕ) → i < n → get_or t.new (from + i) 0 ≡ 0) × ((i : ℕ) → (from ≤ i → i < from + n → ⊥) → get_or t.new i 0 ≡ get_or t.old i 0) }
 {
-    let mut i = 0;
-    while i < n {
-        t[from + i] = 0;
-        i += 1;
-    }
+    t[from..from + n].fill(0);
 }
 
 // A number of a table as a place.

@@ -1,14 +1,14 @@
 -- What is written of one node, in parts of the bytes that it was read from. w is the width of an object name.
 use mathlib.Core.Path.{◌≡◌, refl, sym, ap, subst, ◌∙◌}
 use mathlib.Core.List.{List, [], ◌∷◌, ◌++◌, append_assoc}
-use mathlib.Core.Bool.{true, false, true≢false}
+use mathlib.Core.Bool.{true}
 use Prim.Native.Nat.{ℕ, suc, ◌+◌, ◌-◌, ◌≤◌}
 use native.Mathlib.Omega.{arith}
 use lib.ListN.{length, take, drop, length-append, length-drop, take-append-drop}
 use lib.Seq.{drop-drop, drop-append_seam, take_at, length-take-le}
 use Rattle.format.specs.Bytes.{before, decimal}
 use Rattle.format.specs.Records.{Count, valid, invalid}
-use Rattle.format.specs.Layout.{is_valid, CountText, ObjectBytes}
+use Rattle.format.specs.Layout.{CountText, ObjectBytes}
 use Rattle.format.specs.Reading.{Read, bad, good}
 use Rattle.format.specs.Reader.{Head, read_node}
 use Rattle.format.specs.Writer.{decimal_of, write_count, write_object, write_node}
@@ -20,8 +20,8 @@ use Rattle.spelling.proofs.Tree.{node-read}
 use Rattle.writing.proofs.Decimals.{decimal_of-value}
 use Rattle.writing.proofs.Copies.{valid-copied}
 use Rattle.tree_nodes.specs.declared.node.Node as Code
-use Rattle.tree_nodes.specs.declared.node.NodeRead.TheVariants as R
-use Rattle.tree_nodes.specs.Answers.{object_length, node_of, node_at}
+use Rattle.std.specs.Prelude.{Some, None}
+use Rattle.tree_nodes.specs.Answers.{counted, object_length, node_of, node_at}
 use Rattle.format_laws.proofs.Lists.{drop-to}
 use Rattle.output.specs.Output.{Wrote}
 use Rattle.output.proofs.Laws.{wrote_then}
@@ -32,6 +32,9 @@ use Rattle.tree_write.specs.Written.{NodeHere, as_is, made_invalid, NodeWritten}
 by_count {ℓ} : {X : Type ℓ} (c : Count) → ((n : ℕ) → c ≡ valid n → X) → (c ≡ invalid → X) → X
 by_count (valid n) f g = f n refl
 by_count invalid f g = g refl
+
+no-count : {n : ℕ} → Some n ≡ None → ⊥
+no-count e = absurd (cc)
 
 -- a node that is invalid stays as it is
 invalid-same : (w : ℕ) (h : Head) → h.node.count ≡ invalid → made_invalid w h ≡ as_is h
@@ -118,16 +121,16 @@ pub record NodeCut (w : ℕ) (d : List ℕ) (place : ℕ) (node : Code.Node) : T
   pub took : ℕ
   pub reads : read_node w 0 (drop place d) ≡ good head took
   pub cut : Cut w (drop place d) head took
-  pub valid : node.valid ≡ is_valid head.node.count
+  pub count : node.count ≡ counted head.node.count
   pub nul : node.nul ≡ place + length head.node.name
   pub object : node.object + length cut.tail ≡ place + took
   pub next : node.next ≡ place + took
   pub within : place + took ≤ length d
 
 module _ (w : ℕ) (wide : 1 ≤ w) (d : List ℕ) (place : ℕ) (inside : place ≤ length d) (node : Code.Node) where
-  node-cut-by : (r : Read Head) → read_node w 0 (drop place d) ≡ r → R.Good node ≡ node_at w place r → NodeCut w d place node
+  node-cut-by : (r : Read Head) → read_node w 0 (drop place d) ≡ r → Some node ≡ node_at w place r → NodeCut w d place node
   unfolding node_at
-  node-cut-by (bad n p) q e = let z : ◌≡◌ {A = ℕ} 0 1 = cc in absurd (omega arith)
+  node-cut-by (bad n p) q e = absurd (cc)
   node-cut-by (good h m) q e =
       let is : node ≡ node_of w place h m = cc in
       let cut : Cut w (drop place d) h m = node-cut w wide (drop place d) h m q in
@@ -141,7 +144,7 @@ module _ (w : ℕ) (wide : 1 ≤ w) (d : List ℕ) (place : ℕ) (inside : place
         took = m;
         reads = q;
         cut = cut;
-        valid = ap (λ (n : Code.Node). n.valid) is;
+        count = ap (λ (n : Code.Node). n.count) is;
         nul = ap (λ (n : Code.Node). n.nul) is;
         object = omega arith;
         next = ap (λ (n : Code.Node). n.next) is;
@@ -226,9 +229,9 @@ module _ {w : ℕ} (d : List ℕ) (place : ℕ) (node : Code.Node) (x : NodeCut 
   -- ---- as it is
 
   module _ (out out' : List ℕ) (at r : ℕ) where
-    pub valid-written : node.valid ≡ true → Wrote out at (take (node.next - place) (drop place d)) out' r
+    pub valid-written : (k : ℕ) → node.count ≡ Some k → Wrote out at (take (node.next - place) (drop place d)) out' r
         → NodeWritten w as_is d place node out at out' r
-    valid-written v wrote =
+    valid-written k v wrote =
         let e = x.next in
         let took : node.next - place ≡ x.took = omega arith in
         let h = x.head in
@@ -237,12 +240,12 @@ module _ {w : ℕ} (d : List ℕ) (place : ℕ) (node : Code.Node) (x : NodeCut 
         let copy : as_is h ≡ take x.took (drop place d) = valid-copied w 0 (drop place d) h x.took n x.reads is in
         let few : length (as_is h) ≤ x.took = omega (arith, ap length copy, length-take-le x.took (drop place d) x.cut.within) in
         told as_is out out' at r (rw copy (rw took at wrote)) few)
-        (λ is. absurd (true≢false (sym v ∙ x.valid ∙ ap is_valid is)))
+        (λ is. absurd (no-count (sym v ∙ x.count ∙ ap counted is)))
 
-    pub invalid-kept : node.valid ≡ false → NodeWritten w (made_invalid w) d place node out at out' r
+    pub invalid-kept : node.count ≡ None → NodeWritten w (made_invalid w) d place node out at out' r
         → NodeWritten w as_is d place node out at out' r
     invalid-kept v written =
-        let count : x.head.node.count ≡ invalid = by_count x.head.node.count (λ n is. absurd (true≢false (sym (ap is_valid is) ∙ sym x.valid ∙ v))) (λ is. is) in
+        let count : x.head.node.count ≡ invalid = by_count x.head.node.count (λ n is. absurd (no-count (sym (ap counted is) ∙ sym x.count ∙ v))) (λ is. is) in
         record {
           wrote = λ h m q.
               let is : h.node.count ≡ invalid = ap (λ (i : Head). i.node.count) (sym (cut-head d place node x h m q)) ∙ count in

@@ -14,7 +14,7 @@ use Rattle.format.specs.Requests.{invalid_path}
 use Rattle.tree_counts.specs.Counts.{SoundForest}
 use Rattle.tree_counts.proofs.Siblings.{sound-kids, sound-after}
 use Rattle.tree_nodes.specs.declared.node.Node as Code
-use Rattle.tree_nodes.specs.declared.node.NodeRead.TheVariants as R
+use Rattle.std.specs.Prelude.{None}
 use Rattle.tree_nodes.specs.Answers.{node_at}
 use Rattle.tree_nodes.specs.Flat.{trees_length, Reads, reads_none, reads_more}
 use Rattle.format_laws.proofs.Lists.{drop-to}
@@ -70,7 +70,7 @@ module _ {w : ℕ} (d name : List ℕ) (way : PathPlace) (s : List ℕ) (x : ToW
         ∙ ap (λ (n : ℕ). drop n (drop way.place d)) (sym total) in
         rw from x.follow
 
-    pub step-stop : {X : Type 0} → R.Bad ≡ node_at w way.place (read_node w 0 (drop way.place d)) → X
+    pub step-stop : {X : Type 0} → None ≡ node_at w way.place (read_node w 0 (drop way.place d)) → X
     step-stop e = absurd (no-bad w way.place first_of.own first_of.head _ first_of.node e)
 
     module _ (inside : way.place ≤ length d) (node : Code.Node) (here : NodeHere w d way.place node) where

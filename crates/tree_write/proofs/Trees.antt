@@ -8,7 +8,7 @@ use Rattle.format.specs.Records.{Node, Forest, nil, tree, width}
 use Rattle.format.specs.Reader.{read_node}
 use Rattle.format.specs.Writer.{write_node, write_forest}
 use Rattle.tree_nodes.specs.declared.node.Node as Code
-use Rattle.tree_nodes.specs.declared.node.NodeRead.TheVariants as R
+use Rattle.std.specs.Prelude.{None}
 use Rattle.tree_nodes.specs.Answers.{node_at}
 use Rattle.format_laws.proofs.Lists.{drop-to}
 use Rattle.tree_nodes.specs.Flat.{Reads}
@@ -55,7 +55,7 @@ module _ {w : ℕ} (d out₀ : List ℕ) (at : ℕ) (s : List ℕ) (place pendin
     first_of : First w (drop place d) x.trees pending
     first_of = reads_first _ _ _ _ x.reads some
 
-    pub left-stop : {X : Type 0} → R.Bad ≡ node_at w place (read_node w 0 (drop place d)) → X
+    pub left-stop : {X : Type 0} → None ≡ node_at w place (read_node w 0 (drop place d)) → X
     left-stop e = absurd (no-bad w place first_of.own first_of.head _ first_of.node e)
 
     module _ (node : Code.Node) (here : NodeHere w d place node) (out₁ : List ℕ) (end₁ : ℕ)

@@ -13,7 +13,7 @@ use Rattle.format.specs.Requests.{invalid_node, invalid_path, invalid_tree}
 use Rattle.tree_counts.specs.Counts.{SoundForest}
 use Rattle.tree_counts.proofs.Readings.{nodes-plain}
 use Rattle.tree_nodes.specs.declared.node.Node as Code
-use Rattle.tree_nodes.specs.declared.node.NodeRead.TheVariants as R
+use Rattle.std.specs.Prelude.{None}
 use Rattle.tree_nodes.specs.Answers.{node_at}
 use Rattle.format_laws.proofs.Lists.{drop-to}
 use Rattle.tree_nodes.specs.Flat.{reads_none, reads_more}
@@ -44,7 +44,7 @@ module _ (w : ℕ) (d : List ℕ) (t : Tree) (m : ℕ) (q : read_nodes w 0 d ≡
   whole-copied out out' at passed written =
       rw (tree-text t) at (written.wrote (tree t.root t.subtrees nil) _ (reads_more tree-here.node tree-here.kids reads_none))
 
-  pub whole-none : {X : Type 0} → R.Bad ≡ node_at w 0 (read_node w 0 (drop 0 d)) → X
+  pub whole-none : {X : Type 0} → None ≡ node_at w 0 (read_node w 0 (drop 0 d)) → X
   whole-none e = absurd (no-bad w 0 tree-here.own _ _ tree-here.node e)
 
   module _ (node : Code.Node) (here : NodeHere w d 0 node) (differ : distinct t.subtrees ≡ true) (name : List ℕ) where

@@ -1,5 +1,5 @@
 -- What is written of nodes that are in the data d of a cache tree, from a place on. w is the width of an object name.
-use Rattle.std.specs.Prelude.{◌≡◌, List, true, ℕ, ◌+◌, ◌≤◌, length, drop}
+use Rattle.std.specs.Prelude.{◌≡◌, List, true, ℕ, ◌+◌, ◌≤◌, length, drop, Some}
 use Rattle.format.specs.Records.{Forest, Tree}
 use Rattle.format.specs.Layout.{distinct}
 use Rattle.format.specs.Reading.{good}
@@ -8,7 +8,6 @@ use Rattle.format.specs.Writer.{write_node, write_forest}
 use Rattle.format.specs.Requests.{invalid_node, invalid_path}
 use Rattle.tree_counts.specs.Counts.{SoundForest}
 use Rattle.tree_nodes.specs.declared.node.Node.{Node}
-use Rattle.tree_nodes.specs.declared.node.NodeRead.TheVariants as R
 use Rattle.tree_nodes.specs.Answers.{node_at}
 use Rattle.tree_nodes.specs.Flat.{trees_length, Reads}
 use Rattle.output.specs.Output.{Wrote}
@@ -23,7 +22,7 @@ pub record Room (w : ℕ) (d : List ℕ) (place at : ℕ) : Type 0 where
 
 -- the node that is read at a place
 pub record NodeHere (w : ℕ) (d : List ℕ) (place : ℕ) (node : Node) : Type 0 where
-  pub read : R.Good node ≡ node_at w place (read_node w 0 (drop place d))
+  pub read : Some node ≡ node_at w place (read_node w 0 (drop place d))
 
 -- what is written of a node, as it is or made invalid
 abbrev pub as_is : Head → List ℕ

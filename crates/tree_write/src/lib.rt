@@ -13,7 +13,7 @@ ghost use Rattle.tree_write.specs.Steps.{StepBounds, Stepped};
 
 use fields::{common, find};
 use output::{put_byte, put_part};
-use tree_nodes::node::{Node, NodeRead, read_node};
+use tree_nodes::node::{Node, read_node};
 
 // A place of the data and one of the output, after some trees.
 #[derive(Clone, Copy)]
@@ -41,10 +41,10 @@ fn put_node(d: &[u8], place: usize, node: Node, out: &mut [u8], at: usize, w: us
     requires { Room w d.now place at × NodeHere w d.now place node }
     ensures { NodeWritten w as_is d.now place node out.old at out.new result }
 {
-    if node.valid {
-        return put_part(out, at, d, place, node.next);
+    match node.count {
+        Some(_) => put_part(out, at, d, place, node.next),
+        None => put_invalid(d, place, node, out, at, w),
     }
-    put_invalid(d, place, node, out, at, w)
 }
 
 // So many trees one after another, each with all below it. Each node adds its subtrees to the trees that are still to write.
@@ -55,21 +55,17 @@ fn put_trees(d: &[u8], start: usize, n: u64, out: &mut [u8], at: usize, w: usize
     let mut place = start;
     let mut end = at;
     let mut pending = n;
+    // No count: each node adds those below it.
     while 0 < pending {
-        let read = read_node(d, place, w);
-        match read {
-            NodeRead::Bad => {
-                return Passed {
-                    place: d.len(),
-                    at: end,
-                };
-            }
-            NodeRead::Good(node) => {
-                end = put_node(d, place, node, &mut *out, end, w);
-                place = node.next;
-                pending = pending - 1 + node.subtrees as u64;
-            }
-        }
+        let Some(node) = read_node(d, place, w) else {
+            return Passed {
+                place: d.len(),
+                at: end,
+            };
+        };
+        end = put_node(d, place, node, &mut *out, end, w);
+        place = node.next;
+        pending = pending - 1 + u64::from(node.subtrees);
     }
     Passed {
         place: place,
@@ -109,35 +105,29 @@ fn step(d: &[u8], name: &[u8], out: &mut [u8], way: PathPlace, w: usize) -> Path
     requires { StepBounds w d.now name.now way × (0 < way.left) }
     ensures { Stepped w d.now name.now out.old way out.new result }
 {
-    let read = read_node(d, way.place, w);
-    match read {
-        NodeRead::Bad => PathPlace {
-            place: way.place,
-            at: way.at,
+    let Some(node) = read_node(d, way.place, w) else {
+        return PathPlace {
             left: 0,
             later: 0,
-            from: way.from,
-        },
-        NodeRead::Good(node) => {
-            if is_under(d, way.place, node.nul, name, way.from) {
-                let at = put_invalid(d, way.place, node, out, way.at, w);
-                return PathPlace {
-                    place: node.next,
-                    at: at,
-                    left: node.subtrees,
-                    later: way.later + (way.left - 1) as u64,
-                    from: way.from + (node.nul - way.place) + 1,
-                };
-            }
-            let passed = put_trees(d, way.place, 1, out, way.at, w);
-            PathPlace {
-                place: passed.place,
-                at: passed.at,
-                left: way.left - 1,
-                later: way.later,
-                from: way.from,
-            }
-        }
+            ..way
+        };
+    };
+    if is_under(d, way.place, node.nul, name, way.from) {
+        let at = put_invalid(d, way.place, node, out, way.at, w);
+        return PathPlace {
+            place: node.next,
+            at: at,
+            left: node.subtrees,
+            later: way.later + u64::from(way.left - 1),
+            from: way.from + (node.nul - way.place) + 1,
+        };
+    }
+    let passed = put_trees(d, way.place, 1, out, way.at, w);
+    PathPlace {
+        place: passed.place,
+        at: passed.at,
+        left: way.left - 1,
+        ..way
     }
 }
 
@@ -161,6 +151,7 @@ fn put_path(
         later: 0,
         from: 0,
     };
+    // No count: a step goes past a sibling, or down to the siblings of the next level.
     while 0 < way.left {
         way = step(d, name, &mut *out, way, w);
     }
@@ -173,14 +164,11 @@ fn put_invalid_tree(d: &[u8], name: &[u8], out: &mut [u8], at: usize, w: usize) 
     requires { Room w d.now 0 at }
     ensures { WholeWritten w (λ t. write_tree (invalid_tree w name.now t)) d.now out.old at out.new result }
 {
-    let read = read_node(d, 0, w);
-    match read {
-        NodeRead::Bad => at,
-        NodeRead::Good(root) => {
-            let end = put_invalid(d, 0, root, &mut *out, at, w);
-            put_path(d, root.next, root.subtrees, name, out, end, w)
-        }
-    }
+    let Some(root) = read_node(d, 0, w) else {
+        return at;
+    };
+    let end = put_invalid(d, 0, root, &mut *out, at, w);
+    put_path(d, root.next, root.subtrees, name, out, end, w)
 }
 
 // The whole data of a tree that was read, as it is or made invalid on the path to a name's directory.

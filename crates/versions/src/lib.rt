@@ -1,4 +1,5 @@
-// What a version that is asked for means: whether it may be, and which the file has that is written.
+// What a version that is asked for means: whether it may be, and which the file has that is written. It is a number and no enum, since a call answers
+// for every number.
 
 #![tactic(auto)]
 
@@ -13,27 +14,20 @@ pub fn asked_ok(asked: u32) -> bool
 }
 
 // The version of the file: 0 asks for 4, 1 for the lowest, which is 3 where an entry needs the extended word, else 2.
+#[tactic(auto, unfolding(format::specs::Requests::version_of))]
 pub fn version_for(asked: u32, extended: bool) -> u32
     ensures { result ≡ version_of asked extended }
 {
-    if asked == 0 {
-        return 4;
+    match asked {
+        0 => 4,
+        1 => if extended { 3 } else { 2 },
+        _ => asked,
     }
-    if asked != 1 {
-        return asked;
-    }
-    if extended {
-        return 3;
-    }
-    2
 }
 
 // Whether version 2 is asked for and an entry needs the extended word.
 pub fn is_barred(asked: u32, extended: bool) -> bool
     ensures { result ≡ (eqb asked 2 && extended) }
 {
-    if asked == 2 {
-        return extended;
-    }
-    false
+    (asked == 2) & extended
 }

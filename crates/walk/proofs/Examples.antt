@@ -3,6 +3,7 @@ use mathlib.Core.Path.{◌≡◌, refl}
 use mathlib.Core.List.{List, [], ◌∷◌, ◌++◌}
 use mathlib.Core.Bool.{false}
 use Prim.Native.Nat.{ℕ}
+use Rattle.std.proofs.Common.{Option, Some, None, Result, Ok, Err}
 use lib.ListN.{take, set, replicate}
 use Rattle.format.specs.Bytes.{be16, be32, be32s, eq_list, before, lacks, zeros}
 use Rattle.format.specs.Names.{components_from, components, ok_component, ok_components, ok_name, length_field, compare}
@@ -13,6 +14,9 @@ use Rattle.format.specs.Reader.{is_set, ok_word, plain_length, read_plain, read_
 use Rattle.format.specs.Places.{body_in, name_place}
 use Rattle.format.proofs.Examples.{file_entry, listing}
 use Rattle.kinds.specs.Kinds.{ok_kind, width_of, of_kind}
+use Rattle.format.specs.Refusals.{Numbered}
+use Rattle.answers.specs.declared.EntryAnswer.{EntryAnswer}
+use Rattle.answers.specs.declared.Shown.{Shown}
 use Rattle.answers.specs.declared.Shown.TheVariants.{InFile}
 use Rattle.answers.specs.Answers.{refused, in_file, entry_shown}
 use Rattle.walk.specs.Walks.{place_at, first_place, walkable, walk_read, step_read, walk_answer, place_after, place_after_all, walk_over}
@@ -28,10 +32,15 @@ listing-places : (place_after_all 1 listing 1 (first_place 2) ≡ place_at 76 1)
 unfolding listing be16 be32 be32s eq_list before lacks zeros components_from components ok_component ok_components ok_name length_field compare ok_mode fixed_length entry_length need shift bind is_set ok_word plain_length read_plain read_name entry_of read_tail read_fixed read_entry ok_kind width_of of_kind walkable walk_read step_read place_after place_after_all
 listing-places = (refl, refl)
 
+-- where the name of an entry that is shown is
+abbrev place_shown : Result EntryAnswer Numbered → Option Shown
+place_shown (Ok a) = Some a.shown
+place_shown (Err x) = None
+
 -- their names begin 62 bytes on: one byte at 74, three at 138
 listing-names :
-    ((entry_shown (name_place 20 12 (body_in 20 listing)) (walk_answer 1 listing 12 2)).shown ≡ InFile 74 1)
-    × ((entry_shown (name_place 20 76 (body_in 20 listing)) (walk_answer 1 listing 76 1)).shown ≡ InFile 138 3)
+    (place_shown (entry_shown (name_place 20 12 (body_in 20 listing)) (walk_answer 1 listing 12 2)) ≡ Some (InFile 74 1))
+    × (place_shown (entry_shown (name_place 20 76 (body_in 20 listing)) (walk_answer 1 listing 76 1)) ≡ Some (InFile 138 3))
 unfolding listing be16 be32 be32s eq_list before lacks zeros components_from components ok_component ok_components ok_name length_field compare ok_mode fixed_length entry_length need shift bind is_set ok_word plain_length read_plain read_name entry_of read_tail read_fixed read_entry name_place ok_kind width_of of_kind walkable walk_read step_read walk_answer
 listing-names = (refl, refl)
 
@@ -81,7 +90,7 @@ wide =
 wide-walked :
     (walk_over 2 wide 2 (first_place 1) ≡ in_file wide_entry ∷ refused 18 0 ∷ [])
     × (place_after 2 wide 12 1 ≡ place_at 92 0)
-    × ((entry_shown (name_place 32 12 (body_in 32 wide)) (walk_answer 2 wide 12 1)).shown ≡ InFile 86 1)
+    × (place_shown (entry_shown (name_place 32 12 (body_in 32 wide)) (walk_answer 2 wide 12 1)) ≡ Some (InFile 86 1))
     × (walk_answer 1 wide 12 1 ≡ refused 18 0)
 unfolding listing wide wide_entry be16 be32 be32s eq_list before lacks zeros components_from components ok_component ok_components ok_name length_field compare ok_mode fixed_length entry_length need shift bind is_set ok_word plain_length read_plain read_name entry_of read_tail read_fixed read_entry name_place ok_kind width_of of_kind walkable walk_read step_read walk_answer place_after walk_over
 wide-walked = (refl, refl, refl, refl)

@@ -3,6 +3,7 @@ use mathlib.Core.Path.{◌≡◌, refl, ap, ◌∙◌}
 use mathlib.Core.List.{List}
 use mathlib.Core.Bool.{true, false, ◌&&◌, ◌||◌}
 use Prim.Native.Nat.{ℕ}
+use Rattle.std.proofs.Common.{Ok}
 use native.Mathlib.Omega.{arith}
 use lib.ListN.{length, drop, get_elem?}
 use lib.Dec.{eqb, leb}
@@ -10,6 +11,7 @@ use borrow.Author.Tests.{eq-eqb, eqb-false, leb-true}
 use Rattle.format.specs.Bytes.{be32}
 use Rattle.format.specs.Records.{start}
 use Rattle.format.specs.Reading.{Read, bad, good}
+use Rattle.format.specs.Refusals.{denied}
 use Rattle.format.specs.Reader.{Contents, read_entries, read_file}
 use Rattle.format.specs.Places.{body_in}
 use Rattle.format_laws.proofs.Tests.{by-test, and-inv, and_both, cond-inv}
@@ -19,7 +21,6 @@ use Rattle.answers.specs.Answers.{too_small, in_room, pick, entry_answer}
 use Rattle.answers.proofs.Laws.{room-large, room-inv, item-none}
 use Rattle.file_read.proofs.Files.{file-says}
 use Rattle.entries_run.proofs.Steps.{entries-length}
-use Rattle.walk.specs.declared.Started.TheVariants.{Refused, Ready}
 use Rattle.walk.specs.Walks.{started_of, start_answer, walkable}
 use Rattle.walk.proofs.Steps.{steps-show, steps-named, steps-show-all}
 use Rattle.walk.proofs.Statements.{WholeWalk}
@@ -50,15 +51,15 @@ module _ (kind : ℕ) (f : List ℕ) where
   file-read c m q old g = file-known kind f c m q λ known read. file-walkable (width_of kind) (hash_of kind) f c m read old (g known)
 
 -- a walk starts
-started-inv : {X : Type 0} (x : Read Contents) (n : ℕ) → started_of x ≡ Ready n
+started-inv : {X : Type 0} (x : Read Contents) (n : ℕ) → started_of x ≡ Ok n
     → ((c : Contents) (m : ℕ) → x ≡ good c m → eqb c.version 4 ≡ false → length c.records.entries ≡ n → X) → X
 started-inv (bad i p) n e g = let z : ◌≡◌ {A = ℕ} 0 1 = cc in absurd (omega arith)
 started-inv (good c m) n e g =
-    cond-inv (eqb c.version 4) (Refused 4 0) (Ready (length c.records.entries)) (Ready n) e
+    cond-inv (eqb c.version 4) (denied 4 0) (Ok (length c.records.entries)) (Ok n) e
     (λ four r. let z : ◌≡◌ {A = ℕ} 0 1 = cc in absurd (omega arith))
     (λ old r. g c m refl old (cc))
 
-start-inv : {X : Type 0} (work : List ℕ) (x : Read Contents) (n : ℕ) → start_answer work x ≡ Ready n
+start-inv : {X : Type 0} (work : List ℕ) (x : Read Contents) (n : ℕ) → start_answer work x ≡ Ok n
     → ((c : Contents) (m : ℕ) → too_small work ≡ false → x ≡ good c m → eqb c.version 4 ≡ false → length c.records.entries ≡ n → X) → X
 unfolding start_answer
 start-inv work x n e g = started-inv (in_room work x) n e λ c m read old count. room-inv work x c m read λ large is. g c m large is old count

@@ -3,6 +3,7 @@
 use mathlib.Core.Path.{◌≡◌}
 use mathlib.Core.List.{List, map}
 use mathlib.Core.Bool.{false}
+use Rattle.std.proofs.Common.{Ok}
 use Prim.Native.Nat.{ℕ, ◌≤◌, ◌<◌}
 use lib.ListN.{length, get_elem?}
 use lib.Dec.{eqb}
@@ -13,7 +14,6 @@ use Rattle.format.specs.Places.{body_in, name_place, entry_name_place}
 use Rattle.kinds.specs.Kinds.{width_of, read_kind}
 use Rattle.answers.specs.Answers.{View, refused, in_file, pick, entry_answer}
 use Rattle.walk.specs.declared.Place.{Place}
-use Rattle.walk.specs.declared.Started.TheVariants.{Ready}
 use Rattle.walk.specs.Walks.{start_answer, first_place, walk_answer, place_after_all, walk_over}
 
 -- what is shown after k steps of a walk over n entries
@@ -29,10 +29,10 @@ module _ (kind : ℕ) (f : List ℕ) where
     pub all : (c : Contents) (m : ℕ) → read_kind kind f ≡ good c m → eqb c.version 4 ≡ false
         → walk_over kind f (length c.records.entries) (first_place (length c.records.entries)) ≡ map in_file c.records.entries
     -- where start says that n entries are before a walk, step k shows what entry k shows
-    pub started : (work : List ℕ) (n : ℕ) → start_answer work (read_kind kind f) ≡ Ready n
+    pub started : (work : List ℕ) (n : ℕ) → start_answer work (read_kind kind f) ≡ Ok n
         → (k : ℕ) → shown_after kind f n k ≡ entry_answer work k (read_kind kind f)
     -- with the same answer, whole: the name's place is the same
-    pub placed : (work : List ℕ) (n : ℕ) → start_answer work (read_kind kind f) ≡ Ready n
+    pub placed : (work : List ℕ) (n : ℕ) → start_answer work (read_kind kind f) ≡ Ok n
         → (k : ℕ) → k < n → name_place (width_of kind) (place_after_all kind f k (first_place n)).at (body_in (width_of kind) f) ≡ entry_name_place (width_of kind) k f
     -- and 18 where none remain
-    pub ended : (work : List ℕ) (n : ℕ) → start_answer work (read_kind kind f) ≡ Ready n → (k : ℕ) → n ≤ k → shown_after kind f n k ≡ refused 18 0
+    pub ended : (work : List ℕ) (n : ℕ) → start_answer work (read_kind kind f) ≡ Ok n → (k : ℕ) → n ≤ k → shown_after kind f n k ≡ refused 18 0

@@ -1,26 +1,25 @@
 -- A walk over the entries of a file of version 2 or 3: its start, the next entry, the place after it. w is the width of an object name and of the checksum, kind the
 -- kind of object names, which has one.
-use Rattle.std.specs.Prelude.{List, [], ◌∷◌, Bool, cond, ◌&&◌, ◌||◌, ℕ, zero, suc, ◌+◌, ◌-◌, length, take, drop, eqb, leb, ltb}
+use Rattle.std.specs.Prelude.{List, [], ◌∷◌, Bool, cond, ◌&&◌, ◌||◌, ℕ, zero, suc, ◌+◌, ◌-◌, length, take, drop, eqb, leb, ltb, Result, Ok}
 use Rattle.format.specs.Bytes.{be32, eq_list}
 use Rattle.format.specs.Records.{Entry, start}
 use Rattle.format.specs.Layout.{DIRC}
 use Rattle.format.specs.Reading.{Read, bad, good, need}
 use Rattle.format.specs.Reader.{Contents, read_entry}
 use Rattle.format.specs.Places.{body_in, taken}
+use Rattle.format.specs.Refusals.{Numbered, denied}
 use Rattle.kinds.specs.Kinds.{width_of, of_kind}
 use Rattle.answers.specs.declared.EntryAnswer.{EntryAnswer}
 use Rattle.answers.specs.Answers.{View, refused, in_file, in_workspace, in_room, EntryShown}
-use Rattle.walk.specs.declared.Started.{Started}
-use Rattle.walk.specs.declared.Started.TheVariants.{Refused, Ready}
 use Rattle.walk.specs.declared.Place.{Place}
 
 -- ---- the start: refusals of the file as every call gives them, then 4 for version 4, else how many entries there are
 
-abbrev pub started_of : Read Contents → Started
-started_of (bad n p) = Refused n p
-started_of (good c m) = cond (eqb c.version 4) (Refused 4 0) (Ready (length c.records.entries))
+abbrev pub started_of : Read Contents → Result ℕ Numbered
+started_of (bad n p) = denied n p
+started_of (good c m) = cond (eqb c.version 4) (denied 4 0) (Ok (length c.records.entries))
 
-unfoldable pub start_answer : List ℕ → Read Contents → Started
+unfoldable pub start_answer : List ℕ → Read Contents → Result ℕ Numbered
 start_answer work x = started_of (in_room work x)
 
 abbrev pub place_at : ℕ → ℕ → Place
@@ -82,5 +81,5 @@ walk_over kind f (suc k) p = walk_answer kind f p.at p.left ∷ walk_over kind f
 -- ---- what the answer of the code shows
 
 -- v, whose name is the part of the file at the place at
-pub record StepShows (w at : ℕ) (v : View Entry) (f : List ℕ) (r : EntryAnswer) : Type 0 where
+pub record StepShows (w at : ℕ) (v : View Entry) (f : List ℕ) (r : Result EntryAnswer Numbered) : Type 0 where
   pub shows : (work : List ℕ) → EntryShown w at v f work r

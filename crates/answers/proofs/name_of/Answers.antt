@@ -2,10 +2,6 @@
 use Rattle.answers.specs.Answers.{name_in}
 use Rattle.answers.proofs.name_of.Goals as goal
 
-pub returns-in-Refused : goal.returns-in-Refused
-unfolding name_in
-returns-in-Refused c = rw c.in-Refused.is
-
 pub returns-in-InFile : goal.returns-in-InFile
 unfolding name_in
 returns-in-InFile c = rw c.in-InFile.is c.part.ensures

@@ -7,6 +7,6 @@ pub returns-then-x-lt32768 : goal.returns-then-x-lt32768
 unfolding ok_word
 returns-then-x-lt32768 c = rw (lt-ltb _ _ c.if-x-lt32768.true)
 
-pub returns : goal.returns
+pub returns-else-x-lt32768 : goal.returns-else-x-lt32768
 unfolding ok_word
-returns c = rw (le-ltb _ _ c.if-x-lt32768.false)
+returns-else-x-lt32768 c = rw (le-ltb _ _ c.if-x-lt32768.false)

@@ -13,9 +13,9 @@ returns-then-s-le1 c = record {
   after = step_end _ _ _ _ _ _ _ refl c.if-s-le1.true;
 }
 
-pub returns-in-Bad : goal.returns-in-Bad
-returns-in-Bad c =
-    let t = rw c.in-Bad.is at c.pass_entry-g.ensures in
+pub returns-in_default : goal.returns-in_default
+returns-in_default c =
+    let t = c.in_default.ensures in
     record {
       fits = fits-end _ _ c.requires.0;
       fewer = omega arith;
@@ -23,9 +23,9 @@ returns-in-Bad c =
       after = λ x xs h. step-bad _ _ _ _ c.args.s _ c.if-s-le1.false _ t x xs h;
     }
 
-pub returns-in-Good : goal.returns-in-Good
-returns-in-Good c =
-    let t = rw c.in-Good.is at c.pass_entry-g.ensures in
+pub returns : goal.returns
+returns c =
+    let t = c.in-Ok.ensures in
     record {
       fits = step_fits _ _ _ _ c.args.s _ c.if-s-le1.false _ t c.requires.0;
       fewer = omega arith;

@@ -12,7 +12,7 @@ use Rattle.entries_write.proofs.put_read.Goals as goal
 pub returns-then-v-version : goal.returns-then-v-version
 returns-then-v-version c =
     let a = c.args in
-    let bytes : Bytes a.b.now = λ i. omega (arith, c.shared_slice_known-1.given i) in
+    let bytes : Bytes a.b.now = λ i. omega (arith, c.type_inv.b i) in
     let (old, new) = and-inv (not (eqb a.v 4)) (not (eqb a.version 4)) c.if-v-version.true in
     plain_copied bytes c.requires.4 c.requires.1 (sym c.stays.ensures ∙ c.if-stays.true) _ refl c.requires.3 (not-true _ old) (not-true _ new) c.put_part.ensures
 
@@ -24,7 +24,7 @@ put_name-requires c =
 pub returns-then-stays : goal.returns-then-stays
 returns-then-stays c =
     let a = c.args in
-    let bytes : Bytes a.b.now = λ i. omega (arith, c.shared_slice_known-1.given i) in
+    let bytes : Bytes a.b.now = λ i. omega (arith, c.type_inv.b i) in
     head-copied bytes c.requires.4 c.requires.1 (sym c.stays.ensures ∙ c.if-stays.true) _ c.name_at-name.ensures
     (rw c.name_at-name.ensures c.requires.3) c.put_part-middle.ensures c.put_name.ensures
 

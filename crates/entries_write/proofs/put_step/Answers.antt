@@ -13,7 +13,7 @@ put_rest-requires c =
 pub returns : goal.returns
 returns c =
     let a = c.args in
-    let bytes : Bytes a.b.now = λ i. omega (arith, c.shared_slice_known-1.given i) in
+    let bytes : Bytes a.b.now = λ i. omega (arith, c.type_inv.b i) in
     entry-wrote _
     a.b.now
     _

@@ -1,5 +1,5 @@
 use mathlib.Core.Path.{◌≡◌, refl, ◌∙◌}
-use Prim.Native.Nat.{◌+◌, ◌<◌, zero-le}
+use Prim.Native.Nat.{◌+◌, ◌<◌}
 use native.Mathlib.Omega.{arith}
 use native.Mathlib.Numerals.{add-one}
 use lib.ListN.{length, length-set}
@@ -8,21 +8,20 @@ use Rattle.fields.proofs.Laws.{copied}
 use Rattle.fields.proofs.copy_to.Goals as goal
 
 pub loop-i-init : goal.loop-i-init
-loop-i-init c = (zero-le, refl, paste-zero c.args.work.now c.args.at c.args.s.now)
+loop-i-init c = (refl, paste-zero c.args.work.now c.args.at c.args.s.now)
 
 pub loop-i-preserved : goal.loop-i-preserved
 loop-i-preserved c =
     let a = c.args in
     let h : a.at + c.loop-i.i < length a.work.now = omega arith in (
-      omega arith,
-      simp length-set c.loop-i.invariant.1,
-      rw (c.loop-i.invariant.2, add-one c.loop-i.i) (paste-suc a.work.now a.at a.s.now c.loop-i.i 0 h c.loop-i-test.true),
+      simp length-set c.loop-i.invariant.0,
+      rw (c.loop-i.invariant.1, add-one c.loop-i.i) (paste-suc a.work.now a.at a.s.now c.loop-i.i 0 h c.loop-i-test.true),
     )
 
 pub shape_of-work : goal.shape_of-work
-shape_of-work c = c.loop-i.invariant.1
+shape_of-work c = c.loop-i.invariant.0
 
 pub returns : goal.returns
 returns c =
     let e : c.loop-i.i ≡ length c.args.s.now = omega arith in
-    rw e at c.loop-i.invariant.2 ∙ copied c.args.work.now c.args.s.now c.args.at
+    rw e at c.loop-i.invariant.1 ∙ copied c.args.work.now c.args.s.now c.args.at

@@ -3,10 +3,6 @@ use native.Mathlib.Omega.{arith}
 use Rattle.format.specs.Names.{length_field}
 use Rattle.fields.proofs.length_field.Goals as goal
 
-pub returns-then-n-lt4095 : goal.returns-then-n-lt4095
-unfolding length_field
-returns-then-n-lt4095 c = omega arith
-
 pub returns : goal.returns
 unfolding length_field
 returns c = omega arith

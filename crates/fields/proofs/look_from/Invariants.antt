@@ -1,13 +1,10 @@
--- The proof that `look_from` meets its contract. The loop keeps how many bytes it has passed, and that none of them is a slash.
+-- The proof that `look_from` meets its contract. The loop keeps that none of the bytes that it has passed is a slash.
 use mathlib.Core.Bool.{true}
 use mathlib.Core.Path.{◌≡◌}
-use Prim.Native.Nat.{◌+◌, ◌-◌, ◌≤◌}
+use Prim.Native.Nat.{◌-◌, ◌≤◌}
 use lib.ListN.{take, drop}
 use Rattle.format.specs.Bytes.{lacks}
 use Rattle.fields.proofs.look_from.Given as goal
 
-abbrev pub invariant-loop-left : goal.invariant-loop-left
-invariant-loop-left l = (l.i ≤ l.kept) × (l.i + 5 ≡ l.kept + l.left) × (lacks 47 (take (l.kept - l.i) (drop l.i l.s)) ≡ true)
-
-abbrev pub decreases-loop-left : goal.decreases-loop-left
-decreases-loop-left l = l.left
+abbrev pub invariant-loop-i : goal.invariant-loop-i
+invariant-loop-i l = (l.first ≤ l.i) × (lacks 47 (take (l.kept - l.i) (drop l.i l.s)) ≡ true)

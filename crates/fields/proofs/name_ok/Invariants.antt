@@ -2,12 +2,9 @@
 use mathlib.Core.Path.{◌≡◌}
 use mathlib.Core.List.{[]}
 use Prim.Native.Nat.{◌≤◌, ◌-◌}
-use lib.ListN.{length, take, drop}
+use lib.ListN.{take, drop}
 use Rattle.fields.proofs.Laws.{ok_rest}
 use Rattle.fields.proofs.name_ok.Given as goal
 
 abbrev pub invariant-loop-e : goal.invariant-loop-e
-invariant-loop-e l = (l.at ≤ l.e) × (l.e ≤ length l.s) × (ok_rest [] l.s ≡ ok_rest (take (l.e - l.at) (drop l.at l.s)) (drop l.e l.s))
-
-abbrev pub decreases-loop-e : goal.decreases-loop-e
-decreases-loop-e l = length l.s - l.e
+invariant-loop-e l = (l.at ≤ l.e) × (ok_rest [] l.s ≡ ok_rest (take (l.e - l.at) (drop l.at l.s)) (drop l.e l.s))

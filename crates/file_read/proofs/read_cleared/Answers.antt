@@ -6,7 +6,7 @@ use Rattle.file_read.proofs.Room.{cleared_by, in-room, no_room}
 use Rattle.file_read.proofs.read_cleared.Goals as goal
 
 pub returns-then-work-lt-LONGEST : goal.returns-then-work-lt-LONGEST
-returns-then-work-lt-LONGEST c = (no_room _ _ c.if-work-lt-LONGEST.true, sym (cleared-small _ c.if-work-lt-LONGEST.true))
+returns-then-work-lt-LONGEST c = rw c.at.ensures (no_room _ _ c.if-work-lt-LONGEST.true, sym (cleared-small _ c.if-work-lt-LONGEST.true))
 
 pub returns : goal.returns
 returns c =

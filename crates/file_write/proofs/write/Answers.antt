@@ -40,15 +40,15 @@ lengths c =
 
 pub returns-then-is_barred : goal.returns-then-is_barred
 returns-then-is_barred c =
-    file-worded _ (hash_of c.args.kind) (width (goal.at.returns-then-is_barred c).Start) _ _ _ _ _ _ _ _ (measured (goal.at.returns-then-is_barred c).After-measure-sized) _ (sym c.is_barred.ensures ∙ c.if-is_barred.true)
+    rw c.at.ensures (file-worded _ (hash_of c.args.kind) (width (goal.at.returns-then-is_barred c).Start) _ _ _ _ _ _ _ _ (measured (goal.at.returns-then-is_barred c).After-measure-sized) _ (sym c.is_barred.ensures ∙ c.if-is_barred.true))
 
 pub returns-then-long-gt16777216 : goal.returns-then-long-gt16777216
 returns-then-long-gt16777216 c =
-    file-long-refused _ (hash_of c.args.kind) (width (goal.at.returns-then-long-gt16777216 c).Start) _ _ _ _ _ _ _ _ (measured (goal.at.returns-then-long-gt16777216 c).After-measure-sized) _ (free (goal.at.returns-then-long-gt16777216 c).Else-is_barred) c.if-long-gt16777216.true
+    rw c.at-then-long-gt16777216.ensures (file-long-refused _ (hash_of c.args.kind) (width (goal.at.returns-then-long-gt16777216 c).Start) _ _ _ _ _ _ _ _ (measured (goal.at.returns-then-long-gt16777216 c).After-measure-sized) _ (free (goal.at.returns-then-long-gt16777216 c).Else-is_barred) c.if-long-gt16777216.true)
 
 pub returns-then-out-long : goal.returns-then-out-long
 returns-then-out-long c =
-    file-small-refused _ (hash_of c.args.kind) (width (goal.at.returns-then-out-long c).Start) _ _ _ _ _ _ _ _ (measured (goal.at.returns-then-out-long c).After-measure-sized) _ (free (goal.at.returns-then-out-long c).Else-is_barred) c.if-long-gt16777216.false c.if-out-long.true
+    rw c.at-then-out-long.ensures (file-small-refused _ (hash_of c.args.kind) (width (goal.at.returns-then-out-long c).Start) _ _ _ _ _ _ _ _ (measured (goal.at.returns-then-out-long c).After-measure-sized) _ (free (goal.at.returns-then-out-long c).Else-is_barred) c.if-long-gt16777216.false c.if-out-long.true)
 
 pub put_body-written-requires : goal.put_body-written-requires
 put_body-written-requires c =
@@ -67,12 +67,12 @@ put_body-written-requires c =
       c.requires.3,
     )
 
-pub append_checksum-n-requires : goal.append_checksum-n-requires
-append_checksum-n-requires c =
-    let same = lengths (goal.at.append_checksum-n-requires c).After-put_body-written in
+pub append_checksum-requires : goal.append_checksum-requires
+append_checksum-requires c =
+    let same = lengths (goal.at.append_checksum-requires c).After-put_body-written in
     (omega (arith, c.put_body-written.ensures.out_long), omega arith, c.requires.1, c.requires.3)
 
 pub returns : goal.returns
 returns c =
     file-done _ (hash_of c.args.kind) (width (goal.at.returns c).Start) _ _ _ _ _ _ _ _ (measured (goal.at.returns c).After-measure-sized) _ (free (goal.at.returns c).Else-is_barred) c.if-long-gt16777216.false c.if-out-long.false _ c.version_for-version.ensures _ _ _ c.put_body-written.ensures _ _
-    c.append_checksum-n.ensures
+    c.append_checksum.ensures

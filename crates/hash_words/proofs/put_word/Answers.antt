@@ -1,18 +1,9 @@
--- `hash_words::put_word` meets its contract: its four stores are the run of the word's four bytes. Assumes nothing.
-use native.Mathlib.Numerals.{towards_suc}
-use Rattle.std.proofs.Common.{arith, length-set}
+-- `hash_words::put_word` meets its contract: what is written is the run of the word's four bytes. Assumes nothing.
+use Rattle.std.proofs.Common.{arith}
 use Rattle.hash_words.specs.Words.{bytes4}
+use Rattle.hash_words.proofs.Copying.{put-run}
 use Rattle.hash_words.proofs.put_word.Goals as goal
-
-pub bounds-out-at-2 : goal.bounds-out-at-2
-bounds-out-at-2 c = simp length-set (omega arith)
-
-pub bounds-out-at-3 : goal.bounds-out-at-3
-bounds-out-at-3 c = simp length-set (omega arith)
-
-pub bounds-out-at-4 : goal.bounds-out-at-4
-bounds-out-at-4 c = simp length-set (omega arith)
 
 pub returns : goal.returns
 unfolding bytes4
-returns c = simp (c.low-4.ensures, c.low-3.ensures, c.low-2.ensures, c.low.ensures, towards_suc)
+returns c = rw (c.copy_from_slice.ensures.after, c.to_be_bytes.ensures) (put-run c.args.out.now (bytes4 c.args.x) c.args.at _ (omega arith) (omega arith))

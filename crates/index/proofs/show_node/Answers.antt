@@ -1,78 +1,59 @@
 -- The proof that `show_node` meets its contract.
-use mathlib.Core.Path.{◌≡◌, sym, ◌∙◌}
-use mathlib.Core.Bool.{true}
 use Prim.Native.Nat.{◌+◌, ◌≤◌}
 use native.Mathlib.Omega.{arith}
 use lib.ListN.{length}
+use Rattle.std.specs.Prelude.{IsSome}
+use Rattle.std.proofs.lemmas.Result.{err_from_is_err_and}
 use Rattle.extensions.specs.Heads.{part}
 use Rattle.index.proofs.Views.{node-refused}
 use Rattle.index.proofs.Nodes.{Within, item-here, within, no-node-there, node-there, node-parts, places, node-shows}
 use Rattle.index.proofs.show_node.Goals as goal
-use Rattle.index.proofs.show_node.Goals.{Else-tree-k, In-Good}
+use Rattle.index.proofs.show_node.Goals.{In_ok-tree, In-Some}
 
 -- where the data are
-inside : (c : Else-tree-k) → let a = c.args in Within a.file.now a.tree
-inside c =
-    within _ c.args.k c.args.file.now c.args.tree c.requires.0.0 c.requires.0.1 c.if-tree-k.false
+inside : (c : In_ok-tree) → Within c.args.file.now c.in_ok-tree.tree
+inside c = within _ c.args.k c.args.file.now c.in_ok-tree.tree c.requires.0.0 (rw c.in_ok-tree.ensures.0 at c.requires.0.1)
 
 -- and the parts of the node in them
 placed :
-    (c : In-Good) →
+    (c : In-Some) →
     let a = c.args in
-    let n = c.in-Good.node in
-    (c.find_node-found.result.place ≤ n.nul) × (n.valid ≡ true → n.object + a.w ≤ length (part a.file.now a.tree.at a.tree.end))
+    let t = c.in_ok-tree.tree in
+    let n = c.in-Some.node in
+    (c.find_node-found.result.place ≤ n.nul) × (IsSome n.count → n.object + a.w ≤ length (part a.file.now t.at t.end))
 placed c =
-    places _ c.args.k c.args.file.now c.args.tree _ c.find_node-found.ensures c.requires.0.0 c.requires.0.1 c.if-tree-k.false _ (sym c.in-Good.is ∙ c.read_node-read.ensures)
+    places _ c.args.k c.args.file.now c.in_ok-tree.tree _ c.find_node-found.ensures c.requires.0.0 (rw c.in_ok-tree.ensures.0 at c.requires.0.1) c.in_ok-tree.ensures.1 _ c.in-Some.ensures
 
-pub returns-then-tree-k : goal.returns-then-tree-k
-returns-then-tree-k c =
+pub returns-in_err-tree : goal.returns-in_err-tree
+returns-in_err-tree c =
     let a = c.args in
-    λ o at is placed. node-refused _ 18 0 a.file.now at _ _ (no-node-there _ a.k a.file.now a.tree o is c.if-tree-k.true) c.refused_node.ensures
+    let p = err_from_is_err_and c.from_residual.result c.from_residual.ensures.1 in
+    let (is-fault, few) = c.in_err-tree.ensures in
+    λ o at is placed. rw (p.1, p.2, is-fault) (node-refused _ 18 0 a.file.now at _ (no-node-there _ a.k a.file.now a.tree o is few))
 
-pub slice_bounds-find_node-count : goal.slice_bounds-find_node-count
-slice_bounds-find_node-count c = (inside c).order
+pub slice_bounds-data-count : goal.slice_bounds-data-count
+slice_bounds-data-count c = (inside (goal.at.slice_bounds-data-count c).In_ok-tree).order
 
-pub slice_bounds-find_node-start : goal.slice_bounds-find_node-start
-slice_bounds-find_node-start c = let h = inside c in omega arith
-
-pub slice_bounds-find_node-end : goal.slice_bounds-find_node-end
-slice_bounds-find_node-end c = (inside c).inside
-
-pub slice_bounds-read_node-count : goal.slice_bounds-read_node-count
-slice_bounds-read_node-count c = (inside (goal.at.slice_bounds-read_node-count c).Else-tree-k).order
-
-pub slice_bounds-read_node-start : goal.slice_bounds-read_node-start
-slice_bounds-read_node-start c = let h = inside (goal.at.slice_bounds-read_node-start c).Else-tree-k in omega arith
-
-pub slice_bounds-read_node-end : goal.slice_bounds-read_node-end
-slice_bounds-read_node-end c = (inside (goal.at.slice_bounds-read_node-end c).Else-tree-k).inside
-
-pub slice_bounds-node_object-count : goal.slice_bounds-node_object-count
-slice_bounds-node_object-count c = (inside (goal.at.slice_bounds-node_object-count c).Else-tree-k).order
-
-pub slice_bounds-node_object-start : goal.slice_bounds-node_object-start
-slice_bounds-node_object-start c = let h = inside (goal.at.slice_bounds-node_object-start c).Else-tree-k in omega arith
-
-pub slice_bounds-node_object-end : goal.slice_bounds-node_object-end
-slice_bounds-node_object-end c = (inside (goal.at.slice_bounds-node_object-end c).Else-tree-k).inside
+pub slice_bounds-data-end : goal.slice_bounds-data-end
+slice_bounds-data-end c = (inside (goal.at.slice_bounds-data-end c).In_ok-tree).inside
 
 pub node_object-requires : goal.node_object-requires
-node_object-requires c = ((placed (goal.at.node_object-requires c).In-Good).1, omega arith)
+node_object-requires c = ((placed (goal.at.node_object-requires c).In-Some).1, omega arith)
 
-pub returns-in-Bad : goal.returns-in-Bad
-returns-in-Bad c =
+pub returns-in_default : goal.returns-in_default
+returns-in_default c =
     let a = c.args in
     λ o at is placed.
-    item-here _ a.k a.file.now a.tree _ c.find_node-found.ensures o is c.if-tree-k.false λ i v there h.
-    absurd (node-there _ _ _ i h.taken h.reads (sym c.in-Bad.is ∙ c.read_node-read.ensures))
+    item-here _ a.k a.file.now c.in_ok-tree.tree _ c.find_node-found.ensures o (rw c.in_ok-tree.ensures.0 at is) c.in_ok-tree.ensures.1 λ i v h.
+    absurd (node-there _ _ _ i h.taken h.reads c.in_default.ensures)
 
-pub returns-in-Good : goal.returns-in-Good
-returns-in-Good c =
+pub returns : goal.returns
+returns c =
     let a = c.args in
     λ o at is placed.
-    item-here _ a.k a.file.now a.tree _ c.find_node-found.ensures o is c.if-tree-k.false λ i v there h.
-    node-shows _ a.k a.file.now a.tree _ at _ i v h c.requires.1 (placed there) _ (node-parts _ _ _ i h.taken h.reads _ (sym c.in-Good.is ∙ c.read_node-read.ensures)) _
+    item-here _ a.k a.file.now c.in_ok-tree.tree _ c.find_node-found.ensures o (rw c.in_ok-tree.ensures.0 at is) c.in_ok-tree.ensures.1 λ i v h.
+    node-shows _ a.k a.file.now c.in_ok-tree.tree _ at _ i v h c.requires.1 (rw c.in_ok-tree.ensures.0 at placed) _ (node-parts _ _ _ i h.taken h.reads _ c.in-Some.ensures) _
     c.node_object.ensures
 
 pub overflow_sub-result : goal.overflow_sub-result
-overflow_sub-result c = (placed (goal.at.overflow_sub-result c).In-Good).0
+overflow_sub-result c = (placed (goal.at.overflow_sub-result c).In-Some).0

@@ -4,14 +4,17 @@ use Prim.Native.Nat.{◌-◌}
 use native.Mathlib.Omega.{arith}
 use lib.ListN.{length}
 use lib.Seq.{length-take-le}
+use Rattle.std.proofs.lemmas.Result.{err_from_is_err_and}
+use Rattle.format_laws.proofs.Refusals.{number-some}
 use Rattle.fields.proofs.Workspace.{frame_same}
 use Rattle.index_write.proofs.Files.{long-in, room_in, entries-in}
 use Rattle.index_write.proofs.Plans.{plan-unsound, plan-mixed, plan-put}
 use Rattle.index_write.proofs.plan_put.Goals as goal
 
-pub returns-then-refusal-gt0 : goal.returns-then-refusal-gt0
-returns-then-refusal-gt0 c =
-    record { frame = frame_same _; is = plan-unsound _ _ _ _ c.requires _ _ _ c.record_number-refusal.ensures c.if-refusal-gt0.true }
+pub returns-in_err-test_record : goal.returns-in_err-test_record
+returns-in_err-test_record c =
+    let error = err_from_is_err_and c.from_residual.result c.from_residual.ensures.1 in
+    rw (error.1, error.2) (record { frame = frame_same _; is = plan-unsound _ _ _ _ c.requires _ _ _ c.in_err-test_record.ensures (number-some _) })
 
 pub overflow_sub-n : goal.overflow_sub-n
 overflow_sub-n c = omega (arith, long-in _ _ c.width_of-w.ensures.0 _ _ _ c.requires)
@@ -27,9 +30,9 @@ find_place-place-requires c =
 pub returns-then-place : goal.returns-then-place
 returns-then-place c =
     let r = rw c.width_of-w.ensures.0 at c.find_place-place.ensures in
-    record { frame = r.frame; is = plan-mixed _ _ _ _ c.requires _ _ _ _ r (omega (arith, c.record_number-refusal.ensures, c.if-refusal-gt0.false)) c.if-place.true }
+    record { frame = r.frame; is = plan-mixed _ _ _ _ c.requires _ _ _ _ r (sym c.in_ok-test_record.ensures) c.if-place.true }
 
 pub returns : goal.returns
 returns c =
     let r = rw c.width_of-w.ensures.0 at c.find_place-place.ensures in
-    record { frame = r.frame; is = plan-put _ _ _ _ c.requires _ _ _ _ r (omega (arith, c.record_number-refusal.ensures, c.if-refusal-gt0.false)) c.if-place.false }
+    record { frame = r.frame; is = plan-put _ _ _ _ c.requires _ _ _ _ r (sym c.in_ok-test_record.ensures) c.if-place.false }

@@ -22,7 +22,7 @@ find_place-place-requires c =
 pub returns-then-place : goal.returns-then-place
 returns-then-place c = λ fields low.
     let r = rw c.width_of-w.ensures.0 at c.find_place-place.ensures in
-    record { frame = r.frame; is = plan-remove _ _ _ _ c.requires _ fields _ _ _ r (λ i. omega (arith, c.shared_slice_known-1.given i)) c.if-place.true low }
+    record { frame = r.frame; is = plan-remove _ _ _ _ c.requires _ fields _ _ _ r (λ i. omega (arith, c.type_inv.file i)) c.if-place.true low }
 
 pub returns : goal.returns
 returns c = λ fields low.

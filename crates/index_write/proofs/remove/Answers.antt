@@ -11,4 +11,4 @@ pub returns : goal.returns
 unfolding remove_answer
 returns c =
     let a = c.args in
-    record { writes = c.save.ensures; back = removed a.kind a.work.now a.file.now a.asked _ (λ i. omega (arith, c.shared_slice_known-1.given i)) (record { name = a.name.now; stage = a.stage }) }
+    record { writes = c.save.ensures; back = removed a.kind a.work.now a.file.now a.asked _ (λ i. omega (arith, c.type_inv.file i)) (record { name = a.name.now; stage = a.stage }) }

@@ -4,15 +4,9 @@ use Prim.Native.Nat.{◌-◌}
 use native.Mathlib.Omega.{arith}
 use lib.ListN.{length}
 use lib.Seq.{length-take-le}
-use Rattle.format.specs.Bytes.{Bytes}
 use Rattle.index_write.proofs.Files.{long-in}
 use Rattle.index_write.proofs.Answers.{edit-ready, edit-writes}
 use Rattle.index_write.proofs.write_edited.Goals as goal
-use Rattle.index_write.proofs.write_edited.Goals.{After-shared_slice_known-1, Start}
-
--- the file's bytes
-bytes : (c : After-shared_slice_known-1) → Bytes c.args.file.now
-bytes c = λ i. omega (arith, c.shared_slice_known-1.given i)
 
 pub overflow_sub-n : goal.overflow_sub-n
 overflow_sub-n c = omega (arith, long-in _ _ c.width_of-w.ensures.0 _ _ _ c.requires.opened)
@@ -23,9 +17,9 @@ slice_bounds-write-end c = let a = c.args in sym (length-take-le (length a.file.
 pub write-written-requires : goal.write-written-requires
 write-written-requires c =
     let is = c.width_of-w.ensures.0 in
-    (rw is (edit-ready c.args.kind c.args.file.now c.args.work.now (bytes (goal.at.write-written-requires c).After-shared_slice_known-1) c.args.parts c.args.edit c.args.fields c.args.name.now c.requires), is, omega (arith, c.width_of-w.ensures.1), c.width_of-w.ensures.2)
+    (rw is (edit-ready c.args.kind c.args.file.now c.args.work.now (λ i. omega (arith, c.type_inv.file i)) c.args.parts c.args.edit c.args.fields c.args.name.now c.requires), is, omega (arith, c.width_of-w.ensures.1), c.width_of-w.ensures.2)
 
 pub returns : goal.returns
 returns c =
-    edit-writes c.args.kind c.args.file.now c.args.work.now (bytes (goal.at.returns c).After-shared_slice_known-1) c.args.parts c.args.edit c.args.fields c.args.name.now c.requires _ _ _ _ _ _
+    edit-writes c.args.kind c.args.file.now c.args.work.now (λ i. omega (arith, c.type_inv.file i)) c.args.parts c.args.edit c.args.fields c.args.name.now c.requires _ _ _ _ _ _
     (rw c.width_of-w.ensures.0 at c.write-written.ensures) c.clear.ensures

@@ -1,11 +1,15 @@
 -- The proof that `nerupazhil_walk_next` meets its contract.
 use mathlib.Core.Path.{ap, ◌∙◌}
-use Rattle.replies.specs.Arrays.{step_reply}
-use Rattle.nerupazhil.proofs.Laws.{step-replies}
+use Rattle.entries.specs.declared.record.Fields.{Fields}
+use Rattle.format.specs.Refusals.{numbered_at}
 use Rattle.kinds.proofs.Laws.{width-most}
+use Rattle.replies.specs.Arrays.{field_numbers, step_reply}
+use Rattle.nerupazhil.proofs.Laws.{step-replies}
 use Rattle.nerupazhil.proofs.nerupazhil_walk_next.Goals as goal
 
 pub returns : goal.returns
 returns c =
     let step = c.step_at-step in
-    step-replies _ _ (width-most _) _ _ _ _ c.field_numbers.ensures _ _ step.ensures.0 (c.step_reply.ensures ∙ ap (λ n. step_reply step.result.answer.shown n) step.ensures.1)
+    let shown = c.fields_shown-shown.ensures in
+    step-replies _ _ (width-most _) _ _ _ _ _ (c.field_numbers.ensures ∙ ap field_numbers shown) (ap (λ (x : Fields). x.object) shown) _ _ step.ensures.0
+    (c.step_reply.ensures ∙ ap (λ p. step_reply (numbered_at step.result.answer) p) step.ensures.1)

@@ -1,23 +1,29 @@
+-- The proof that `put_nuls` meets its contract.
 use mathlib.Core.Path.{◌≡◌}
-use Prim.Native.Nat.{◌+◌, ◌-◌}
-use native.Mathlib.Nat.{sub_self}
 use native.Mathlib.Omega.{arith}
-use Rattle.output.proofs.Laws.{wrote_nothing, wrote-nul}
+use Prim.Native.Nat.{◌+◌, ◌-◌}
+use lib.ListN.{length, take, drop, replicate, length-drop, length-replicate}
+use lib.Seq.{length-take-le, drop-drop}
+use borrow.Author.Rules.{rules}
+use Rattle.output.specs.Output.{with_at}
+use Rattle.output.proofs.Laws.{wrote-past}
 use Rattle.output.proofs.put_nuls.Goals as goal
 
-pub loop-left-init : goal.loop-left-init
-loop-left-init c = let z = sub_self c.args.n in (omega arith, omega arith, rw z (wrote_nothing _ _))
-
-pub loop-left-preserved : goal.loop-left-preserved
-loop-left-preserved c =
-    let n : c.args.n - c.loop-left.left + 1 ≡ c.args.n - (c.loop-left.left - 1) = omega arith in
-    let e = c.put_byte-end.ensures.end in
-    (omega arith, omega arith, wrote-nul _ _ _ _ _ _ _ _ n c.loop-left.invariant.2 c.put_byte-end.ensures)
-
-pub shape_of-out : goal.shape_of-out
-shape_of-out c = c.loop-left.invariant.2.long
+pub returns-then-out-end : goal.returns-then-out-end
+returns-then-out-end c = wrote-past _ _ _ _ (simp length-replicate) (omega arith)
 
 pub returns : goal.returns
+unfolding with_at
 returns c =
-    let z : c.args.n - c.loop-left.left ≡ c.args.n = omega arith in
-    rw z at c.loop-left.invariant.2
+    let o = c.args.out.now in
+    let at = c.args.at in
+    let n = c.args.n in
+    let all : at + n - at ≡ n = omega arith in
+    let fits : length (take (at + n - at) (drop at o)) ≡ n = rw all (length-take-le n (drop at o) (simp length-drop (omega arith))) in
+    let zero : c.fill.new.self ≡ replicate n 0 = rw fits at (c.fill.ensures.after (λ y e. e)) in
+    let past : drop (at + n - at) (drop at o) ≡ drop (at + n) o = rw all (drop-drop n at o) in
+    record {
+      end = simp length-replicate;
+      long = search rules;
+      held = λ h. rw (zero, past, length-replicate);
+    }

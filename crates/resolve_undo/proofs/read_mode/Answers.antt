@@ -11,16 +11,17 @@ returns-then-e-d c =
     let a = c.args in
     (λ p. sym (mode-none a.at _ a.d.now c.find-e.ensures.0 c.requires p c.if-e-d.true), tt)
 
-pub returns-in-Bad : goal.returns-in-Bad
-returns-in-Bad c =
+pub returns-in_err-mode : goal.returns-in_err-mode
+returns-in_err-mode c =
     let a = c.args in
     let more : c.find-e.result < length a.d.now = omega arith in
-    (λ p. sym (mode-bad a.at _ a.d.now c.find-e.ensures.0 c.requires p more (sym c.mode_in-m.ensures ∙ c.in-Bad.is)), tt)
+    rw c.from_residual.ensures
+    (λ p. sym (mode-bad a.at _ a.d.now c.find-e.ensures.0 c.requires p more (sym c.mode_in.ensures ∙ c.in_err-mode.was)), tt)
 
-pub returns-in-Good : goal.returns-in-Good
-returns-in-Good c =
+pub returns : goal.returns
+returns c =
     let a = c.args in
     let more : c.find-e.result < length a.d.now = omega arith in (
-      λ p. sym (mode-good a.at _ a.d.now c.find-e.ensures.0 c.requires p more _ (sym c.mode_in-m.ensures ∙ c.in-Good.is)),
+      λ p. sym (mode-good a.at _ a.d.now c.find-e.ensures.0 c.requires p more _ (sym c.mode_in.ensures ∙ c.in_ok-mode.was)),
       omega arith,
     )

@@ -13,4 +13,4 @@ pub returns : goal.returns
 returns c = λ m l h.
     let z = c.args in
     word_made m z.t z.w.now l h (omega arith) (omega arith) _
-    (rw (c.add-x.ensures, c.add-2.ensures, c.small0.ensures, c.add.ensures, c.small1.ensures))
+    (rw (c.small0.ensures, c.small1.ensures))

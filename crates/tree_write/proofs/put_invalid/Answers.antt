@@ -24,17 +24,6 @@ find-space-requires c = (nul-of (goal.at.find-space-requires c).Start).1
 pub put_part-named-requires : goal.put_part-named-requires
 put_part-named-requires c = let (above, within) = nul-of (goal.at.put_part-named-requires c).Start in (omega arith, omega arith, within)
 
-pub put_byte-minus-requires : goal.put_byte-minus-requires
-put_byte-minus-requires c =
-    let e = simp (length-take, length-drop) at c.put_part-named.ensures.end in
-    omega arith
-
-pub put_byte-one-requires : goal.put_byte-one-requires
-put_byte-one-requires c =
-    let e = simp (length-take, length-drop) at c.put_part-named.ensures.end in
-    let i = c.put_byte-minus.ensures.end in
-    omega arith
-
 pub put_part-requires : goal.put_part-requires
 put_part-requires c =
     let e = simp (length-take, length-drop) at c.put_part-named.ensures.end in

@@ -14,10 +14,10 @@ put_part-requires c =
     let within = x.within in
     (omega arith, omega arith, omega arith)
 
-pub returns-then-node : goal.returns-then-node
-returns-then-node c =
-    valid-written _ _ _ (cut_of (goal.at.returns-then-node c).Start) _ _ _ _ c.if-node.true c.put_part.ensures
+pub returns-in-Some : goal.returns-in-Some
+returns-in-Some c =
+    valid-written _ _ _ (cut_of (goal.at.returns-in-Some c).Start) _ _ _ _ _ c.in-Some.is c.put_part.ensures
 
-pub returns : goal.returns
-returns c =
-    invalid-kept _ _ _ (cut_of (goal.at.returns c).Start) _ _ _ _ c.if-node.false c.put_invalid.ensures
+pub returns-in-None : goal.returns-in-None
+returns-in-None c =
+    invalid-kept _ _ _ (cut_of (goal.at.returns-in-None c).Start) _ _ _ _ c.in-None.is c.put_invalid.ensures

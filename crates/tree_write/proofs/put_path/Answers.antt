@@ -11,26 +11,11 @@ loop-way-init c = (
   λ f m sound r. going_start _ _ _ _ _ (path-start _ _ _ _ _ f m sound r),
 )
 
-pub step-way-requires : goal.step-way-requires
-step-way-requires c = (c.loop-way.invariant.0, c.loop-way-test.true)
-
-pub loop-way-smaller : goal.loop-way-smaller
-loop-way-smaller c = c.step-way.ensures.less
-
 pub loop-way-preserved : goal.loop-way-preserved
 loop-way-preserved c =
     let t = c.step-way.ensures in
     let short = t.short in
     (t.ready, omega arith, t.long ∙ c.loop-way.invariant.2, λ f m sound r. going_on _ _ _ _ _ _ _ (c.loop-way.invariant.3 f m sound r) _ _ t)
-
-pub put_trees-passed-requires : goal.put_trees-passed-requires
-put_trees-passed-requires c =
-    let few = c.loop-way.invariant.0.few in
-    let inside = c.loop-way.invariant.0.room.inside in
-    (c.loop-way.invariant.0.room, omega arith)
-
-pub shape_of-out : goal.shape_of-out
-shape_of-out c = let long = c.loop-way.invariant.2 in omega arith
 
 pub returns : goal.returns
 returns c =

@@ -1,7 +1,10 @@
 -- The proof that `name_at` meets its contract.
 use mathlib.Core.Path.{◌∙◌}
-use Rattle.walk.proofs.Seeing.{shown-name}
+use Rattle.walk.proofs.Seeing.{shown-name, no-name-shown}
 use Rattle.walk.proofs.name_at.Goals as goal
 
-pub returns : goal.returns
-returns c = c.part_of.ensures ∙ shown-name _ _ _ _ _ c.entry_at-answer.ensures
+pub returns-in-Ok : goal.returns-in-Ok
+returns-in-Ok c = c.part_of.ensures ∙ shown-name _ _ _ _ _ c.in-Ok.ensures
+
+pub returns-in-Err : goal.returns-in-Err
+returns-in-Err c = no-name-shown _ _ _ _ _ c.in-Err.ensures

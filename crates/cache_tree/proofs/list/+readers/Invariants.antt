@@ -17,16 +17,13 @@ decreases-read_list l = 2 * (length l.d.now - l.at) + 1
 abbrev pub decreases-read_subtree : goal.decreases-read_subtree
 decreases-read_subtree l = 2 * (length l.d.now - l.at)
 
-abbrev pub invariant-read_list-loop-left : goal.invariant-read_list-loop-left
-invariant-read_list-loop-left l =
+abbrev pub invariant-read_list-loop : goal.invariant-read_list-loop
+invariant-read_list-loop l =
     (l.at + l.nodes ≤ l.place)
     × (l.place ≤ length l.d)
     × (l.previous ≤ l.place)
     × (length l.t ≡ 3126)
     × (list_at l.at (tested distinct_below (read_forest l.w 0 l.levels l.k (drop l.at l.d)))
-    ≡ plus l.nodes (list_at l.place (tested distinct_below (read_forest l.w 0 l.levels l.left (drop l.place l.d)))))
-    × Rises l.w false l.d l.at l.k l.previous l.place l.left l.rises.by_slash
-    × Rises l.w true l.d l.at l.k l.previous l.place l.left l.rises.by_length
-
-abbrev pub decreases-read_list-loop-left : goal.decreases-read_list-loop-left
-decreases-read_list-loop-left l = l.left
+    ≡ plus l.nodes (list_at l.place (tested distinct_below (read_forest l.w 0 l.levels (l.k - l.counter) (drop l.place l.d)))))
+    × Rises l.w false l.d l.at l.k l.previous l.place (l.k - l.counter) l.rises.by_slash
+    × Rises l.w true l.d l.at l.k l.previous l.place (l.k - l.counter) l.rises.by_length

@@ -1,10 +1,11 @@
 -- The proof that `name_ok` meets its contract.
-use mathlib.Core.Path.{sym}
+use mathlib.Core.Bool.{not}
+use mathlib.Core.Path.{ap, ◌∙◌}
 use Rattle.cache_tree.proofs.Names.{no_name, some-name}
 use Rattle.cache_tree.proofs.list.name_ok.Goals as goal
 
-pub returns-then-name-eq0 : goal.returns-then-name-eq0
-returns-then-name-eq0 c = sym (no_name _ c.if-name-eq0.true)
+pub returns-then-not-is_empty : goal.returns-then-not-is_empty
+returns-then-not-is_empty c = ap not c.contains.ensures.value ∙ some-name _ c.if-not-is_empty.ensures
 
-pub returns : goal.returns
-returns c = some-name _ _ c.if-name-eq0.false c.find.ensures.0
+pub returns-else-not-is_empty : goal.returns-else-not-is_empty
+returns-else-not-is_empty c = ap not c.if-not-is_empty.false ∙ no_name _ c.if-not-is_empty.ensures

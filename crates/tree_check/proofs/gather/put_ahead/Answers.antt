@@ -11,41 +11,29 @@ use Rattle.tree_check.proofs.gather.put_ahead.Goals as goal
 keys-more : (region : Region) (t₀ t t' : List ℕ) → KeysPut region t₀ t → KeysPut region t t' → KeysPut region t₀ t'
 keys-more region t₀ t t' put more = record { vacant = more.vacant; known = λ w d known. more.known w d (put.known w d known) }
 
-pub loop-left-init : goal.loop-left-init
-loop-left-init c = (c.requires.0, refl, c.requires.1, c.requires.2, omega arith, record { vacant = c.requires.3; known = λ w d known. known })
+pub loop-init : goal.loop-init
+loop-init c = (c.requires.0, refl, c.requires.1, c.requires.2, omega arith, record { vacant = c.requires.3; known = λ w d known. known })
 
 pub put_first-count-requires : goal.put_first-count-requires
-put_first-count-requires c = let inv = c.loop-left.invariant in (inv.0, inv.2, inv.3, inv.5.vacant)
+put_first-count-requires c = let inv = c.loop.invariant in (inv.0, inv.2, inv.3, inv.5.vacant)
 
-pub overflow_add-count : goal.overflow_add-count
-overflow_add-count c = omega (arith, c.put_first-count.ensures.0, c.loop-left.invariant.4)
-
-pub shape_of-names-then-most-count : goal.shape_of-names-then-most-count
-shape_of-names-then-most-count c = c.loop-left.invariant.1
-
-pub returns-then-most-count : goal.returns-then-most-count
-returns-then-most-count c =
-    keys-more _ _ _ _ c.loop-left.invariant.5 c.put_first-count.ensures.1
+pub returns-then-most_keys-count : goal.returns-then-most_keys-count
+returns-then-most_keys-count c =
+    keys-more _ _ _ _ c.loop.invariant.5 c.put_first-count.ensures.1
 
 pub advance-front-requires : goal.advance-front-requires
-advance-front-requires c = let inv = c.loop-left.invariant in (inv.0, inv.2, omega arith)
+advance-front-requires c = let inv = c.loop.invariant in (inv.0, inv.2, omega arith)
 
-pub loop-left-preserved : goal.loop-left-preserved
-loop-left-preserved c =
-    let inv = c.loop-left.invariant in
+pub loop-preserved : goal.loop-preserved
+loop-preserved c =
+    let inv = c.loop.invariant in
     let step = c.advance-front.ensures in
     let put = c.put_first-count.ensures in
-    (step.fits, step.frame.long ∙ inv.1, omega (arith, step.frame, inv.2), stays-long _ _ _ step.fits (sym c.stays.ensures ∙ c.if-stays.true), omega (arith, put.0, inv.4), keys-more _ _ _ _ inv.5 put.1)
+    (step.fits, step.frame.long ∙ inv.1, omega (arith, step.frame, inv.2), stays-long _ _ _ step.fits (sym c.stays.ensures ∙ c.if-not-stays.false), omega (arith, put.0, inv.4), keys-more _ _ _ _ inv.5 put.1)
 
-pub shape_of-names-else-stays : goal.shape_of-names-else-stays
-shape_of-names-else-stays c = c.advance-front.ensures.frame.long ∙ c.loop-left.invariant.1
+pub shape_of-names-then-not-stays : goal.shape_of-names-then-not-stays
+shape_of-names-then-not-stays c = c.advance-front.ensures.frame.long ∙ c.loop.invariant.1
 
-pub returns-else-stays : goal.returns-else-stays
-returns-else-stays c =
-    keys-more _ _ _ _ c.loop-left.invariant.5 c.put_first-count.ensures.1
-
-pub shape_of-names : goal.shape_of-names
-shape_of-names c = c.loop-left.invariant.1
-
-pub returns : goal.returns
-returns c = c.loop-left.invariant.5
+pub returns-then-not-stays : goal.returns-then-not-stays
+returns-then-not-stays c =
+    keys-more _ _ _ _ c.loop.invariant.5 c.put_first-count.ensures.1

@@ -1,13 +1,10 @@
 -- The proof that `put_ahead` meets its contract. The loop keeps that the first name ahead begins with the q bytes.
 use mathlib.Core.Path.{◌≡◌}
-use Prim.Native.Nat.{◌+◌, ◌≤◌}
+use Prim.Native.Nat.{◌≤◌}
 use lib.ListN.{length}
 use Rattle.entries_directory.specs.Ahead.{FrontFits}
 use Rattle.tree_check.specs.Keys.{KeysPut}
 use Rattle.tree_check.proofs.gather.put_ahead.Given as goal
 
-abbrev pub invariant-loop-left : goal.invariant-loop-left
-invariant-loop-left l = FrontFits l.b l.front × (length l.names ≡ length l.initial.names) × (8192 ≤ length l.names) × (l.q ≤ l.front.cursor.len) × (l.count + l.left ≤ 4096) × KeysPut l.region l.initial.t l.t
-
-abbrev pub decreases-loop-left : goal.decreases-loop-left
-decreases-loop-left l = l.left
+abbrev pub invariant-loop : goal.invariant-loop
+invariant-loop l = FrontFits l.b l.front × (length l.names ≡ length l.initial.names) × (8192 ≤ length l.names) × (l.q ≤ l.front.cursor.len) × (l.count ≤ l.counter) × KeysPut l.region l.initial.t l.t

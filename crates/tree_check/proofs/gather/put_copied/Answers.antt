@@ -16,4 +16,4 @@ pub copy_to-requires : goal.copy_to-requires
 copy_to-requires c =
     let i = c.requires.0.inside in
     let l : c.args.s.cursor.len ≤ length c.args.work.now = omega (arith, i.short, c.requires.1) in
-    omega (arith, length-take-le c.args.s.cursor.len c.args.work.now l, i.short, c.copy_to-arg-1.given.0.1)
+    omega (arith, length-take-le c.args.s.cursor.len c.args.work.now l, i.short)

@@ -5,6 +5,3 @@ pub put_places-requires : goal.put_places-requires
 put_places-requires c =
     let put = c.gather.ensures in
     (c.requires.0, c.requires.1, put.vacant, put.known _ _ c.begin.ensures.0)
-
-pub returns-in-Known : goal.returns-in-Known
-returns-in-Known c = (rw c.in-Known.is at c.find_in_table-told.ensures, c.put_places.ensures)

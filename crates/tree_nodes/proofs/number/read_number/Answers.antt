@@ -1,6 +1,6 @@
 use native.Mathlib.Omega.{arith}
 use mathlib.Core.Path.{sym, ◌∙◌}
-use Rattle.tree_nodes.proofs.Numbers.{number-none, number-zero, number-zeros, number_digits, over, from_end, from_low, from-high, from_step}
+use Rattle.tree_nodes.proofs.Numbers.{number-none, number-zero, number-zeros, number_digits, over, from_end, from_other, from_step}
 use Rattle.tree_nodes.proofs.number.read_number.Goals as goal
 
 pub returns-then-t-eq0 : goal.returns-then-t-eq0
@@ -12,24 +12,21 @@ returns-then-t-eq1 c = sym (number-zero _ _ c.if-t-eq1.true c.if-t-eq48.true)
 pub returns-then-t-eq48 : goal.returns-then-t-eq48
 returns-then-t-eq48 c = sym (number-zeros _ _ c.if-t-eq0.false c.if-t-eq1.false c.if-t-eq48.true)
 
-pub loop-i-init : goal.loop-i-init
-loop-i-init c = (omega arith, omega arith, number_digits _ _ c.if-t-eq0.false c.if-t-eq48.false)
+pub loop-digit-init : goal.loop-digit-init
+loop-digit-init c = (omega arith, number_digits _ _ c.if-t-eq0.false c.if-t-eq48.false)
 
-pub returns-then-d-lt48 : goal.returns-then-d-lt48
-returns-then-d-lt48 c =
-    sym (c.loop-i.invariant.2 ∙ from_low _ _ _ c.loop-i.i (omega arith) (omega arith))
-
-pub returns-then-d-gt57 : goal.returns-then-d-gt57
-returns-then-d-gt57 c =
-    sym (c.loop-i.invariant.2 ∙ from-high _ _ _ c.loop-i.i (omega arith) (omega arith) (omega arith))
+pub returns-then-not-is_ascii_digit : goal.returns-then-not-is_ascii_digit
+returns-then-not-is_ascii_digit c = sym (c.loop-digit.invariant.1 ∙ from_other _ _ _ c.loop-digit.digit-index (omega arith) c.if-not-is_ascii_digit.ensures.cases)
 
 pub returns-then-limit-v : goal.returns-then-limit-v
 returns-then-limit-v c =
-    sym (c.loop-i.invariant.2 ∙ from_step _ _ _ c.loop-i.i (omega arith) (omega arith) (omega arith) ∙ over _ _ _ (omega arith))
+    let digit = c.if-not-is_ascii_digit.ensures.cases in
+    sym (c.loop-digit.invariant.1 ∙ from_step _ _ _ c.loop-digit.digit-index (omega arith) digit.0 digit.1 ∙ over _ _ _ (omega arith))
 
-pub loop-i-preserved : goal.loop-i-preserved
-loop-i-preserved c =
-    (omega arith, omega arith, c.loop-i.invariant.2 ∙ rw c.wide64-d.ensures.0 (from_step _ _ _ c.loop-i.i (omega arith) (omega arith) (omega arith)))
+pub loop-digit-preserved : goal.loop-digit-preserved
+loop-digit-preserved c =
+    let digit = c.if-not-is_ascii_digit.ensures.cases in
+    (omega arith, c.loop-digit.invariant.1 ∙ rw c.from.ensures (from_step _ _ _ c.loop-digit.digit-index (omega arith) digit.0 digit.1))
 
 pub returns : goal.returns
-returns c = sym (c.loop-i.invariant.2 ∙ from_end _ _ _ c.loop-i.i c.loop-i-test.false c.loop-i.invariant.1)
+returns c = sym (c.loop-digit.invariant.1 ∙ from_end _ _ _ c.loop-digit.digit-index (omega arith) c.loop-digit.invariant.0)

@@ -6,6 +6,3 @@ use Rattle.tree_nodes.proofs.passes.climb.Given as goal
 
 abbrev pub invariant-loop-at : goal.invariant-loop-at
 invariant-loop-at l = (l.at < 128) × (climbed (stack_of l.remaining (suc l.depth)) ≡ climbed (stack_of l.remaining (suc l.at)))
-
-abbrev pub decreases-loop-at : goal.decreases-loop-at
-decreases-loop-at l = l.at

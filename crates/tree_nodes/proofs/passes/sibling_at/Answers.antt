@@ -8,27 +8,27 @@ use Rattle.tree_nodes.proofs.Nodes.{NodeIs, node-is}
 use Rattle.tree_nodes.proofs.Trees.{name_is, node-name-is}
 use Rattle.tree_nodes.proofs.Flat.{trees-more, trees-stop}
 use Rattle.tree_nodes.proofs.passes.sibling_at.Goals as goal
-use Rattle.tree_nodes.proofs.passes.sibling_at.Goals.{In-Good}
+use Rattle.tree_nodes.proofs.passes.sibling_at.Goals.{In-Some}
 
 -- the node that was read
-node_of : (c : In-Good) → NodeIs c.args.w c.args.d.now c.args.at c.in-Good.node
-node_of c = node-is _ _ c.requires.0 _ (sym c.in-Good.is ∙ c.read_node-read.ensures)
+node_of : (c : In-Some) → NodeIs c.args.w c.args.d.now c.args.at c.in-Some.node
+node_of c = node-is _ _ c.requires.0 _ c.in-Some.ensures
 
 pub after_trees-requires : goal.after_trees-requires
 after_trees-requires c = ((node_of c).within, c.requires.1)
 
-pub returns-in-Bad : goal.returns-in-Bad
-returns-in-Bad c =
+pub returns-in-None : goal.returns-in-None
+returns-in-None c =
     record {
       ends = record { least = omega (arith, c.find.ensures.0); most = c.find.ensures.1; name = name_is _ _ _ c.find.ensures.0 };
-      after = sym (trees-stop _ _ _ 1 (omega arith) c.requires.0 (sym c.in-Bad.is ∙ c.read_node-read.ensures));
+      after = sym (trees-stop _ _ _ 1 (omega arith) c.requires.0 c.in-None.ensures);
       within = omega arith;
     }
 
-pub returns-in-Good : goal.returns-in-Good
-returns-in-Good c =
-    let is = node_of (goal.at.returns-in-Good c).In-Good in
-    let node = c.in-Good.node in
+pub returns-in-Some : goal.returns-in-Some
+returns-in-Some c =
+    let is = node_of (goal.at.returns-in-Some c).In-Some in
+    let node = c.in-Some.node in
     let d = c.args.d.now in
     let w = c.args.w in
     let t = c.after_trees.ensures in

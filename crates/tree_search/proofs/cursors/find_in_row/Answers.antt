@@ -6,8 +6,8 @@ use Rattle.tree_search.proofs.cursors.find_in_row.Goals as goal
 pub find_by_cursor-told-requires : goal.find_by_cursor-told-requires
 find_by_cursor-told-requires c = let p = c.requires in (c.cursor_for-c.ensures, p.0, row-own _ _ _ _ _ p.1)
 
-pub returns-in-Known : goal.returns-in-Known
-returns-in-Known c = let r = c.find_by_cursor-told.ensures _ _ c.requires.1 in (r.0, r.1.known)
+pub returns-then-is_some : goal.returns-then-is_some
+returns-then-is_some c = let r = c.find_by_cursor-told.ensures _ _ c.requires.1 in (r.0, r.1.known)
 
 pub find_by_cursor-requires : goal.find_by_cursor-requires
 find_by_cursor-requires c = let p = c.requires in (omega arith, p.0, row-own _ _ _ _ _ (c.find_by_cursor-told.ensures _ _ p.1).1)
@@ -18,8 +18,8 @@ returns-then-t-list_of-eq1 c = let r = c.find_by_cursor.ensures _ _ (c.find_by_c
 pub find_by_cursor-next-requires : goal.find_by_cursor-next-requires
 find_by_cursor-next-requires c = let p = c.requires in (omega arith, p.0, row-own _ _ _ _ _ p.1)
 
-pub returns-in-Known-next : goal.returns-in-Known-next
-returns-in-Known-next c = let r = c.find_by_cursor-next.ensures _ _ c.requires.1 in (r.0, r.1.known)
+pub returns-then-is_some-2 : goal.returns-then-is_some-2
+returns-then-is_some-2 c = let r = c.find_by_cursor-next.ensures _ _ c.requires.1 in (r.0, r.1.known)
 
 pub set_cursors-requires : goal.set_cursors-requires
 set_cursors-requires c = let p = c.requires in (p.0, (c.find_by_cursor-next.ensures _ _ p.1).1)

@@ -7,10 +7,10 @@ use Rattle.tree_search.proofs.Lookup.{Tells, slot-tells, tells_none, tells-here,
 use Rattle.tree_search.proofs.table.find_in_table.Goals as goal
 use Rattle.tree_search.proofs.table.find_in_table.Goals.{Else-t-i}
 
-number-tells : (c : Else-t-i) → Tells c.args.w c.args.d.now c.args.at c.args.k c.args.name.now (get_or c.args.t.now (c.slots_of-slots.result + c.slot_of-i.result) 0)
+number-tells : (c : Else-t-i) → Tells c.args.w c.args.d.now c.args.at c.args.k c.args.name.now (get_or c.args.t.now (c.slots-slots.result + c.slot_of-i.result) 0)
 number-tells c =
     let slot = c.slot_of-i.ensures in
-    slot-tells c.args.region _ _ c.requires.2 _ _ _ _ _ _ _ _ c.list_of.ensures.0 c.first_slot.ensures.0 c.slots_of-slots.ensures.0
+    slot-tells c.args.region _ _ c.requires.2 _ _ _ _ _ _ _ _ c.list.ensures.0 c.first_slot.ensures.0 c.slots-slots.ensures.0
     (sym c.is_of.ensures ∙ c.if-not-is_of.false) c.key_of-key.ensures.0 slot.0 slot.1 slot.2 c.if-t-i.false
 
 pub returns-then-number-eq0 : goal.returns-then-number-eq0

@@ -1,9 +1,0 @@
--- `hash::buffered::new` meets its contract: the empty message has no byte. Assumes nothing.
-use mathlib.Core.Path.{refl}
-use Rattle.hash_words.proofs.Buffers.{buffered-none}
-use Rattle.hash.specs.Sha1.{H0}
-use Rattle.hash.proofs.Blocks.{absorbs}
-use Rattle.hash.proofs.buffered.new.Goals as goal
-
-pub returns : goal.returns
-returns c = rw c.start-state.ensures (buffered-none absorbs H0 _ refl)

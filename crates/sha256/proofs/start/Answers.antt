@@ -1,8 +1,0 @@
--- `sha256::start` meets its contract. Assumes nothing.
-use mathlib.Core.Path.{refl}
-use Rattle.sha256.specs.Sha256.{H0}
-use Rattle.sha256.proofs.start.Goals as goal
-
-pub returns : goal.returns
-unfolding H0
-returns c = refl
