@@ -130,6 +130,11 @@ unfoldable pub name_in : Shown → List ℕ → List ℕ → List ℕ
 name_in (S.InFile at n) file work = part_in at n file
 name_in (S.InWorkspace n) file work = part_in 0 n work
 
+-- the same of a call's answer: none of a refusal
+unfoldable pub name_told : Result Shown Numbered → List ℕ → List ℕ → List ℕ
+name_told (Err x) file work = []
+name_told (Ok s) file work = name_in s file work
+
 -- an answer as a view of the item that it shows
 abbrev pub view_of : {A : Type 0} → Shown → A → View A
 view_of (S.InFile at n) a = in_file a

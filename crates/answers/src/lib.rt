@@ -4,9 +4,11 @@
 #![tactic(auto)]
 
 ghost use Rattle.std.specs.Prelude.{◌≡◌, [], ◌+◌};
-ghost use Rattle.answers.specs.Answers.{part_in, name_in};
+ghost use Rattle.format.specs.Refusals.{numbered_at};
+ghost use Rattle.answers.specs.Answers.{part_in, name_told};
 
 use entries::record::Fields;
+use format::Fault;
 
 // What the last bytes of a file are: the hash of all before, zeros in its place, or neither.
 #[derive(Clone, Copy, Debug, PartialEq, Eq)]
@@ -81,19 +83,22 @@ fn part<'a>(s: &'a [u8], at: usize, n: usize) -> &'a [u8]
     &s[at..e]
 }
 
-// The name that an answer points at: a part of the file or of the workspace.
-pub fn name_of<'a>(file: &'a [u8], work: &'a [u8], shown: Shown) -> &'a [u8]
-    ensures { result.now ≡ name_in shown file.now work.now }
+// The name that an answer points at: a part of the file or of the workspace. A refusal has none.
+pub fn name_of<'a>(file: &'a [u8], work: &'a [u8], shown: Result<Shown, Fault>) -> &'a [u8]
+    ensures { result.now ≡ name_told (numbered_at shown) file.now work.now }
 {
-    match shown {
+    let Ok(name) = shown else {
+        return &file[..0];
+    };
+    match name {
         Shown::InFile(at, n) => part(file, at, n),
         Shown::InWorkspace(n) => part(work, 0, n),
     }
 }
 
 // The name of a tree node or the path of a resolve-undo record: always a part of the file.
-pub fn part_of<'a>(file: &'a [u8], shown: Shown) -> &'a [u8]
-    ensures { result.now ≡ name_in shown file.now [] }
+pub fn part_of<'a>(file: &'a [u8], shown: Result<Shown, Fault>) -> &'a [u8]
+    ensures { result.now ≡ name_told (numbered_at shown) file.now [] }
 {
     name_of(file, &file[..0], shown)
 }

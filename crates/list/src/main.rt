@@ -87,7 +87,7 @@ fn list_entry(rt: &impl Print, bytes: &[u8], work: &mut [u8; 8192], k: u32) -> i
     let object = answer.fields.object;
     let object = Digits(&object[..20]);
     let stage = answer.fields.stage;
-    let name = Escaped(answers::name_of(bytes, work, answer.shown));
+    let name = Escaped(answers::name_of(bytes, work, Ok(answer.shown)));
     println!(rt; "{mode:06o} {object} {stage}\t{name}")
 }
 

@@ -19,7 +19,7 @@ use Rattle.index.specs.Calls.{EntryShows, NodeShows, NodeZeros, UndoShows, UndoZ
 use Rattle.index_write.specs.Calls.{Saves}
 use Rattle.walk.specs.declared.Place.{Place}
 use Rattle.walk.specs.Walks.{StepShows}
-use Rattle.replies.specs.Arrays.{entry_reply, field_numbers, fields_shown, object_shown, node_reply, undo_reply, step_reply, write_reply}
+use Rattle.replies.specs.Arrays.{entry_reply, field_numbers, fields_shown, object_shown, node_reply, undo_reply, shown_in, step_reply, write_reply}
 use Rattle.replies.proofs.Laws.{entry-inside, node-inside, undo-inside, step-inside}
 use Rattle.nerupazhil.specs.Replies.{number_shown, count_shown, StageZeros, EntryReplies, NodeReplies, UndoReplies, StepReplies, WriteReplies}
 
@@ -91,11 +91,11 @@ module _ (w at : ℕ) (narrow : w ≤ 32) (f reply : List ℕ) where
           after = h.after;
         }
 
-    pub step-replies : (v : View F.Entry) (next : Place) → StepShows w at v f r → reply ≡ step_reply r next → StepReplies w at v next f reply numbers object
+    pub step-replies : (v : View F.Entry) (next : Place) → StepShows w at v f r → reply ≡ step_reply (shown_in r) next → StepReplies w at v next f reply numbers object
     step-replies v next h e =
         let is = (h.shows []).whole in
         record {
-          whole = e ∙ ap (λ (x : Result EntryAnswer Numbered). step_reply x next) is;
+          whole = e ∙ ap (λ (x : Result EntryAnswer Numbered). step_reply (shown_in x) next) is;
           fields = n ∙ ap (λ (x : Result EntryAnswer Numbered). field_numbers (fields_shown x)) is;
           object_is = record { same = o ∙ ap (λ (x : Result EntryAnswer Numbered). (fields_shown x).object) is; unused = rw (o, is) (entry-unused w at narrow f [] v (rw is at (h.shows []).said)) };
           said = λ work. rw is at (h.shows work).said;

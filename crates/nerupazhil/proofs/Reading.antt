@@ -17,7 +17,7 @@ use Rattle.walk.specs.declared.Place.{Place}
 use Rattle.answers.specs.declared.EntryAnswer.{EntryAnswer}
 use Rattle.answers.specs.declared.NodeAnswer.{NodeAnswer}
 use Rattle.answers.specs.declared.UndoAnswer.{UndoAnswer}
-use Rattle.replies.specs.Arrays.{entry_reply, node_reply, undo_reply, step_reply, field_numbers, fields_shown, object_shown, refusal_in, place_in, bytes_in, object_in, given_fields}
+use Rattle.replies.specs.Arrays.{entry_reply, node_reply, undo_reply, shown_in, step_reply, field_numbers, fields_shown, object_shown, refusal_in, place_in, bytes_in, object_in, given_fields}
 use Rattle.replies.proofs.Laws.{shown-alone}
 use Rattle.replies.proofs.Reading.{flag-back, after-shown, after-path, Tells, denied-tells, shown-tells}
 use Rattle.nerupazhil.specs.Replies.{Told, EntryReplies, NodeReplies, UndoReplies, StepReplies}
@@ -42,7 +42,7 @@ entry-told w (Err x) f work v e = denied-tells v x.number x.place _ e
 entry-told w (Ok a) f work v e = rw (shown-alone a.shown) (shown-tells [] (entry_with w a.fields) a.shown f work v e)
 
 step-told : (w : ℕ) (r : Result EntryAnswer Numbered) (next : Place) (f work : List ℕ) (v : View F.Entry) → entry_said w r f work ≡ v
-    → Tells v (refusal_in (step_reply r next)) (place_in (step_reply r next)) (entry_with w (fields_shown r) (bytes_in (step_reply r next) f work))
+    → Tells v (refusal_in (step_reply (shown_in r) next)) (place_in (step_reply (shown_in r) next)) (entry_with w (fields_shown r) (bytes_in (step_reply (shown_in r) next) f work))
 unfolding entry_said
 step-told w (Err x) next f work v e = denied-tells v x.number x.place _ e
 step-told w (Ok a) next f work v e = shown-tells _ (entry_with w a.fields) a.shown f work v e

@@ -20,7 +20,7 @@ use Rattle.answers.specs.Answers.{View, refused, in_file, in_workspace, check_an
 use Rattle.answers.specs.Writing.{written_of}
 use Rattle.walk.specs.declared.Place.{Place}
 use Rattle.walk.specs.Walks.{start_answer}
-use Rattle.replies.specs.Arrays.{shown_reply, entry_reply, step_reply, field_numbers, fields_shown, object_shown, check_reply, node_reply, undo_reply, write_reply, start_reply, refusal_in, place_in}
+use Rattle.replies.specs.Arrays.{name_reply, entry_reply, shown_in, step_reply, field_numbers, fields_shown, object_shown, check_reply, node_reply, undo_reply, write_reply, start_reply, refusal_in, place_in}
 use Rattle.replies.proofs.Laws.{shown-alone}
 use Rattle.replies.proofs.Reading.{after-shown, after-path}
 use Rattle.replies.proofs.Zeros.{Zeros, NameZeros, CheckZeros, denied-zeros, done, name-zeros, denied-name, no-refusal, succeeded, count-zero, check-by, start-by}
@@ -77,7 +77,7 @@ object-told w reply o object told e = object-zeros w reply o object told (no-ref
 -- what holds of every answer that shows a view, from what holds of a refusal, whose number is not 0, and of an item
 module _ {A T : Type 0} (show : Shown → A → T) (name : A → List ℕ) (at : ℕ) where
   by-view : (P : Result T R.Numbered → Type 0) (v : View A) → Positive v → ((n p : ℕ) → 0 < n → P (denied n p))
-      → ((s : Shown) (a : A) → ((more : List ℕ) → (refusal_in (shown_reply s ++ more) ≡ 0) × (place_in (shown_reply s ++ more) ≡ 0)) → P (Ok (show s a)))
+      → ((s : Shown) (a : A) → ((more : List ℕ) → (refusal_in (name_reply s ++ more) ≡ 0) × (place_in (name_reply s ++ more) ≡ 0)) → P (Ok (show s a)))
       → P (shown_as show name at v)
   by-view P (refused n p) some denies shows = denies n p (some.number n p refl)
   by-view P (in_file a) some denies shows = shows _ a (λ _. (refl, refl))
@@ -97,7 +97,7 @@ module _ (kind : ℕ) (work f reply : List ℕ) where
 
 -- an entry, and a step of a walk, which tells more: k numbers, zeros on a refusal
 module _ (w k : ℕ) (tell : Result EntryAnswer R.Numbered → List ℕ) (more : List ℕ)
-    (denying : (n p : ℕ) → tell (denied n p) ≡ n ∷ p ∷ replicate (suc (suc (suc k))) 0) (showing : (a : EntryAnswer) → tell (Ok a) ≡ shown_reply a.shown ++ more) where
+    (denying : (n p : ℕ) → tell (denied n p) ≡ n ∷ p ∷ replicate (suc (suc (suc k))) 0) (showing : (a : EntryAnswer) → tell (Ok a) ≡ name_reply a.shown ++ more) where
   record EntryHolds (r : Result EntryAnswer R.Numbered) : Type 0 where
     holds : (reply numbers object : List ℕ) → reply ≡ tell r → numbers ≡ field_numbers (fields_shown r)
         → Told w (fields_shown r).object object → EntryZeros w (suc (suc (suc k))) reply numbers object
@@ -117,7 +117,7 @@ module _ (w k : ℕ) (tell : Result EntryAnswer R.Numbered → List ℕ) (more :
         holds = λ reply numbers object e f t. rw (e, showing (entry_as s x)) (record {
           zeros = succeeded _ _ (free _);
           name = name-zeros s _;
-          numbers_of = no-refusal (shown_reply s ++ more) (free more).0;
+          numbers_of = no-refusal (name_reply s ++ more) (free more).0;
           object_of = object-told w _ _ _ t (free more).0;
         });
       })
@@ -130,7 +130,7 @@ entry-zeros w at v some f work work' reply numbers object h =
 pub step-zeros : (w at : ℕ) (v : View F.Entry) → Positive v → (next : Place) (f reply numbers object : List ℕ) → StepReplies w at v next f reply numbers object
     → EntryZeros w 5 reply numbers object
 step-zeros w at v some next f reply numbers object h =
-    (entry-by w 2 (λ r. step_reply r next) (next.at ∷ next.left ∷ []) (λ n p. refl) (λ a. refl) at v some).holds reply numbers object h.whole h.fields h.object_is
+    (entry-by w 2 (λ r. step_reply (shown_in r) next) (next.at ∷ next.left ∷ []) (λ n p. refl) (λ a. refl) at v some).holds reply numbers object h.whole h.fields h.object_is
 
 -- a node
 record NodeHolds (w : ℕ) (r : Result NodeAnswer R.Numbered) : Type 0 where

@@ -9,7 +9,7 @@ use Rattle.answers.specs.Writing.{written_of, output_after}
 use Rattle.kinds.specs.Kinds.{width_of, hash_of}
 use Rattle.writing.specs.OneFile.{WritesBack}
 use Rattle.walk.specs.declared.Place.{Place}
-use Rattle.replies.specs.Arrays.{entry_reply, field_numbers, fields_shown, object_shown, node_reply, undo_reply, step_reply, write_reply, NameInside}
+use Rattle.replies.specs.Arrays.{entry_reply, field_numbers, fields_shown, object_shown, node_reply, undo_reply, shown_in, step_reply, write_reply, NameInside}
 
 -- ---- what the calls that show leave behind: the reply, whole, for the view v; the name that it points at, where it has one, is that of the
 -- item, and it lies in its buffer. A name in the file is at the place at. w is the width of an object name
@@ -57,7 +57,7 @@ pub record UndoReplies (w at : ℕ) (v : View F.Undo) (f reply first second thir
       StageZeros (number_shown (λ a. a.first_mode) (undo_shown at v)) first × StageZeros (number_shown (λ a. a.second_mode) (undo_shown at v)) second × StageZeros (number_shown (λ a. a.third_mode) (undo_shown at v)) third
 
 pub record StepReplies (w at : ℕ) (v : View F.Entry) (next : Place) (f reply numbers object : List ℕ) : Type 0 where
-  pub whole : reply ≡ step_reply (entry_shown at v) next
+  pub whole : reply ≡ step_reply (shown_in (entry_shown at v)) next
   pub fields : numbers ≡ field_numbers (fields_shown (entry_shown at v))
   pub object_is : Told w (fields_shown (entry_shown at v)).object object
   pub said : (work : List ℕ) → entry_said w (entry_shown at v) f work ≡ v

@@ -160,7 +160,7 @@ pub fn nerupazhil_walk_next(
     let step = walk::step_at(kind, file, at, left);
     let shown = replies::fields_shown(step.answer);
     let name = shown.object;
-    *reply = replies::step_reply(step.answer, step.next);
+    *reply = replies::step_reply(replies::shown_in(step.answer), step.next);
     *fields = replies::field_numbers(shown);
     *object = name;
 }

@@ -13,16 +13,16 @@ use Rattle.answers.specs.declared.UndoAnswer.{UndoAnswer}
 use Rattle.answers.specs.Answers.{Inside}
 use Rattle.answers.specs.Answers as A
 use Rattle.walk.specs.declared.Place.{Place}
-use Rattle.replies.specs.Arrays.{shown_reply, entry_reply, node_reply, undo_reply, step_reply, buffer_in, NameInside}
+use Rattle.replies.specs.Arrays.{name_reply, entry_reply, node_reply, undo_reply, shown_in, step_reply, buffer_in, NameInside}
 
 -- the first five numbers of a reply that shows something, where they are all
-pub shown-alone : (s : Shown) → shown_reply s ≡ shown_reply s ++ []
+pub shown-alone : (s : Shown) → name_reply s ≡ name_reply s ++ []
 shown-alone (S.InFile at n) = refl
 shown-alone (S.InWorkspace n) = refl
 
 -- ---- a name that lies in its buffer
 
-shown-inside : (s : Shown) (more f work : List ℕ) → Inside s f work → NameInside (shown_reply s ++ more) f work
+shown-inside : (s : Shown) (more f work : List ℕ) → Inside s f work → NameInside (name_reply s ++ more) f work
 unfolding buffer_in
 shown-inside (S.InFile at n) more f work h = h
 shown-inside (S.InWorkspace n) more f work h = omega arith
@@ -44,6 +44,6 @@ module _ (f work : List ℕ) where
   undo-inside (Err x) h = denied-inside x.number x.place _ f work
   undo-inside (Ok a) h = shown-inside a.shown _ f work h
 
-  pub step-inside : (r : Result EntryAnswer Numbered) (next : Place) → A.NameInside (λ a. a.shown) r f work → NameInside (step_reply r next) f work
+  pub step-inside : (r : Result EntryAnswer Numbered) (next : Place) → A.NameInside (λ a. a.shown) r f work → NameInside (step_reply (shown_in r) next) f work
   step-inside (Err x) next h = denied-inside x.number x.place _ f work
   step-inside (Ok a) next h = shown-inside a.shown _ f work h

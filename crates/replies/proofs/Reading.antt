@@ -11,23 +11,23 @@ use Rattle.entries.specs.Record.{entry_with}
 use Rattle.answers.specs.declared.Shown.{Shown}
 use Rattle.answers.specs.declared.Shown.TheVariants as S
 use Rattle.answers.specs.Answers.{View, refused, in_file, in_workspace, part_in, name_in, view_of}
-use Rattle.replies.specs.Arrays.{shown_reply, refusal_in, place_in, buffer_in, bytes_in, given_fields}
+use Rattle.replies.specs.Arrays.{name_reply, refusal_in, place_in, buffer_in, bytes_in, given_fields}
 
 -- ---- parts of a reply
 
 -- the bytes that a reply's name points at are the name that is shown
-name-bytes : (s : Shown) (more file work : List ℕ) → bytes_in (shown_reply s ++ more) file work ≡ name_in s file work
+name-bytes : (s : Shown) (more file work : List ℕ) → bytes_in (name_reply s ++ more) file work ≡ name_in s file work
 unfolding bytes_in buffer_in name_in part_in
 name-bytes (S.InFile at n) more file work = refl
 name-bytes (S.InWorkspace n) more file work = refl
 
 -- the numbers after it, of a node and of a resolve-undo record
-pub after-shown : (s : Shown) (a b c d : ℕ) → let r = shown_reply s ++ (a ∷ b ∷ c ∷ d ∷ []) in
+pub after-shown : (s : Shown) (a b c d : ℕ) → let r = name_reply s ++ (a ∷ b ∷ c ∷ d ∷ []) in
     (get_or r 5 0 ≡ a) × (get_or r 6 0 ≡ b) × (get_or r 7 0 ≡ c) × (get_or r 8 0 ≡ d)
 after-shown (S.InFile at n) a b c d = (refl, refl, refl, refl)
 after-shown (S.InWorkspace n) a b c d = (refl, refl, refl, refl)
 
-pub after-path : (s : Shown) (a b c : ℕ) → let r = shown_reply s ++ (a ∷ b ∷ c ∷ []) in (get_or r 5 0 ≡ a) × (get_or r 6 0 ≡ b) × (get_or r 7 0 ≡ c)
+pub after-path : (s : Shown) (a b c : ℕ) → let r = name_reply s ++ (a ∷ b ∷ c ∷ []) in (get_or r 5 0 ≡ a) × (get_or r 6 0 ≡ b) × (get_or r 7 0 ≡ c)
 after-path (S.InFile at n) a b c = (refl, refl, refl)
 after-path (S.InWorkspace n) a b c = (refl, refl, refl)
 
@@ -59,7 +59,7 @@ denied-tells v n p x e =
     })
 
 module _ {A : Type 0} (more : List ℕ) where
-  tells : (s : Shown) (x : A) → Tells (view_of s x) (refusal_in (shown_reply s ++ more)) (place_in (shown_reply s ++ more)) x
+  tells : (s : Shown) (x : A) → Tells (view_of s x) (refusal_in (name_reply s ++ more)) (place_in (name_reply s ++ more)) x
   tells (S.InFile at n) x = record {
     refuses = λ i j e. let z : ◌≡◌ {A = ℕ} 0 1 = cc in absurd (omega arith);
     file = λ y e. (refl, cc);
@@ -73,5 +73,5 @@ module _ {A : Type 0} (more : List ℕ) where
 
   -- of the item that a name makes
   pub shown-tells : (item : List ℕ → A) (s : Shown) (f work : List ℕ) (v : View A) → view_of s (item (name_in s f work)) ≡ v
-      → Tells v (refusal_in (shown_reply s ++ more)) (place_in (shown_reply s ++ more)) (item (bytes_in (shown_reply s ++ more) f work))
+      → Tells v (refusal_in (name_reply s ++ more)) (place_in (name_reply s ++ more)) (item (bytes_in (name_reply s ++ more) f work))
   shown-tells item s f work v e = rw (name-bytes s more f work, ← e) (tells s (item (name_in s f work)))

@@ -11,7 +11,7 @@ use Rattle.format.specs.Refusals.{Numbered, denied}
 use Rattle.answers.specs.declared.Summary.{Summary}
 use Rattle.answers.specs.declared.Shown.{Shown}
 use Rattle.answers.specs.declared.Shown.TheVariants as S
-use Rattle.replies.specs.Arrays.{shown_reply, check_reply, start_reply, refusal_in, place_in}
+use Rattle.replies.specs.Arrays.{name_reply, check_reply, start_reply, refusal_in, place_in}
 
 -- ---- the statements
 
@@ -41,7 +41,7 @@ denied-zeros n i p some = record { success = λ e. absurd (omega arith); refused
 pub done : (n : ℕ) (more : List ℕ) → Zeros n (0 ∷ 0 ∷ more)
 done n more = record { success = λ _. refl; refused = λ some. absurd (omega arith) }
 
-pub name-zeros : (s : Shown) (more : List ℕ) → NameZeros (shown_reply s ++ more)
+pub name-zeros : (s : Shown) (more : List ℕ) → NameZeros (name_reply s ++ more)
 name-zeros (S.InFile at n) more = record { none = λ e. absurd (omega arith); workspace = λ e. absurd (omega arith) }
 name-zeros (S.InWorkspace n) more = record { none = λ e. absurd (omega arith); workspace = λ e. refl }
 

@@ -41,28 +41,37 @@ check_reply (Ok s) =
 -- ---- what is shown
 
 -- where its name is: the buffer, 1 the file, 2 the workspace; the offset in it, the length
-abbrev pub shown_reply : Shown → List ℕ
-shown_reply (S.InFile at n) = 0 ∷ 0 ∷ 1 ∷ at ∷ n ∷ []
-shown_reply (S.InWorkspace n) = 0 ∷ 0 ∷ 2 ∷ 0 ∷ n ∷ []
+abbrev pub name_reply : Shown → List ℕ
+name_reply (S.InFile at n) = 0 ∷ 0 ∷ 1 ∷ at ∷ n ∷ []
+name_reply (S.InWorkspace n) = 0 ∷ 0 ∷ 2 ∷ 0 ∷ n ∷ []
+
+-- or a refusal
+abbrev pub shown_reply : Result Shown Numbered → List ℕ
+shown_reply (Err x) = refusal_reply 5 x
+shown_reply (Ok s) = name_reply s
+
+-- where the name of an entry is
+abbrev pub shown_in : Result EntryAnswer Numbered → Result Shown Numbered
+shown_in (Err x) = Err x
+shown_in (Ok a) = Ok a.shown
 
 abbrev pub entry_reply : Result EntryAnswer Numbered → List ℕ
-entry_reply (Err x) = refusal_reply 5 x
-entry_reply (Ok a) = shown_reply a.shown
+entry_reply r = shown_reply (shown_in r)
 
 -- level, whether the count is valid, the count, the number of subtrees
 abbrev pub node_reply : Result NodeAnswer Numbered → List ℕ
 node_reply (Err x) = refusal_reply 9 x
-node_reply (Ok a) = shown_reply a.shown ++ (a.level ∷ bit (is_some a.count) ∷ unwrap_or a.count 0 ∷ a.subtrees ∷ [])
+node_reply (Ok a) = name_reply a.shown ++ (a.level ∷ bit (is_some a.count) ∷ unwrap_or a.count 0 ∷ a.subtrees ∷ [])
 
 -- the modes of its stages
 abbrev pub undo_reply : Result UndoAnswer Numbered → List ℕ
 undo_reply (Err x) = refusal_reply 8 x
-undo_reply (Ok a) = shown_reply a.shown ++ (a.first_mode ∷ a.second_mode ∷ a.third_mode ∷ [])
+undo_reply (Ok a) = name_reply a.shown ++ (a.first_mode ∷ a.second_mode ∷ a.third_mode ∷ [])
 
 -- the place after the entry, and how many remain there
-abbrev pub step_reply : Result EntryAnswer Numbered → Place → List ℕ
+abbrev pub step_reply : Result Shown Numbered → Place → List ℕ
 step_reply (Err x) next = refusal_reply 7 x
-step_reply (Ok a) next = shown_reply a.shown ++ (next.at ∷ next.left ∷ [])
+step_reply (Ok s) next = name_reply s ++ (next.at ∷ next.left ∷ [])
 
 -- the fields of an entry but its object name and its name
 abbrev pub field_numbers : Fields → List ℕ

@@ -4,7 +4,7 @@
 
 ghost use Rattle.std.specs.Prelude.{◌≡◌, ◌++◌, ◌+◌, ◌≤◌};
 ghost use Rattle.format.specs.Refusals.{number_of, numbered_at};
-ghost use Rattle.replies.specs.Arrays.{refusal_reply, is_left_out, check_reply, shown_reply, entry_reply, node_reply, undo_reply, step_reply, field_numbers, fields_shown, given_fields, write_reply, start_reply};
+ghost use Rattle.replies.specs.Arrays.{refusal_reply, is_left_out, check_reply, name_reply, shown_reply, entry_reply, node_reply, undo_reply, step_reply, field_numbers, fields_shown, shown_in, given_fields, write_reply, start_reply};
 
 use answers::{Checksum, EntryAnswer, NodeAnswer, Shown, Summary, UndoAnswer};
 use entries::record::Fields;
@@ -69,6 +69,16 @@ pub fn fields_shown(answer: Result<EntryAnswer, Fault>) -> Fields
     }
 }
 
+// Where the name of an entry is.
+pub fn shown_in(answer: Result<EntryAnswer, Fault>) -> Result<Shown, Fault>
+    ensures { numbered_at result ≡ shown_in (numbered_at answer) }
+{
+    match answer {
+        Ok(entry) => Ok(entry.shown),
+        Err(fault) => Err(fault),
+    }
+}
+
 // ---- replies
 
 // Of a refusal: its number, its place, zeros.
@@ -115,8 +125,8 @@ pub fn check_reply(checked: Result<Summary, Fault>) -> [u64; 16]
     }
 }
 
-fn shown_reply(shown: Shown) -> [u64; 5]
-    ensures { result ≡ shown_reply shown }
+fn name_reply(shown: Shown) -> [u64; 5]
+    ensures { result ≡ name_reply shown }
 {
     match shown {
         Shown::InFile(at, n) => [0, 0, 1, at as u64, n as u64],
@@ -127,22 +137,28 @@ fn shown_reply(shown: Shown) -> [u64; 5]
 // And more numbers after it.
 fn shown_then<const K: usize, const N: usize>(shown: Shown, more: [u64; K]) -> [u64; N]
     requires { N ≡ 5 + K }
-    ensures { result ≡ shown_reply shown ++ more.entry }
+    ensures { result ≡ name_reply shown ++ more.entry }
 {
     let mut reply = [0u64; N];
     let (first, rest) = reply[..].split_at_mut(5);
-    first.copy_from_slice(&shown_reply(shown));
+    first.copy_from_slice(&name_reply(shown));
     rest.copy_from_slice(&more);
     reply
+}
+
+pub fn shown_reply(shown: Result<Shown, Fault>) -> [u64; 5]
+    ensures { result ≡ shown_reply (numbered_at shown) }
+{
+    match shown {
+        Err(fault) => refusal_reply::<5>(fault),
+        Ok(name) => name_reply(name),
+    }
 }
 
 pub fn entry_reply(answer: Result<EntryAnswer, Fault>) -> [u64; 5]
     ensures { result ≡ entry_reply (numbered_at answer) }
 {
-    match answer {
-        Err(fault) => refusal_reply::<5>(fault),
-        Ok(entry) => shown_reply(entry.shown),
-    }
+    shown_reply(shown_in(answer))
 }
 
 pub fn node_reply(answer: Result<NodeAnswer, Fault>) -> [u64; 9]
@@ -178,12 +194,12 @@ pub fn undo_reply(answer: Result<UndoAnswer, Fault>) -> [u64; 8]
     }
 }
 
-pub fn step_reply(answer: Result<EntryAnswer, Fault>, next: Place) -> [u64; 7]
-    ensures { result ≡ step_reply (numbered_at answer) next }
+pub fn step_reply(shown: Result<Shown, Fault>, next: Place) -> [u64; 7]
+    ensures { result ≡ step_reply (numbered_at shown) next }
 {
-    match answer {
+    match shown {
         Err(fault) => refusal_reply::<7>(fault),
-        Ok(entry) => shown_then(entry.shown, [next.at as u64, u64::from(next.left)]),
+        Ok(name) => shown_then(name, [next.at as u64, u64::from(next.left)]),
     }
 }
 

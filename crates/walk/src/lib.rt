@@ -139,7 +139,7 @@ pub fn name_at<'a>(kind: u32, file: &'a [u8], at: usize, left: u32) -> &'a [u8]
     ensures { result.now ≡ name_shown (walk_answer kind file.now at left) }
 {
     match entry_at(kind, file, at, left) {
-        Ok(entry) => answers::part_of(file, entry.shown),
+        Ok(entry) => answers::part_of(file, Ok(entry.shown)),
         Err(_) => &file[..0],
     }
 }
