@@ -1,8 +1,8 @@
 -- Laws of texts and names at a place of a list, and of the workspace.
 use mathlib.Core.Path.{◌≡◌, refl, sym, ap, ◌∙◌}
 use mathlib.Core.List.{List, [], ◌∷◌, ◌++◌, append_assoc}
-use mathlib.Core.Bool.{Bool, true, false, cond, not, ◌&&◌, and-true}
-use Prim.Native.Nat.{ℕ, zero, suc, ◌+◌, ◌-◌, ◌*◌, ◌≤◌, ◌<◌, zero-le}
+use mathlib.Core.Bool.{Bool, true, false, cond, ◌&&◌, and-true}
+use Prim.Native.Nat.{ℕ, zero, suc, ◌+◌, ◌-◌, ◌*◌, ◌≤◌, ◌<◌}
 use native.Mathlib.Nat.{add_assoc}
 use native.Mathlib.Numerals.{add-one, unary_clauses}
 use native.Mathlib.Omega.{arith}
@@ -11,9 +11,8 @@ use lib.Seq.{drop-cons, take-length, take-add, paste}
 use lib.Dec.{eqb, ltb}
 use borrow.Author.Tests.{eq-eqb, ne_eqb, eqb-true, eqb-false, ltb-true, ltb-false, le-leb, lt-ltb, le-ltb}
 use Rattle.std.proofs.Common.{Less, Equal, Greater}
-use Rattle.std.specs.Prelude.{Option, Some, None}
 use Rattle.std.specs.Cmp.Lexicographic.{pointwise}
-use Rattle.std.specs.List.{list_all, position_or_len}
+use Rattle.std.specs.List.{list_all}
 use Rattle.format.specs.Bytes.{Bytes, eq_list, before, lacks, zeros}
 use Rattle.format.specs.Names.{components_from, components, ok_component, ok_components, ok_name, compare, common}
 use Rattle.format_laws.proofs.Tests.{by-test, clash, and-inv, else-inv, and-left-comm}
@@ -40,6 +39,19 @@ long-component c h =
     )
 
 -- ---- texts, from a place on
+
+module _ (b : ℕ) (s : List ℕ) (i : ℕ) where
+  pub before-end : length s ≤ i → before b (drop i s) ≡ 0
+  unfolding before
+  before-end h = rw (drop_of_length-le s h)
+
+  pub before_here : i < length s → get_or s i 0 ≡ b → before b (drop i s) ≡ 0
+  unfolding before
+  before_here h e = rw (drop-cons s i 0 h, eq-eqb _ _ e)
+
+  pub before-later : i < length s → (get_or s i 0 ≡ b → ⊥) → before b (drop i s) ≡ before b (drop (i + 1) s) + 1
+  unfolding before
+  before-later h e = rw (drop-cons s i 0 h, ne_eqb _ _ e, add-one i) (sym (add-one _))
 
 module _ (b : ℕ) (s : List ℕ) (i e : ℕ) where
   pub lacks-end : e ≤ i → lacks b (take (e - i) (drop i s)) ≡ true
@@ -120,44 +132,6 @@ pub zeros-all : (s : List ℕ) → list_all (λ (x : ℕ). eqb x 0) s ≡ zeros 
 unfolding zeros
 zeros-all [] = refl
 zeros-all (x ∷ s) = ap (λ (r : Bool). eqb x 0 && r) (zeros-all s)
-
--- where a byte is first
-cond-not : (b : Bool) (n : ℕ) → cond (not b) (1 + n) 0 ≡ cond b 0 (suc n)
-cond-not true n = refl
-cond-not false n = let e : 1 + n ≡ suc n = omega arith in e
-
-pub before-position : (b : ℕ) (s : List ℕ) → position_or_len (λ (x : ℕ). eqb x b) s ≡ before b s
-unfolding before
-before-position b [] = refl
-before-position b (x ∷ s) = cond-not (eqb x b) (position_or_len (λ (x : ℕ). eqb x b) s) ∙ ap (λ (n : ℕ). cond (eqb x b) 0 (suc n)) (before-position b s)
-
-pub before-within : (b : ℕ) (s : List ℕ) → before b s ≤ length s
-unfolding before
-before-within b [] = zero-le
-before-within b (x ∷ s) = by-test (eqb x b) (λ e. rw e zero-le) (λ e. rw e (let h = before-within b s in omega arith))
-
--- what a search answers: a place, or none
-search-some : (t : Bool) (k p : ℕ) → Some k ≡ cond t (Some p) None → k ≡ p
-search-some true k p e = cc
-search-some false k p e = cc
-
-search-none : (t : Bool) (p : ℕ) → None ≡ cond t (Some p) None → t ≡ false
-search-none true p e = cc
-search-none false p e = refl
-
-module _ (b : ℕ) (s : List ℕ) where
-  abbrev found : Option ℕ
-  found =
-      let p = position_or_len (λ (x : ℕ). eqb x b) s in
-      cond (ltb p (length s)) (Some p) None
-
-  pub before-some : (k : ℕ) → Some k ≡ found → k ≡ before b s
-  before-some k e = search-some (ltb _ (length s)) k _ e ∙ before-position b s
-
-  pub before-none : None ≡ found → before b s ≡ length s
-  before-none e =
-      let past : length s ≤ position_or_len (λ (x : ℕ). eqb x b) s = ltb-false _ _ (search-none (ltb _ (length s)) _ e) in
-      omega (arith, before-position b s, before-within b s)
 
 -- ---- numbers of several bytes
 

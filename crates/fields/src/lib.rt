@@ -34,10 +34,16 @@ pub fn find(s: &[u8], at: usize, b: u8) -> usize
     requires { at ≤ length s.now }
     ensures { (result ≡ at + before b (drop at s.now)) × (result ≤ length s.now) }
 {
-    match s[at..].iter().position(|&x| x == b) {
-        Some(k) => at + k,
-        None => s.len(),
+    // No position, and one number for both ends of the loop: where this is put in place, the chain counts four numbers a byte, and check of long
+    // lists of names takes a third longer.
+    let mut end = at;
+    for i in at..s.len() {
+        if s[i] == b {
+            break;
+        }
+        end = i + 1;
     }
+    end
 }
 
 // Whether two texts are equal. The library's ==, promised in the words of the format, which every caller needs.

@@ -1,30 +1,19 @@
 -- The proof that `find` meets its contract.
-use mathlib.Core.Path.{◌≡◌}
+use mathlib.Core.Path.{refl}
+use Prim.Native.Nat.{◌≤◌, ◌<◌}
 use native.Mathlib.Omega.{arith}
-use borrow.Author.Rules.{rules}
-use Prim.Native.Nat.{ℕ, ◌-◌}
-use lib.Dec.{eqb}
-use lib.ListN.{length, take, drop, length-drop}
-use lib.Seq.{take_all}
-use Rattle.std.proofs.Common.{tests}
-use Rattle.std.proofs.lemmas.Iterator.{YieldsList-from_slice}
-use Rattle.std.proofs.lemmas.Iterator.Search.{position_from_yields_List}
-use Rattle.format.specs.Bytes.{before}
-use Rattle.fields.proofs.Laws.{before-within, before-some, before-none}
+use lib.ListN.{length}
+use Rattle.fields.proofs.Laws.{before-end, before_here, before-later}
 use Rattle.fields.proofs.find.Goals as goal
 
-pub returns-in-Some : goal.returns-in-Some
-returns-in-Some c =
-    let a = c.args in
-    let rest : take (length a.s.now - a.at) (drop a.at a.s.now) ≡ drop a.at a.s.now = take_all _ _ (simp length-drop (omega arith)) in
-    let found = position_from_yields_List (λ (x : ℕ). eqb x a.b) _ _ _ c.in-Some.ensures.ran (YieldsList-from_slice _ c.iter.ensures.rest) (λ x b q k. search (rules, tests)) in
-    let e : c.in-Some.k ≡ before a.b (drop a.at a.s.now) = rw rest at (before-some a.b _ c.in-Some.k found) in
-    omega (arith, before-within a.b (drop a.at a.s.now), length-drop a.at a.s.now)
+pub loop-i-init : goal.loop-i-init
+loop-i-init c = (refl, refl)
 
-pub returns-in-None : goal.returns-in-None
-returns-in-None c =
-    let a = c.args in
-    let rest : take (length a.s.now - a.at) (drop a.at a.s.now) ≡ drop a.at a.s.now = take_all _ _ (simp length-drop (omega arith)) in
-    let found = position_from_yields_List (λ (x : ℕ). eqb x a.b) _ _ _ c.in-None.ensures.ran (YieldsList-from_slice _ c.iter.ensures.rest) (λ x b q k. search (rules, tests)) in
-    let e : before a.b (drop a.at a.s.now) ≡ length (drop a.at a.s.now) = rw rest at (before-none a.b _ found) in
-    omega (arith, length-drop a.at a.s.now)
+pub loop-i-preserved : goal.loop-i-preserved
+loop-i-preserved c = let l = c.loop-i in (refl, omega (arith, before-later c.args.b c.args.s.now l.i (omega arith) c.if-s-i.false))
+
+pub returns-after-loop-i : goal.returns-after-loop-i
+returns-after-loop-i c = let l = c.loop-i in omega (arith, before-end c.args.b c.args.s.now l.i (omega arith))
+
+pub returns-then-s-i : goal.returns-then-s-i
+returns-then-s-i c = let l = c.loop-i in omega (arith, before_here c.args.b c.args.s.now l.i (omega arith) c.if-s-i.true)
