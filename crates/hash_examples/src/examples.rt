@@ -1,28 +1,28 @@
-// A hash on published examples, in one call and in pieces.
+// A hash on published examples, in one call and in pieces, by the functions that callers have of it.
+use crate::named::Named;
 use crate::print::line;
-use hash_words::block_hash::{BlockHash, absorb, digest_of, finish};
-use hash_words::buffered::Hasher;
+use hash_words::block_hash::{absorb, finish};
 use std::convert::AsSlice;
 use std::io;
 
 // In one call.
-pub fn whole<S: BlockHash, P: Print>(rt: &P, hash: &str) -> io::Result<()>
+pub fn whole<S: Named, P: Print>(rt: &P, hash: &str) -> io::Result<()>
 where
     S::Digest: AsSlice<u8> + Drop,
 {
-    line(rt, hash, "nothing", &digest_of::<S>(b""))?;
-    line(rt, hash, "abc", &digest_of::<S>(b"abc"))?;
+    line(rt, hash, "nothing", &S::whole(b""))?;
+    line(rt, hash, "abc", &S::whole(b"abc"))?;
     line(
         rt,
         hash,
         "the 448-bit message",
-        &digest_of::<S>(b"abcdbcdecdefdefgefghfghighijhijkijkljklmklmnlmnomnopnopq"),
+        &S::whole(b"abcdbcdecdefdefgefghfghighijhijkijkljklmklmnlmnomnopnopq"),
     )?;
     line(
         rt,
         hash,
         "the 896-bit message",
-        &digest_of::<S>(
+        &S::whole(
             b"abcdefghbcdefghicdefghijdefghijkefghijklfghijklmghijklmnhijklmnoijklmnopjklmnopqklmnopqrlmnopqrsmnopqrstnopqrstu",
         ),
     )?;
@@ -30,7 +30,7 @@ where
 }
 
 // In pieces.
-pub fn pieces<S: BlockHash, P: Print>(rt: &P, hash: &str) -> io::Result<()>
+pub fn pieces<S: Named, P: Print>(rt: &P, hash: &str) -> io::Result<()>
 where
     S::Digest: AsSlice<u8> + Drop,
 {
@@ -60,29 +60,29 @@ where
     )
 }
 
-fn million<S: BlockHash>() -> S::Digest {
+fn million<S: Named>() -> S::Digest {
     let message = [b'a'; 1000000];
     of_million::<S>(&message)
 }
 
 // The parameter's type gives the length, so that no proof has to count the elements.
-fn of_million<S: BlockHash>(message: &[u8; 1000000]) -> S::Digest {
-    digest_of::<S>(message)
+fn of_million<S: Named>(message: &[u8; 1000000]) -> S::Digest {
+    S::whole(message)
 }
 
 // The 896-bit message as its one whole block and the 48 bytes after it.
-fn in_two_pieces<S: BlockHash>() -> S::Digest {
+fn in_two_pieces<S: Named>() -> S::Digest {
     let h = absorb(
-        S::start(),
+        S::first(),
         b"abcdefghbcdefghicdefghijdefghijkefghijklfghijklmghijklmnhijklmno",
     );
     finish(h, b"ijklmnopjklmnopqklmnopqrlmnopqrsmnopqrstnopqrstu", 112)
 }
 
 // A million bytes as 125 pieces of 125 blocks each, and nothing after them.
-fn million_in_pieces<S: BlockHash>() -> S::Digest {
+fn million_in_pieces<S: Named>() -> S::Digest {
     let piece = [b'a'; 8000];
-    let mut h = S::start();
+    let mut h = S::first();
     for _ in 0..125usize {
         h = absorb(h, &piece);
     }
@@ -90,23 +90,23 @@ fn million_in_pieces<S: BlockHash>() -> S::Digest {
 }
 
 // The 896-bit message in slices of 1, 63, 0 and 48 bytes: the second fills the block.
-fn in_slices<S: BlockHash>() -> S::Digest {
-    let mut h = Hasher::<S>::new();
-    h.update(b"a");
-    h.update(b"bcdefghbcdefghicdefghijdefghijkefghijklfghijklmghijklmnhijklmno");
-    h.update(b"");
-    h.update(b"ijklmnopjklmnopqklmnopqrlmnopqrsmnopqrstnopqrstu");
-    h.finalize()
+fn in_slices<S: Named>() -> S::Digest {
+    let h = S::update(S::new(), b"a");
+    let h = S::update(
+        h,
+        b"bcdefghbcdefghicdefghijdefghijkefghijklfghijklmghijklmnhijklmno",
+    );
+    let h = S::update(h, b"");
+    S::finalize(S::update(h, b"ijklmnopjklmnopqklmnopqrlmnopqrsmnopqrstnopqrstu"))
 }
 
 // A million bytes in slices of 0 to 1000 bytes.
-fn million_in_slices<S: BlockHash>() -> S::Digest {
+fn million_in_slices<S: Named>() -> S::Digest {
     let piece = [b'a'; 1000];
-    let mut h = Hasher::<S>::new();
+    let mut h = S::new();
     for i in 0..1000usize {
         let (front, back) = piece.split_at(i);
-        h.update(front);
-        h.update(back);
+        h = S::update(S::update(h, front), back);
     }
-    h.finalize()
+    S::finalize(h)
 }

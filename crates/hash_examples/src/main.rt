@@ -7,6 +7,7 @@
 #![tactic(auto)]
 
 mod examples;
+mod named;
 mod print;
 
 use std::io;
