@@ -32,7 +32,7 @@ put-run b s i k l h =
     put_mid-paste i k b s s (length s) refl l refl ∙ rw (take_all (length s) s (omega arith)) (sym (sets-eq s b i (omega arith)))
 
 -- two runs, the second where the first ends, are one
-sets-append : (s t l : List ℕ) (i : ℕ) → sets (sets l i s) (i + length s) t ≡ sets l i (s ++ t)
+pub sets-append : (s t l : List ℕ) (i : ℕ) → sets (sets l i s) (i + length s) t ≡ sets l i (s ++ t)
 sets-append [] t l i = rw add-zero
 sets-append (a ∷ s) t l i =
     let e : i + suc (length s) ≡ suc i + length s = omega arith in
