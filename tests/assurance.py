@@ -389,22 +389,32 @@ def answered_types() -> dict:
     return found
 
 
+def number_calls():
+    """The public calls that answer a number or a refusal: they have no type of their own."""
+    for path, name in public_calls():
+        if re.search(r"-> Result<[a-z]\w*, Fault>", " ".join(definitions.statement(path, name))):
+            yield path, name
+
+
 def fields(page: Page):
-    """The table of answers has each type that a public call answers, each field of it once, and what pins them."""
+    """The table of answers has each type that a public call answers, each field of it once, each call that answers a
+    number, and what pins them."""
     body = section_in(page.text, FIELDS, PAGE)
-    told = {}
+    told, numbers = {}, set(number_calls())
     for answer, names, pinned, value in re.findall(r"^\| (\[.*?) \| (.*?) \| (.*?) \| (.*?) \|$", body, re.M):
         linked = links(answer)
-        yield f"{answer} is a link", len(linked) == 1, "no declaration"
+        are_calls = bool(linked) and {declaration(one) for one in linked} <= numbers
+        yield f"{answer} is a link", are_calls or len(linked) == 1, "no declaration"
         for one in linked:
             told.setdefault(declaration(one), []).extend(codes(names))
         cited = links(pinned) or pinned.startswith("the same")
         yield f"what pins {answer} is named", bool(cited), "no promise"
         yield f"the value of {answer} is named", "[" in value or value.startswith("as "), "no definition"
-    right = answered_types()
+    right = answered_types() | {one: [] for one in numbers}
     for one in sorted(set(told) | set(right)):
         names = right.get(one, [])
-        yield f"{one[1]} of {one[0]} and its fields", sorted(told.get(one, [])) == sorted(names), f"should be {names}"
+        is_told = one in told and sorted(told[one]) == sorted(names)
+        yield f"{one[1]} of {one[0]} and its fields", is_told, f"should be {names}"
 
 
 def replies(page: Page):

@@ -78,6 +78,9 @@ WRONG_PAGES = (
     ("a reply without a definition", r"(?m)^(\| `nerupazhil_node_reply`.*\| )\[node_reply\]\([^)]+\)", r"\1node_reply"),
     ("a variant that is missing", r"`InFile`, `InWorkspace`", "`InFile`"),
     ("fields that nothing pins", r"(?m)^(\| \[NodeAnswer\].*?\|.*?\|) .*? (\|.*)$", r"\1 nothing \2"),
+    ("a call that answers a number and is missing", r"(?m)^\| \[rewrite\].*\n", ""),
+    ("a number that nothing pins", r"(?m)^(\| \[start\].*?\|.*?\|) .*? (\|.*)$", r"\1 nothing \2"),
+    ("a number without a value", r"(?m)^(\| \[start\].*\| )\[start_answer\]\([^)]+\)", r"\1no value"),
     ("no table of fields", r"## Every field of every answer", "## Fields"),
     ("no list of definitions", r"## The definitions", "## Definitions"),
 )
